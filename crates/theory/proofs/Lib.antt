@@ -1,0 +1,13 @@
+pub mod Scan
+pub mod Runs
+pub mod Moves
+pub mod Route
+pub mod Polish
+pub mod Costs
+pub mod Walk
+pub mod Delta
+pub mod Excluded
+pub mod Orders
+pub mod Distinct
+pub mod Clock
+pub mod Steps

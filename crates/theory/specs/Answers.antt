@@ -1,0 +1,74 @@
+-- What a caller is told: document 01's number and values for each case of an answer.
+use mathlib.Core.Path.{_≡_}
+use mathlib.Core.List.{List, [], _∷_}
+use mathlib.Core.Bool.{true}
+use mathlib.Core.Logic.{_⊎_}
+use Prim.Native.Nat.{ℕ, zero, suc, _<_}
+use lib.ListN.{length, take}
+use lib.IntN.{ℤ}
+use Rattle.theory.specs.Moves.{Pattern}
+use Rattle.theory.specs.Route.{Problem, late, Feasible}
+use Rattle.theory.specs.declared.Deadline.{Deadline}
+use Rattle.theory.specs.declared.Deadline.the-variants as Check
+use Rattle.theory.specs.declared.CutStep.{CutStep}
+use Rattle.theory.specs.declared.CutStep.the-variants as Step
+use Rattle.theory.specs.declared.RouteLength.{RouteLength}
+use Rattle.theory.specs.declared.RouteLength.the-variants as Length
+use Rattle.theory.specs.declared.LengthDelta.{LengthDelta}
+use Rattle.theory.specs.declared.LengthDelta.the-variants as Delta
+use Rattle.theory.specs.declared.Feasibility.{Feasibility}
+use Rattle.theory.specs.declared.Feasibility.the-variants as Judged
+use Rattle.theory.specs.declared.KOptReconnection.{KOptReconnection}
+
+-- 0 with the values, or a refusal number with none.
+pub record Answer (A : Type 0) : Type 0 where
+  pub number : ℕ
+  pub values : List A
+
+-- The answer to a call with this refusal number, or 0, and these values.
+abbrev pub reply : {A : Type 0} → ℕ → List A → Answer A
+reply zero values = record { number = 0; values = values }
+reply (suc n) values = record { number = suc n; values = [] }
+
+abbrev pub refused : {A : Type 0} → ℕ → Answer A
+refused n = record { number = n; values = [] }
+
+-- Moved is 1; the last set is 0.
+abbrev pub step-answer : CutStep → Answer ℕ
+step-answer (Step.Refused n) = refused n
+step-answer Step.Moved = reply 0 (1 ∷ [])
+step-answer Step.Last = reply 0 (0 ∷ [])
+
+abbrev pub length-answer : RouteLength → Answer ℕ
+length-answer (Length.Refused n) = refused n
+length-answer (Length.Seconds s) = reply 0 (s ∷ [])
+
+abbrev pub delta-answer : LengthDelta → Answer ℤ
+delta-answer (Delta.Refused n) = refused n
+delta-answer (Delta.Seconds s) = reply 0 (s ∷ [])
+
+-- "A stop is late if the legs from the depot up to it exceed its latest."
+abbrev pub LateAt : Problem → List ℕ → ℕ → Type 0
+LateAt P route p = (p < length route) × (late P route p ≡ true)
+
+-- "The check answers kept exactly then, else some late position; which one is free."
+abbrev pub Checked : Problem → List ℕ → Deadline → Type 0
+Checked P route Check.Kept = Feasible P route
+Checked P route (Check.Late p) = LateAt P route p
+
+-- The position that the check writes for a route of n stops: a late one, or n for kept.
+abbrev pub deadline-position : ℕ → Deadline → ℕ
+deadline-position n Check.Kept = n
+deadline-position n (Check.Late p) = p
+
+abbrev pub feasibility-answer : ℕ → Feasibility → Answer ℕ
+feasibility-answer n (Judged.Refused q) = refused q
+feasibility-answer n (Judged.Checked d) = reply 0 (deadline-position n d ∷ [])
+
+-- What a written position says of a route.
+abbrev pub Verdict : Problem → List ℕ → ℕ → Type 0
+Verdict P route p = ((p ≡ length route) × Feasible P route) ⊎ LateAt P route p
+
+-- A pattern as the struct holds it: its order with 0 in the unused of six places.
+abbrev pub pattern-of : KOptReconnection → Pattern
+pattern-of r = record { order = take (r .len) (r .segment-order); mask = r .reverse-mask }

@@ -1,0 +1,9 @@
+pub mod Scan
+pub mod Moves
+pub mod Route
+pub mod Polish
+pub mod Costs
+pub mod Tables
+pub mod Refusals
+pub mod Answers
+pub mod Runs

@@ -1,0 +1,87 @@
+-- Document 01, "When it says no": each condition on the raw input with its number. A call takes the rules that speak of what it is handed, and the
+-- first number of the one order whose rule applies is given.
+use mathlib.Core.Bool.{Bool, true, false, cond, not, _&&_, _||_}
+use mathlib.Core.List.{List, [], _∷_}
+use Prim.Native.Nat.{ℕ, zero, suc, _*_}
+use lib.Dec.{leb, ltb, eqb}
+use lib.ListN.{length}
+use Rattle.theory.specs.Moves.{patterns}
+
+abbrev pub Rule : Type 0
+Rule = ℕ × Bool
+
+-- Some element passes a test.
+unfoldable pub some : (ℕ → Bool) → List ℕ → Bool
+some t [] = false
+some t (x ∷ xs) = t x || some t xs
+
+-- Each element is below the next.
+unfoldable pub rises : List ℕ → Bool
+rises [] = true
+rises (x ∷ []) = true
+rises (x ∷ y ∷ ys) = ltb x y && rises (y ∷ ys)
+
+-- "1: k outside 2 to 5."
+abbrev pub cut-count : ℕ → Rule
+cut-count k = (1, ltb k 2 || ltb 5 k)
+
+-- "2: locations outside 1 to 1,024, or table .. of another size."
+abbrev pub leg-table : ℕ → List ℕ → Rule
+leg-table locations legs = (2, ltb locations 1 || ltb 1024 locations || not (eqb (length legs) (locations * locations)))
+
+-- "2: .. or deadlines of another size."
+abbrev pub deadline-list : ℕ → List ℕ → Rule
+deadline-list locations latest = (2, not (eqb (length latest) locations))
+
+-- "3: a leg above 1,000,000."
+abbrev pub leg-sizes : List ℕ → Rule
+leg-sizes legs = (3, some (λ d. ltb 1000000 d) legs)
+
+-- "4: depot or stop not below the locations."
+abbrev pub known-stops : ℕ → ℕ → List ℕ → Rule
+known-stops locations depot route = (4, leb locations depot || some (λ s. leb locations s) route)
+
+-- "5: a round or n above 512 .."
+abbrev pub stop-count : ℕ → Rule
+stop-count n = (5, ltb 512 n)
+
+-- "6: pattern index not below the count for k."
+abbrev pub pattern-index : ℕ → ℕ → Rule
+pattern-index k index = (6, leb (length (patterns k)) index)
+
+-- "7: not k cuts, one above n, or not strictly rising."
+abbrev pub cut-positions : ℕ → ℕ → List ℕ → Rule
+cut-positions k n cuts = (7, not (eqb (length cuts) k) || some (λ c. ltb n c) cuts || not (rises cuts))
+
+-- "21: lent result .. too short": needed places, lent places.
+abbrev pub room : ℕ → ℕ → Rule
+room needed lent = (21, ltb lent needed)
+
+-- "The lowest number that applies to the call is given, and no other; 10 comes before all."
+abbrev pub order : List ℕ
+order = 10 ∷ 1 ∷ 2 ∷ 3 ∷ 4 ∷ 5 ∷ 6 ∷ 7 ∷ 8 ∷ 9 ∷ 21 ∷ 22 ∷ []
+
+-- A rule's number where it applies, else 0.
+abbrev pub number : Rule → ℕ
+number r = cond (r .1) (r .0) 0
+
+-- The first that is not 0.
+unfoldable pub either : ℕ → ℕ → ℕ
+either zero m = m
+either (suc n) m = suc n
+
+-- What the rules of number n give, and then the rest.
+unfoldable pub rules-of : ℕ → List Rule → ℕ → ℕ
+unfolding either
+rules-of n [] rest = rest
+rules-of n (r ∷ rs) rest = cond (eqb n (r .0)) (either (number r) (rules-of n rs rest)) (rules-of n rs rest)
+
+unfoldable pub first-in : List ℕ → List Rule → ℕ
+unfolding rules-of
+first-in [] rs = 0
+first-in (n ∷ ns) rs = rules-of n rs (first-in ns rs)
+
+-- The refusal number of a call with these rules, or 0.
+unfoldable pub refusal : List Rule → ℕ
+unfolding first-in
+refusal rs = first-in order rs

@@ -1,0 +1,47 @@
+-- The lent tables as a problem, and what the checks establish of them (the `requires` of the crates above).
+use mathlib.Core.Path.{_≡_}
+use mathlib.Core.List.{List, []}
+use Prim.Native.Nat.{ℕ, suc, _+_, _*_, _≤_, _<_}
+use lib.ListN.{length, getD}
+use Rattle.theory.specs.Moves.{Pattern, Rising, total, upfrom}
+use Rattle.theory.specs.Route.{Problem}
+
+-- "one lent table, a whole number of seconds for each ordered pair of locations, row = from"; "each location has a latest second".
+abbrev pub problem : ℕ → List ℕ → List ℕ → ℕ → Problem
+problem locations legs latest depot = record { leg = λ a b. getD legs (a * locations + b) 0; latest = λ a. getD latest a 0; depot = depot }
+
+-- The same where no deadline is read.
+abbrev pub legs-only : ℕ → List ℕ → ℕ → Problem
+legs-only locations legs depot = problem locations legs [] depot
+
+pub record LegTable (locations : ℕ) (legs : List ℕ) : Type 0 where
+  pub few : locations ≤ 1024
+  pub square : length legs ≡ locations * locations
+  pub small : (i : ℕ) → getD legs i 0 ≤ 1000000
+
+pub record Stops (locations : ℕ) (route : List ℕ) : Type 0 where
+  pub short : length route ≤ 512
+  pub known : (i : ℕ) → i < length route → getD route i 0 < locations
+
+-- A route whose length can be read off the table.
+pub record Measurable (locations : ℕ) (legs : List ℕ) (depot : ℕ) (route : List ℕ) : Type 0 where
+  pub table : LegTable locations legs
+  pub depot-known : depot < locations
+  pub stops : Stops locations route
+
+-- A route whose deadlines can be read as well.
+pub record Timed (locations : ℕ) (legs latest : List ℕ) (depot : ℕ) (route : List ℕ) : Type 0 where
+  pub measurable : Measurable locations legs depot route
+  pub deadlines : length latest ≡ locations
+
+-- k cuts of a route of n stops.
+pub record CutSet (k n : ℕ) (cuts : List ℕ) : Type 0 where
+  pub least : 2 ≤ k
+  pub most : k ≤ 5
+  pub short : n ≤ 512
+  pub many : length cuts ≡ k
+  pub rising : Rising 0 cuts n
+
+-- A pattern for k cuts, as it is handed on: the order holds each of the segments 0 to k once, and the mask is a byte.
+pub record Order (k : ℕ) (order : List ℕ) : Type 0 where
+  pub once : (g : ℕ → ℕ) → total g order ≡ total g (upfrom 0 (suc k))

@@ -1,0 +1,45 @@
+// The answer types of the port. Definitions and laws are in specs/ and proofs/; the crate is below all code and holds no entry.
+
+// The deadline check: every deadline is kept, or the stop at some position is late.
+pub enum Deadline {
+    Kept,
+    Late(usize),
+}
+
+// The step to the next cut set: refused, moved, or none is left and the cuts are kept.
+pub enum CutStep {
+    Refused(u32),
+    Moved,
+    Last,
+}
+
+// A route's length: refused, or seconds.
+pub enum RouteLength {
+    Refused(u32),
+    Seconds(u64),
+}
+
+// A move's change of the length: refused, or seconds after minus before.
+pub enum LengthDelta {
+    Refused(u32),
+    Seconds(i64),
+}
+
+// The judged deadline check: refused, or the check's answer.
+pub enum Feasibility {
+    Refused(u32),
+    Checked(Deadline),
+}
+
+// A pattern, as in the Rust: the order of the segments with 0 in the unused places, the mask (bit i reverses segment i), and how many segments there are.
+pub struct KOptReconnection {
+    pub segment_order: [u8; 6],
+    pub reverse_mask: u8,
+    pub len: u8,
+}
+
+// The pattern of an index: the refusal number with an empty pattern, or 0 with the pattern.
+pub struct ReconnectionAt {
+    pub refusal: u32,
+    pub reconnection: KOptReconnection,
+}
