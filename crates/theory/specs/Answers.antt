@@ -71,4 +71,4 @@ Verdict P route p = ((p ≡ length route) × Feasible P route) ⊎ LateAt P rout
 
 -- A pattern as the struct holds it: its order with 0 in the unused of six places.
 abbrev pub pattern-of : KOptReconnection → Pattern
-pattern-of r = record { order = take (r .len) (r .segment-order); mask = r .reverse-mask }
+pattern-of r = record { order = take (r .len) (r .«segment_order»); mask = r .«reverse_mask» }
