@@ -100,7 +100,7 @@ full-cons : (t : List ℕ) (ts : List (List ℕ)) → 0 < length t → Full ts �
 full-cons [] ts h f = absurd (omega arith)
 full-cons (x ∷ t) ts h f = more f
 
-length-reverse-if : (b : Bool) (l : List ℕ) → length (reverse-if b l) ≡ length l
+pub length-reverse-if : (b : Bool) (l : List ℕ) → length (reverse-if b l) ≡ length l
 unfolding reverse-if
 length-reverse-if true l = length-reverse l
 length-reverse-if false l = refl

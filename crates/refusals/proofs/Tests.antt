@@ -1,0 +1,63 @@
+-- Tests over a list, as a loop makes them: the test of the rest. Assumes nothing.
+use mathlib.Core.Path.{_≡_, refl, sym, _∙_}
+use mathlib.Core.Bool.{Bool, true, false, _&&_, _||_}
+use mathlib.Core.List.{List, [], _∷_}
+use Prim.Native.Nat.{ℕ, zero, suc, _+_, _-_, _<_, _≤_}
+use native.Mathlib.Numerals.{add-one}
+use native.Mathlib.Omega.{arith}
+use lib.Dec.{ltb}
+use lib.ListN.{length, getD, drop, drop-of-length-le}
+use lib.Seq.{drop-cons}
+use Rattle.theory.specs.Refusals.{some, rises, either}
+
+some-drop : (t : ℕ → Bool) (l : List ℕ) (i : ℕ) → i < length l → some t (drop i l) ≡ (t (getD l i 0) || some t (drop (i + 1) l))
+unfolding some
+some-drop t l i h = rw (add-one i, drop-cons l i 0 h)
+
+pub some-more : (t : ℕ → Bool) (l : List ℕ) (i : ℕ) → i < length l → t (getD l i 0) ≡ false → some t l ≡ some t (drop i l) → some t l ≡ some t (drop (i + 1) l)
+some-more t l i h n e = e ∙ some-drop t l i h ∙ rw n
+
+pub some-here : (t : ℕ → Bool) (l : List ℕ) (i : ℕ) → i < length l → t (getD l i 0) ≡ true → some t l ≡ some t (drop i l) → true ≡ some t l
+some-here t l i h y e = sym (e ∙ some-drop t l i h ∙ rw y)
+
+pub some-none : (t : ℕ → Bool) (l : List ℕ) (i : ℕ) → length l ≤ i → some t l ≡ some t (drop i l) → false ≡ some t l
+unfolding some
+some-none t l i h e = sym (e ∙ rw (drop-of-length-le l h))
+
+-- The rest from the place before i on.
+rises-drop : (l : List ℕ) (i : ℕ) → suc i < length l → rises (drop i l) ≡ (ltb (getD l i 0) (getD l (suc i) 0) && rises (drop (suc i) l))
+unfolding rises
+rises-drop l i h = rw (drop-cons l i 0 (omega arith), drop-cons l (suc i) 0 h)
+
+module _ (l : List ℕ) (i : ℕ) (pos : 0 < i) (h : i < length l) (inv : rises l ≡ rises (drop (i - 1) l)) where
+  here : rises l ≡ (ltb (getD l (i - 1) 0) (getD l i 0) && rises (drop i l))
+  here = let e : suc (i - 1) ≡ i = omega arith in inv ∙ rises-drop l (i - 1) (omega arith) ∙ rw e
+
+  pub rises-more : ltb (getD l (i - 1) 0) (getD l i 0) ≡ true → rises l ≡ rises (drop (i + 1 - 1) l)
+  rises-more y = let e : i + 1 - 1 ≡ i = omega arith in here ∙ rw (y, e)
+
+  pub rises-not : ltb (getD l (i - 1) 0) (getD l i 0) ≡ false → false ≡ rises l
+  rises-not n = sym (here ∙ rw n)
+
+pub rises-end : (l : List ℕ) (i : ℕ) → length l ≤ i → 0 < i → rises l ≡ rises (drop (i - 1) l) → true ≡ rises l
+rises-end l i h pos e = sym (e ∙ short (drop (i - 1) l) (few l (i - 1) (omega arith)))
+  where
+    few : (l : List ℕ) (j : ℕ) → length l ≤ suc j → length (drop j l) ≤ 1
+    few l zero h = h
+    few [] (suc j) h = omega arith
+    few (x ∷ l) (suc j) h = few l j (omega arith)
+
+    short : (l : List ℕ) → length l ≤ 1 → rises l ≡ true
+    short [] h = unfold rises in refl
+    short (x ∷ []) h = unfold rises in refl
+    short (x ∷ y ∷ l) h = absurd (omega arith)
+
+pub either-none : (a b : ℕ) → a ≡ 0 → b ≡ either a b
+unfolding either
+either-none zero b h = refl
+either-none (suc a) b h = absurd (omega arith)
+
+pub either-some : (a b : ℕ) → (a ≡ 0 → ⊥) → a ≡ either a b
+unfolding either
+either-some zero b h = absurd (h refl)
+either-some (suc a) b h = refl

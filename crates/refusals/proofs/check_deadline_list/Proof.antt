@@ -1,0 +1,15 @@
+-- `refusals::check_deadline_list` meets its contract.  Assumes nothing.
+use borrow.Author.Tests.{lt-ltb, le-ltb, ne-eqb, eq-eqb}
+use native.Mathlib.Omega.{arith}
+use borrow.Author.Needs.{needs}
+use Rattle.refusals.proofs.check_deadline_list.Statement.{statement}
+use Rattle.refusals.proofs.check_deadline_list.Tie as tie
+
+returns : tie.Need-returns
+returns c = simp (ne-eqb _ _ (c .if1 .taken))
+
+returns-2 : tie.Need-returns-2
+returns-2 c = simp (eq-eqb _ _ (c .if1 .left))
+
+pub check-deadline-list-spec : {M : Type 1} → statement M
+check-deadline-list-spec = tie.close (tie.spec returns returns-2)

@@ -1,0 +1,15 @@
+-- `refusals::check_room` meets its contract.  Assumes nothing.
+use borrow.Author.Tests.{lt-ltb, le-ltb, ne-eqb, eq-eqb}
+use native.Mathlib.Omega.{arith}
+use borrow.Author.Needs.{needs}
+use Rattle.refusals.proofs.check_room.Statement.{statement}
+use Rattle.refusals.proofs.check_room.Tie as tie
+
+returns : tie.Need-returns
+returns c = simp (lt-ltb _ _ (c .if1 .taken))
+
+returns-2 : tie.Need-returns-2
+returns-2 c = simp (le-ltb _ _ (c .if1 .left))
+
+pub check-room-spec : {M : Type 1} → statement M
+check-room-spec = tie.close (tie.spec returns returns-2)

@@ -1,0 +1,162 @@
+// One small check for each refusal number: the number where its rule applies to the raw input, else 0. No entry: the crates above call them.
+ghost use mathlib.Core.Path.{_≡_};
+ghost use lib.Dec.{ltb, leb};
+ghost use lib.ListN.{length};
+ghost use Rattle.theory.specs.Refusals.{some, rises, either, number, cut-count, leg-table, deadline-list, leg-sizes, known-stops, stop-count, cut-positions, room};
+
+// The first of two numbers that is not 0.
+pub fn first(a: u32, b: u32) -> u32
+    ensures { λ r. ⌜ r ≡ either a b ⌝ }
+{
+    if a == 0 {
+        return b;
+    }
+    a
+}
+
+// Whether an entry is above the limit.
+fn some_above(entries: &[u32], limit: u32) -> bool
+    ensures { λ r. ⌜ r ≡ some (λ x. ltb limit x) (now (entries .entry)) ⌝ }
+{
+    let mut i = 0;
+    while i < entries.len() {
+        if limit < entries[i] {
+            return true;
+        }
+        i += 1;
+    }
+    false
+}
+
+// Whether a stop is not below the locations.
+fn some_unknown(stops: &[u32], locations: usize) -> bool
+    ensures { λ r. ⌜ r ≡ some (λ x. leb locations x) (now (stops .entry)) ⌝ }
+{
+    let mut i = 0;
+    while i < stops.len() {
+        let stop = stops[i];
+        if locations <= stop as usize {
+            return true;
+        }
+        i += 1;
+    }
+    false
+}
+
+// Whether a cut lies beyond n.
+fn some_beyond(cuts: &[usize], n: usize) -> bool
+    ensures { λ r. ⌜ r ≡ some (λ x. ltb n x) (now (cuts .entry)) ⌝ }
+{
+    let mut i = 0;
+    while i < cuts.len() {
+        if n < cuts[i] {
+            return true;
+        }
+        i += 1;
+    }
+    false
+}
+
+// Whether each cut is below the next.
+fn strictly_rising(cuts: &[usize]) -> bool
+    ensures { λ r. ⌜ r ≡ rises (now (cuts .entry)) ⌝ }
+{
+    let mut i = 1;
+    while i < cuts.len() {
+        if cuts[i] <= cuts[i - 1] {
+            return false;
+        }
+        i += 1;
+    }
+    true
+}
+
+pub fn check_cut_count(k: usize) -> u32
+    ensures { λ r. ⌜ r ≡ number (cut-count k) ⌝ }
+{
+    if k < 2 {
+        return 1;
+    }
+    if 5 < k {
+        return 1;
+    }
+    0
+}
+
+pub fn check_leg_table(locations: usize, legs: &[u32]) -> u32
+    ensures { λ r. ⌜ r ≡ number (leg-table locations (now (legs .entry))) ⌝ }
+{
+    if locations < 1 {
+        return 2;
+    }
+    if 1024 < locations {
+        return 2;
+    }
+    if legs.len() != locations * locations {
+        return 2;
+    }
+    0
+}
+
+pub fn check_deadline_list(locations: usize, latest: &[u32]) -> u32
+    ensures { λ r. ⌜ r ≡ number (deadline-list locations (now (latest .entry))) ⌝ }
+{
+    if latest.len() != locations {
+        return 2;
+    }
+    0
+}
+
+pub fn check_leg_sizes(legs: &[u32]) -> u32
+    ensures { λ r. ⌜ r ≡ number (leg-sizes (now (legs .entry))) ⌝ }
+{
+    if some_above(legs, 1000000) {
+        return 3;
+    }
+    0
+}
+
+pub fn check_known_stops(locations: usize, depot: u32, route: &[u32]) -> u32
+    ensures { λ r. ⌜ r ≡ number (known-stops locations depot (now (route .entry))) ⌝ }
+{
+    if locations <= depot as usize {
+        return 4;
+    }
+    if some_unknown(route, locations) {
+        return 4;
+    }
+    0
+}
+
+pub fn check_stop_count(n: usize) -> u32
+    ensures { λ r. ⌜ r ≡ number (stop-count n) ⌝ }
+{
+    if 512 < n {
+        return 5;
+    }
+    0
+}
+
+pub fn check_cut_positions(k: usize, n: usize, cuts: &[usize]) -> u32
+    ensures { λ r. ⌜ r ≡ number (cut-positions k n (now (cuts .entry))) ⌝ }
+{
+    if cuts.len() != k {
+        return 7;
+    }
+    if some_beyond(cuts, n) {
+        return 7;
+    }
+    if strictly_rising(cuts) {
+        return 0;
+    }
+    7
+}
+
+pub fn check_room(needed: usize, lent: usize) -> u32
+    ensures { λ r. ⌜ r ≡ number (room needed lent) ⌝ }
+{
+    if lent < needed {
+        return 21;
+    }
+    0
+}
