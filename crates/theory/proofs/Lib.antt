@@ -12,3 +12,4 @@ pub mod Distinct
 pub mod Clock
 pub mod Steps
 pub mod Cuts
+pub mod Judged
