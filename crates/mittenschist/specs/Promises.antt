@@ -1,0 +1,98 @@
+-- What each entry promises: the rules by which it refuses, and a record that equates its reply and all lent memory with a definition.
+use mathlib.Core.Path.{_≡_}
+use mathlib.Core.Bool.{Bool, true, false, cond}
+use mathlib.Core.List.{List, [], _∷_, _++_}
+use mathlib.Core.Option.{Option, none, some}
+use Prim.Native.Nat.{ℕ, suc, _-_}
+use lib.Dec.{eqb}
+use lib.IntN.{ℤ, pos, _-ℤ_}
+use lib.ListN.{length, getD, drop}
+use Rattle.theory.specs.Moves.{Pattern, Move, patterns, next-cuts}
+use Rattle.theory.specs.Route.{Problem, tour-length, reconnected}
+use Rattle.theory.specs.Tables.{problem, legs-only}
+use Rattle.theory.specs.Refusals.{Rule, refusal, cut-count, leg-table, deadline-list, leg-sizes, known-stops, stop-count, pattern-index, cut-positions, room}
+use Rattle.theory.specs.Answers.{Answer, reply, step-answer, length-answer, delta-answer, feasibility-answer, Verdict}
+use Rattle.theory.specs.declared.CutStep.{CutStep}
+use Rattle.theory.specs.declared.RouteLength.{RouteLength}
+use Rattle.theory.specs.declared.LengthDelta.{LengthDelta}
+use Rattle.theory.specs.declared.Feasibility.{Feasibility}
+use Rattle.theory.specs.declared.KOptReconnection.{KOptReconnection}
+use Rattle.theory.specs.declared.ReconnectionAt.{ReconnectionAt}
+
+-- One thing where no rule applies, another where the call is refused.
+abbrev pub if-taken : {A : Type 0} → List Rule → A → A → A
+if-taken rules a b = cond (eqb (refusal rules) 0) a b
+
+-- The pattern with an index, and the move that applies it at cuts.
+abbrev pub pattern-at : ℕ → ℕ → Pattern
+pattern-at k index = getD (patterns k) index (record { order = []; mask = 0 })
+
+abbrev pub move-at : ℕ → ℕ → List ℕ → Move
+move-at k index cuts = record { cuts = cuts; pattern = pattern-at k index }
+
+-- ---- next cut set
+
+abbrev pub next-cut-set-rules : ℕ → ℕ → List ℕ → List Rule
+next-cut-set-rules k n cuts = cut-count k ∷ stop-count n ∷ cut-positions k n cuts ∷ []
+
+abbrev pub moved : Option (List ℕ) → ℕ
+moved none = 0
+moved (some cuts) = 1
+
+abbrev pub or-kept : Option (List ℕ) → List ℕ → List ℕ
+or-kept none old = old
+or-kept (some cuts) old = cuts
+
+pub record NextCutSet (k n : ℕ) (cuts : List ℕ) (answer : CutStep) (cuts′ : List ℕ) : Type 0 where
+  pub reply-is : step-answer answer ≡ reply (refusal (next-cut-set-rules k n cuts)) (moved (next-cuts n cuts) ∷ [])
+  pub cuts-are : cuts′ ≡ if-taken (next-cut-set-rules k n cuts) (or-kept (next-cuts n cuts) cuts) cuts
+
+-- ---- reconnect
+
+abbrev pub reconnect-rules : ℕ → ℕ → List ℕ → List ℕ → List ℕ → List Rule
+reconnect-rules k pattern cuts route out =
+    cut-count k ∷ stop-count (length route) ∷ pattern-index k pattern ∷ cut-positions k (length route) cuts ∷ room (length route) (length out) ∷ []
+
+pub record Reconnected (k pattern : ℕ) (cuts route out : List ℕ) (answer : ℕ) (out′ : List ℕ) : Type 0 where
+  pub number-is : answer ≡ refusal (reconnect-rules k pattern cuts route out)
+  pub out-is : out′ ≡ if-taken (reconnect-rules k pattern cuts route out) (reconnected (move-at k pattern cuts) route ++ drop (length route) out) out
+
+-- ---- route length
+
+abbrev pub route-length-rules : ℕ → List ℕ → ℕ → List ℕ → List Rule
+route-length-rules locations legs depot route = leg-table locations legs ∷ leg-sizes legs ∷ known-stops locations depot route ∷ stop-count (length route) ∷ []
+
+pub record RouteLengthReply (locations : ℕ) (legs : List ℕ) (depot : ℕ) (route : List ℕ) (answer : RouteLength) : Type 0 where
+  pub reply-is : length-answer answer ≡ reply (refusal (route-length-rules locations legs depot route)) (tour-length (legs-only locations legs depot) route ∷ [])
+
+-- ---- delta
+
+abbrev pub delta-rules : ℕ → ℕ → List ℕ → ℕ → List ℕ → ℕ → List ℕ → List Rule
+delta-rules k pattern cuts locations legs depot route =
+    cut-count k
+    ∷ leg-table locations legs
+    ∷ leg-sizes legs
+    ∷ known-stops locations depot route
+    ∷ stop-count (length route)
+    ∷ pattern-index k pattern
+    ∷ cut-positions k (length route) cuts
+    ∷ []
+
+-- Length after minus length before.
+abbrev pub length-change : Problem → Move → List ℕ → ℤ
+length-change P move route = pos (tour-length P (reconnected move route)) -ℤ pos (tour-length P route)
+
+pub record DeltaReply (k pattern : ℕ) (cuts : List ℕ) (locations : ℕ) (legs : List ℕ) (depot : ℕ) (route : List ℕ) (answer : LengthDelta) : Type 0 where
+  pub reply-is : delta-answer answer ≡ reply (refusal (delta-rules k pattern cuts locations legs depot route)) (length-change (legs-only locations legs depot) (move-at k pattern cuts) route ∷ [])
+
+-- ---- deadline check
+
+abbrev pub feasible-rules : ℕ → List ℕ → List ℕ → ℕ → List ℕ → List Rule
+feasible-rules locations legs latest depot route =
+    leg-table locations legs ∷ deadline-list locations latest ∷ leg-sizes legs ∷ known-stops locations depot route ∷ stop-count (length route) ∷ []
+
+-- The position is loose, and nothing else is.
+pub record FeasibleReply (locations : ℕ) (legs latest : List ℕ) (depot : ℕ) (route : List ℕ) (answer : Feasibility) : Type 0 where
+  pub position : ℕ
+  pub reply-is : feasibility-answer (length route) answer ≡ reply (refusal (feasible-rules locations legs latest depot route)) (position ∷ [])
+  pub verdict : refusal (feasible-rules locations legs latest depot route) ≡ 0 → Verdict (problem locations legs latest depot) route position
