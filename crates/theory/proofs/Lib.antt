@@ -9,5 +9,6 @@ pub mod Delta
 pub mod Excluded
 pub mod Orders
 pub mod Distinct
+pub mod Dictionary
 pub mod Clock
 pub mod Steps
