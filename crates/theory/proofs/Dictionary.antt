@@ -1,8 +1,8 @@
 -- The order in which the moves are listed: orders and cut sets in dictionary order, patterns by order and then mask, candidates by cuts and then pattern. Assumes nothing.
-use mathlib.Core.Path.{_≡_, refl, sym, ap, _∙_, subst}
+use mathlib.Core.Path.{_≡_, refl, sym, ap, subst}
 use mathlib.Core.Logic.{_⊎_, inl, inr, ⊎-elim}
 use mathlib.Core.List.{List, [], _∷_, _++_, map, flatMap, tail, List·Memᴰ, List·Memᴰ·head, List·Memᴰ·tail, List·Memᴰ·cases-cons, List·Memᴰ·not-nil, List·Memᴰ·append-cases, Memᴰ·map, Memᴰ·of-map}
-use Prim.Native.Nat.{ℕ, zero, suc, _*_, _^_, _<_}
+use Prim.Native.Nat.{ℕ, zero, suc, _^_, _<_}
 use native.Mathlib.Omega.{arith}
 use Rattle.theory.specs.Moves.{upfrom, picks, orders, Pattern, arrangements, patterns, combinations, cut-sets, Move, candidates}
 use Rattle.theory.proofs.Moves.{of-flatMap, upfrom-range}

@@ -1,7 +1,7 @@
 -- Demand 3 of any search, by induction over the scan's run. Assumes nothing.
 use mathlib.Core.Path.{_≡_, refl, sym, ap, _∙_, subst}
-use mathlib.Core.Bool.{Bool, true, false, _&&_, and-eq-true-iff, true≢false}
-use mathlib.Core.Logic.{_↔_, _⊎_, inl, inr, ⊎-elim}
+use mathlib.Core.Bool.{Bool, true, false, and-eq-true-iff, true≢false}
+use mathlib.Core.Logic.{_⊎_, inl, inr, ⊎-elim}
 use mathlib.Core.List.{List, [], _∷_, List·Memᴰ, List·Memᴰ·head, List·Memᴰ·tail, List·Memᴰ·cases-cons, List·Memᴰ·not-nil}
 use Prim.Native.Nat.{ℕ, zero, suc, _+_, _-_, _*_, min, _≤_, _<_}
 use native.Mathlib.Nat.{mul-le-mul-right, sub-le}
@@ -9,7 +9,7 @@ use native.Mathlib.Decide.{decLe}
 use native.Mathlib.Omega.{arith}
 use lib.Dec.{ltb}
 use lib.ListN.{length}
-use borrow.Author.Tests.{ltb-true, lt-ltb, ltb-false}
+use borrow.Author.Tests.{ltb-true, ltb-false}
 use Rattle.theory.specs.Scan.{Search, Reply, improves, scan-from, scan, LocallyOptimal, Searched}
 
 saved : (x n l l′ : ℕ) → l′ ≤ l → x + l′ * n ≤ n + l * n → x ≤ (1 + (l - l′)) * n
