@@ -6,6 +6,7 @@ pub mod Polish
 pub mod Costs
 pub mod Walk
 pub mod Delta
+pub mod Links
 pub mod Excluded
 pub mod Orders
 pub mod Distinct
