@@ -36,12 +36,12 @@ unfolding upfrom
 distinct-upfrom f zero = tt
 distinct-upfrom f (suc n) = (λ i. omega (arith, upfrom-range f (suc f) n i), distinct-upfrom (suc f) n)
 
-picks-keys : (l : List ℕ) → map (λ p. p .0) (picks l) ≡ l
+pub picks-keys : (l : List ℕ) → map (λ p. p .0) (picks l) ≡ l
 unfolding picks
 picks-keys [] = refl
 picks-keys (x ∷ xs) = ap (λ l. x ∷ l) (map-map (λ p. p .0) (λ p. (p .0, x ∷ p .1)) (picks xs) ∙ picks-keys xs)
 
-picks-sub : (l : List ℕ) (p : ℕ × List ℕ) → List·Memᴰ p (picks l) → (y : ℕ) → List·Memᴰ y (p .1) → List·Memᴰ y l
+pub picks-sub : (l : List ℕ) (p : ℕ × List ℕ) → List·Memᴰ p (picks l) → (y : ℕ) → List·Memᴰ y (p .1) → List·Memᴰ y l
 unfolding picks
 picks-sub [] p i y j = absurd (List·Memᴰ·not-nil i)
 picks-sub (x ∷ xs) p i y j =

@@ -6,9 +6,11 @@ pub mod Polish
 pub mod Costs
 pub mod Walk
 pub mod Delta
+pub mod Links
 pub mod Excluded
 pub mod Orders
 pub mod Distinct
+pub mod Dictionary
 pub mod Clock
 pub mod Steps
 pub mod Cuts

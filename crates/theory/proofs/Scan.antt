@@ -1,14 +1,15 @@
 -- Demand 3 of any search, by induction over the scan's run. Assumes nothing.
 use mathlib.Core.Path.{_≡_, refl, sym, ap, _∙_, subst}
-use mathlib.Core.Bool.{Bool, true, false, _&&_, and-eq-true-iff, true≢false}
-use mathlib.Core.Logic.{_↔_, _⊎_, inl, inr, ⊎-elim}
+use mathlib.Core.Bool.{Bool, true, false, and-eq-true-iff, true≢false}
+use mathlib.Core.Logic.{_⊎_, inl, inr, ⊎-elim}
 use mathlib.Core.List.{List, [], _∷_, List·Memᴰ, List·Memᴰ·head, List·Memᴰ·tail, List·Memᴰ·cases-cons, List·Memᴰ·not-nil}
 use Prim.Native.Nat.{ℕ, zero, suc, _+_, _-_, _*_, min, _≤_, _<_}
-use native.Mathlib.Nat.{mul-le-mul-right, suc-add, add-comm, sub-le}
+use native.Mathlib.Nat.{mul-le-mul-right, sub-le}
+use native.Mathlib.Decide.{decLe}
 use native.Mathlib.Omega.{arith}
 use lib.Dec.{ltb}
 use lib.ListN.{length}
-use borrow.Author.Tests.{ltb-true, lt-ltb, ltb-false}
+use borrow.Author.Tests.{ltb-true, ltb-false}
 use Rattle.theory.specs.Scan.{Search, Reply, improves, scan-from, scan, LocallyOptimal, Searched}
 
 saved : (x n l l′ : ℕ) → l′ ≤ l → x + l′ * n ≤ n + l * n → x ≤ (1 + (l - l′)) * n
@@ -133,12 +134,21 @@ module _ {R M : Type 0} (S : Search R M) where
 
   -- ---- other allowances
 
-  -- A finished scan is the same under any greater allowance, and a smaller one is spent at it.
-  more : {a e c : ℕ} {ms : List M} {r : R} {q : Reply R} → Run a ms e c r q → q .finished ≡ true → (b : ℕ) → Run (a + b) ms e c r q
-  more ended f b = ended
-  more halted f b = absurd (true≢false (sym f))
-  more (passed {a = a} i d) f b = rw suc-add (passed i (more d f b))
-  more (taken {a = a} i d) f b = rw suc-add (taken i (more d f b))
+  -- The count only rises.
+  counted : {a e c : ℕ} {ms : List M} {r : R} {q : Reply R} → Run a ms e c r q → e ≤ q .examined
+  counted ended = omega arith
+  counted halted = omega arith
+  counted (passed i d) = omega (arith, counted d)
+  counted (taken i d) = omega (arith, counted d)
+
+  -- A finished run is the run under every allowance that holds what it examined.
+  enough : {a e c : ℕ} {ms : List M} {r : R} {q : Reply R} → Run a ms e c r q → q .finished ≡ true → (b : ℕ) → q .examined ≤ e + b → Run b ms e c r q
+  enough ended f b h = ended
+  enough halted f b h = absurd (true≢false (sym f))
+  enough (passed i d) f zero h = absurd (omega (arith, counted d))
+  enough (passed i d) f (suc b) h = passed i (enough d f b (omega arith))
+  enough (taken i d) f zero h = absurd (omega (arith, counted d))
+  enough (taken i d) f (suc b) h = taken i (enough d f b (omega arith))
 
   -- The scan has one run.
   pub scan-ended : (a e c : ℕ) (r : R) → scan-from S a [] e c r ≡ record { finished = true; examined = e; accepted = c; route = r }
@@ -164,17 +174,28 @@ module _ {R M : Type 0} (S : Search R M) where
   is-scan (passed i d) = scan-passed _ _ _ _ _ _ i ∙ is-scan d
   is-scan (taken i d) = scan-taken _ _ _ _ _ _ i ∙ is-scan d
 
+  -- An allowance that holds what a finished scan examined gives the same reply.
+  pub same-answer : (a b : ℕ) (r : R) → scan S b r .finished ≡ true → scan S b r .examined ≤ a → scan S a r ≡ scan S b r
+  same-answer a b r f h = is-scan (enough (runs b (S .moves) 0 0 r) f a (omega arith))
+
+  pub still-finished : (a b : ℕ) (r : R) → scan S b r .finished ≡ true → scan S b r .examined ≤ a → scan S a r .finished ≡ true
+  still-finished a b r f h = ap (λ q. q .finished) (same-answer a b r f h) ∙ f
+
   pub one-answer : (a b : ℕ) (r : R) → scan S a r .finished ≡ true → scan S b r .finished ≡ true → scan S a r ≡ scan S b r
   one-answer a b r f g =
-      sym (is-scan (more (runs a (S .moves) 0 0 r) f b)) ∙ ap (λ n. scan S n r) (add-comm a b) ∙ is-scan (more (runs b (S .moves) 0 0 r) g a)
+      sym (same-answer (a + b) a r f (omega (arith, searched a r .within))) ∙ same-answer (a + b) b r g (omega (arith, searched b r .within))
 
-  -- A scan examines at least the smaller of its allowance and what the finished scan counts.
-  pub fair : (a b : ℕ) (r : R) → scan S b r .finished ≡ true → min a (scan S b r .examined) ≤ scan S a r .examined
-  fair a b r g = by (scan S a r .finished) refl
+  -- A scan examines the smaller of its allowance and what the finished scan counts.
+  pub examined-least : (a b : ℕ) (r : R) → scan S b r .finished ≡ true → scan S a r .examined ≡ min a (scan S b r .examined)
+  examined-least a b r g = by (scan S a r .finished) refl (decLe (scan S b r .examined) a)
     where
-      by : (t : Bool) → scan S a r .finished ≡ t → min a (scan S b r .examined) ≤ scan S a r .examined
-      by true f = rw (one-answer a b r f g) (omega arith)
-      by false f = omega (arith, searched a r .spent f)
+      by : (t : Bool) → scan S a r .finished ≡ t → Dec (scan S b r .examined ≤ a) → scan S a r .examined ≡ min a (scan S b r .examined)
+      by t f (yes h) = omega (arith, ap (λ q. q .examined) (same-answer a b r g h))
+      by true f (no h) = omega (arith, searched a r .within, ap (λ q. q .examined) (one-answer a b r f g))
+      by false f (no h) = omega (arith, searched a r .spent f)
+
+  pub fair : (a b : ℕ) (r : R) → scan S b r .finished ≡ true → min a (scan S b r .examined) ≤ scan S a r .examined
+  fair a b r g = omega (arith, examined-least a b r g)
 
   -- With this allowance every scan finishes.
   pub finishes : (r : R) → scan S (1 + (1 + S .cost r) * length (S .moves)) r .finished ≡ true

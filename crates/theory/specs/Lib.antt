@@ -3,6 +3,7 @@ pub mod Moves
 pub mod Route
 pub mod Polish
 pub mod Costs
+pub mod Links
 pub mod Tables
 pub mod Refusals
 pub mod Answers
