@@ -2,7 +2,6 @@
 use mathlib.Core.Path.{_≡_}
 use mathlib.Core.Bool.{Bool, true, false, cond}
 use mathlib.Core.List.{List, [], _∷_, _++_}
-use mathlib.Core.Option.{Option, none, some}
 use Prim.Native.Nat.{ℕ, suc, _-_}
 use lib.Dec.{eqb}
 use lib.IntN.{ℤ, pos, _-ℤ_}
@@ -12,6 +11,7 @@ use Rattle.theory.specs.Route.{Problem, tour-length, reconnected}
 use Rattle.theory.specs.Tables.{problem, legs-only}
 use Rattle.theory.specs.Refusals.{Rule, refusal, cut-count, leg-table, deadline-list, leg-sizes, known-stops, stop-count, pattern-index, cut-positions, room}
 use Rattle.theory.specs.Answers.{Answer, reply, step-answer, length-answer, delta-answer, feasibility-answer, Verdict}
+use Rattle.cuts.specs.Step.{found, or-kept}
 use Rattle.theory.specs.declared.CutStep.{CutStep}
 use Rattle.theory.specs.declared.RouteLength.{RouteLength}
 use Rattle.theory.specs.declared.LengthDelta.{LengthDelta}
@@ -35,16 +35,8 @@ move-at k index cuts = record { cuts = cuts; pattern = pattern-at k index }
 abbrev pub next-cut-set-rules : ℕ → ℕ → List ℕ → List Rule
 next-cut-set-rules k n cuts = cut-count k ∷ stop-count n ∷ cut-positions k n cuts ∷ []
 
-abbrev pub moved : Option (List ℕ) → ℕ
-moved none = 0
-moved (some cuts) = 1
-
-abbrev pub or-kept : Option (List ℕ) → List ℕ → List ℕ
-or-kept none old = old
-or-kept (some cuts) old = cuts
-
 pub record NextCutSet (k n : ℕ) (cuts : List ℕ) (answer : CutStep) (cuts′ : List ℕ) : Type 0 where
-  pub reply-is : step-answer answer ≡ reply (refusal (next-cut-set-rules k n cuts)) (moved (next-cuts n cuts) ∷ [])
+  pub reply-is : step-answer answer ≡ reply (refusal (next-cut-set-rules k n cuts)) (cond (found (next-cuts n cuts)) 1 0 ∷ [])
   pub cuts-are : cuts′ ≡ if-taken (next-cut-set-rules k n cuts) (or-kept (next-cuts n cuts) cuts) cuts
 
 -- ---- reconnect

@@ -14,4 +14,5 @@ pub mod Dictionary
 pub mod Clock
 pub mod Steps
 pub mod Cuts
+pub mod Refusals
 pub mod Judged

@@ -1,11 +1,9 @@
-use native.Mathlib.Omega.{arith}
+-- `mittenschist::next_cut_set` meets its contract. Assumes nothing.
+use mathlib.Core.Path.{refl}
 use borrow.Author.Needs.{needs}
+use Rattle.mittenschist.proofs.NextCutSet.{refused, fine, stepped}
 use Rattle.mittenschist.proofs.next_cut_set.Statement.{statement}
 use Rattle.mittenschist.proofs.next_cut_set.Tie as tie
-use Rattle.mittenschist.proofs.next_cut_set.Reads as reads
-use Rattle.mittenschist.proofs.next_cut_set.Lts as lts
-use Rattle.cuts.proofs.next_cut_set.Reads as next-cut-set-reads
-use Rattle.mittenschist.proofs.next_cut_set_refusal.Reads as next-cut-set-refusal-reads
 
 next-cut-set-refusal-requires : tie.Need-next-cut-set-refusal-requires
 next-cut-set-refusal-requires c κs = search needs
@@ -14,22 +12,32 @@ same-length : tie.Need-same-length
 same-length c = search needs
 
 returns : tie.Need-returns
-returns c = ?
+returns c =
+    let s = c .before .before .before .before in
+    refused (s .args .k) (s .args .n) (s .args .cuts .now) (c .before .next-cut-set-refusal .result) (c .before .next-cut-set-refusal .ensures) (c .if1 .taken)
 
 next-cut-set-requires : tie.Need-next-cut-set-requires
-next-cut-set-requires c κs = ?
+next-cut-set-requires c κs =
+    let s = c .before .before .before .before .before in
+    fine (s .args .k) (s .args .n) (s .args .cuts .now) (c .before .before .next-cut-set-refusal .result) (c .before .before .next-cut-set-refusal .ensures) (c .before .if1 .left)
 
 same-length-2 : tie.Need-same-length-2
 same-length-2 c = search needs
 
 returns-2 : tie.Need-returns-2
-returns-2 c = ?
+returns-2 c =
+    let s = c .before .before .before .before .before .before .before .before .before in
+    let r = c .before .before .before .before .before .before .next-cut-set-refusal in
+    stepped (s .args .k) (s .args .n) (s .args .cuts .now) (r .result) (r .ensures) (c .before .before .before .before .before .if1 .left) _ _ _ refl (rw (c .if2 .taken) at (c .before .before .before .next-cut-set .ensures))
 
 same-length-3 : tie.Need-same-length-3
 same-length-3 c = search needs
 
 returns-3 : tie.Need-returns-3
-returns-3 c = ?
+returns-3 c =
+    let s = c .before .before .before .before .before .before .before .before .before in
+    let r = c .before .before .before .before .before .before .next-cut-set-refusal in
+    stepped (s .args .k) (s .args .n) (s .args .cuts .now) (r .result) (r .ensures) (c .before .before .before .before .before .if1 .left) _ _ _ refl (rw (c .if2 .left) at (c .before .before .before .next-cut-set .ensures))
 
 pub next-cut-set-spec : {M : Type 1} → statement M
 next-cut-set-spec =

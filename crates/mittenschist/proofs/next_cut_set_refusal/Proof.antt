@@ -1,13 +1,10 @@
-use native.Mathlib.Omega.{arith}
+-- `mittenschist::next_cut_set_refusal` meets its contract: the checks in the one order. Assumes nothing.
+use mathlib.Core.Path.{sym, ap, ap₂, _∙_}
+use Rattle.theory.specs.Refusals.{either, refusal}
+use Rattle.mittenschist.proofs.Entries.{either-zero}
 use borrow.Author.Needs.{needs}
 use Rattle.mittenschist.proofs.next_cut_set_refusal.Statement.{statement}
 use Rattle.mittenschist.proofs.next_cut_set_refusal.Tie as tie
-use Rattle.mittenschist.proofs.next_cut_set_refusal.Reads as reads
-use Rattle.mittenschist.proofs.next_cut_set_refusal.Lts as lts
-use Rattle.refusals.proofs.check_cut_count.Reads as check-cut-count-reads
-use Rattle.refusals.proofs.check_cut_positions.Reads as check-cut-positions-reads
-use Rattle.refusals.proofs.check_stop_count.Reads as check-stop-count-reads
-use Rattle.refusals.proofs.first.Reads as first-reads
 
 check-cut-count-requires : tie.Need-check-cut-count-requires
 check-cut-count-requires c κs = search needs
@@ -25,7 +22,12 @@ first-requires-2 : tie.Need-first-requires-2
 first-requires-2 c κs = search needs
 
 returns : tie.Need-returns
-returns c = ?
+unfolding refusal
+returns c =
+    let k = c .before .before .before .before .check-cut-count .ensures in
+    let n = c .before .before .before .check-stop-count .ensures in
+    let cuts = c .before .before .check-cut-positions .ensures in
+    c .first2 .ensures ∙ ap₂ either k (c .before .first .ensures ∙ ap₂ either n (cuts ∙ sym (either-zero _)))
 
 pub next-cut-set-refusal-spec : {M : Type 1} → statement M
 next-cut-set-refusal-spec =

@@ -1,0 +1,41 @@
+-- The replies of the entry `next_cut_set`, over plain values. Assumes nothing.
+use mathlib.Core.Path.{_≡_, refl, sym, ap, _∙_}
+use mathlib.Core.Bool.{Bool, cond}
+use mathlib.Core.List.{List, [], _∷_}
+use Prim.Native.Nat.{ℕ}
+use native.Mathlib.Omega.{arith}
+use lib.ListN.{length}
+use Rattle.theory.specs.Moves.{next-cuts}
+use Rattle.theory.specs.Tables.{CutSet}
+use Rattle.theory.specs.Refusals.{refusal}
+use Rattle.theory.specs.Answers.{reply, step-answer}
+use Rattle.theory.specs.declared.CutStep.{CutStep}
+use Rattle.theory.specs.declared.CutStep.the-variants.{Refused}
+use Rattle.theory.proofs.Refusals.{known}
+use Rattle.theory.proofs.Judged.{cuts-fine}
+use Rattle.cuts.specs.Step.{found, or-kept, Stepped}
+use Rattle.mittenschist.specs.Promises.{NextCutSet, next-cut-set-rules}
+use Rattle.mittenschist.proofs.Entries.{refused-reply, taken-reply, refused-kept, taken-done, taken-passes}
+
+module _ (k n : ℕ) (cuts : List ℕ) (number : ℕ) (judged : number ≡ refusal (next-cut-set-rules k n cuts)) where
+  pub refused : (number ≡ 0 → ⊥) → NextCutSet k n cuts (Refused number) cuts
+  refused h =
+      record {
+        reply-is = refused-reply (next-cut-set-rules k n cuts) number judged (cond (found (next-cuts n cuts)) 1 0 ∷ []) h;
+        cuts-are = refused-kept (next-cut-set-rules k n cuts) number judged (or-kept (next-cuts n cuts) cuts) cuts h;
+      }
+
+  module _ (h : number ≡ 0) where
+    pub fine : CutSet (length cuts) n cuts
+    unfolding known
+    fine =
+        let p = taken-passes (next-cut-set-rules k n cuts) number judged refl h in
+        let c = cuts-fine k n cuts (p .0) (p .1 .0) (p .1 .1 .0) in
+        record { least = omega (arith, c .many, c .least); most = omega (arith, c .many, c .most); short = c .short; many = refl; rising = c .rising }
+
+    pub stepped : (answer : CutStep) (b : Bool) (cuts′ : List ℕ) → step-answer answer ≡ reply 0 (cond b 1 0 ∷ []) → Stepped n cuts b cuts′ → NextCutSet k n cuts answer cuts′
+    stepped answer b cuts′ e s =
+        record {
+          reply-is = e ∙ ap (λ b. reply 0 (cond b 1 0 ∷ [])) (s .moved) ∙ taken-reply (next-cut-set-rules k n cuts) number judged (cond (found (next-cuts n cuts)) 1 0 ∷ []) h;
+          cuts-are = s .cuts-after ∙ taken-done (next-cut-set-rules k n cuts) number judged (or-kept (next-cuts n cuts) cuts) cuts h;
+        }
