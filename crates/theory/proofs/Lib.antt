@@ -13,3 +13,4 @@ pub mod Distinct
 pub mod Dictionary
 pub mod Clock
 pub mod Steps
+pub mod Refusals
