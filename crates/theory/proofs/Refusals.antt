@@ -1,12 +1,12 @@
 -- What a refusal number says of the rules: 0 exactly if none applies, else the first number of the order that has a rule which applies. Assumes nothing.
-use mathlib.Core.Path.{_≡_, refl, sym, ap, _∙_}
-use mathlib.Core.Bool.{Bool, true, false, cond, _&&_, _||_, and-eq-true-iff, true≢false}
+use mathlib.Core.Path.{_≡_, refl, sym, ap, _∙_, subst}
+use mathlib.Core.Bool.{Bool, true, false, cond, not, _&&_, _||_, and-eq-true-iff, true≢false}
 use mathlib.Core.Logic.{_⊎_, inl, inr, ⊎-elim}
-use mathlib.Core.List.{List, [], _∷_, _++_, List·Memᴰ, List·Memᴰ·head, List·Memᴰ·tail, List·Memᴰ·cases-cons, List·Memᴰ·not-nil}
-use Prim.Native.Nat.{ℕ, zero, suc}
+use mathlib.Core.List.{List, [], _∷_, _++_, List·Memᴰ, List·Memᴰ·head, List·Memᴰ·tail, List·Memᴰ·cases-cons, List·Memᴰ·not-nil, List·Memᴰ·append-cases}
+use Prim.Native.Nat.{ℕ, zero, suc, _≤_}
 use native.Mathlib.Omega.{arith}
-use lib.Dec.{eqb}
-use borrow.Author.Tests.{eqb-true, eqb-false}
+use lib.Dec.{eqb, leb}
+use borrow.Author.Tests.{eqb-true, eqb-false, leb-true}
 use Rattle.theory.specs.Refusals.{Rule, some, order, either, rules-of, first-in, refusal}
 
 -- No rule applies.
@@ -168,3 +168,62 @@ taken rs p = first order
     first : (ns : List ℕ) → first-in ns rs ≡ 0
     first [] = refl
     first (n ∷ ns) = of n (first-in ns rs) rs p ∙ first ns
+
+-- ---- the order is the document's
+
+-- "The lowest number that applies to the call is given, and no other; 10 comes before all": n is given where m applies too.
+abbrev pub Lower : ℕ → ℕ → Type 0
+Lower n m = (n ≡ 10) ⊎ ((m ≡ 10 → ⊥) × (n ≤ m))
+
+lower : ℕ → ℕ → Bool
+lower n m = eqb n 10 || (not (eqb m 10) && leb n m)
+
+lower-is : (n m : ℕ) → lower n m ≡ true → Lower n m
+unfolding lower
+lower-is n m h = by (eqb n 10) refl (eqb m 10) refl h
+  where
+    by : (a : Bool) → eqb n 10 ≡ a → (b : Bool) → eqb m 10 ≡ b → (a || (not b && leb n m)) ≡ true → Lower n m
+    by true e b f h = inl (eqb-true n 10 e)
+    by false e true f h = absurd (true≢false (sym h))
+    by false e false f h = inr (eqb-false m 10 f, leb-true n m h)
+
+each : (ℕ → Bool) → List ℕ → Bool
+each t [] = true
+each t (x ∷ xs) = t x && each t xs
+
+each-at : (t : ℕ → Bool) (l : List ℕ) → each t l ≡ true → (x : ℕ) → List·Memᴰ x l → t x ≡ true
+unfolding each
+each-at t [] h x i = absurd (List·Memᴰ·not-nil i)
+each-at t (y ∷ l) h x i =
+    let b = and-eq-true-iff (t y) (each t l) .0 h in
+    ⊎-elim (λ e. rw e (b .0)) (each-at t l (b .1) x) (List·Memᴰ·cases-cons i)
+
+-- Each number is lower than those after it.
+sorted : List ℕ → Bool
+sorted [] = true
+sorted (n ∷ ns) = each (lower n) ns && sorted ns
+
+sorted-at : (earlier : List ℕ) (n : ℕ) (later : List ℕ) → sorted (earlier ++ (n ∷ later)) ≡ true → (m : ℕ) → List·Memᴰ m later → lower n m ≡ true
+unfolding sorted
+sorted-at [] n later h = each-at (lower n) later (and-eq-true-iff (each (lower n) later) (sorted later) .0 h .0)
+sorted-at (x ∷ earlier) n later h =
+    sorted-at earlier n later (and-eq-true-iff (each (lower x) (earlier ++ (n ∷ later))) (sorted (earlier ++ (n ∷ later))) .0 h .1)
+
+order-sorted : sorted order ≡ true
+unfolding sorted each lower
+order-sorted = refl
+
+lower-same : (n : ℕ) → Lower n n
+lower-same n = by (eqb n 10) refl
+  where
+    by : (b : Bool) → eqb n 10 ≡ b → Lower n n
+    by true e = inl (eqb-true n 10 e)
+    by false e = inr (eqb-false n 10 e, omega arith)
+
+pub lowest : (rs : List Rule) → known rs ≡ true → (n : ℕ) → refusal rs ≡ suc n → (r : Rule) → List·Memᴰ r rs → r .1 ≡ true → Lower (suc n) (r .0)
+lowest rs k n h r i a =
+    let d = refused-first rs k n h in
+    let j : List·Memᴰ (r .0) (d .earlier ++ (suc n ∷ d .later)) = subst (List·Memᴰ (r .0)) (d .place) (listed (r .0) order (stands rs k r i)) in
+    ⊎-elim (λ e. absurd (true≢false (sym a ∙ d .first r i e)))
+    (λ t. ⊎-elim (λ e. rw e (lower-same (suc n))) (λ l. lower-is (suc n) (r .0) (sorted-at (d .earlier) (suc n) (d .later) (rw (← d .place) order-sorted) (r .0) l)) (List·Memᴰ·cases-cons t))
+    (List·Memᴰ·append-cases (d .earlier) j)

@@ -1,4 +1,4 @@
--- Rounds: segments and reconnecting, the way along stops, length, arrival, deadlines.
+-- Routes (document 01's rounds): segments and reconnecting, length, arrival, deadlines.
 use mathlib.Core.Bool.{Bool, true, false, _&&_, not, cond}
 use mathlib.Core.List.{List, [], _∷_, _++_, map, flatten, reverse}
 use Prim.Native.Nat.{ℕ, zero, suc, _+_, _-_, _*_, _/_, _%_, _^_, _≤_, _<_}
@@ -7,11 +7,12 @@ use lib.ListN.{length, getD, take, drop}
 use lib.Seq.{slice}
 use Rattle.theory.specs.Moves.{Pattern, Move, total}
 
--- The segments from the place `from` on, cut at the places listed: parts of the route.
+-- "Pieces are parts of the round": those from the position `from` on, cut at the positions listed; "cut p lies before position p".
 unfoldable pub segments : ℕ → List ℕ → List ℕ → List (List ℕ)
 segments from [] r = drop from r ∷ []
 segments from (c ∷ cs) r = slice from c r ∷ segments c cs r
 
+-- "Bit i turns piece i."
 unfoldable pub reverses : ℕ → ℕ → Bool
 reverses mask i = eqb ((mask / 2 ^ i) % 2) 1
 
@@ -19,7 +20,7 @@ unfoldable pub reverse-if : Bool → List ℕ → List ℕ
 reverse-if true l = reverse l
 reverse-if false l = l
 
--- The segments with the numbers listed, reversed where the mask says.
+-- The segments with the numbers listed, "copied in pattern order, turned where the mask says".
 unfoldable pub placed : ℕ → List (List ℕ) → List ℕ → List (List ℕ)
 unfolding reverses reverse-if
 placed mask ps o = map (λ i. reverse-if (reverses mask i) (getD ps i [])) o
@@ -28,6 +29,7 @@ unfoldable pub joined : Pattern → List (List ℕ) → List ℕ
 unfolding placed flatten
 joined p ps = flatten (placed (p .mask) ps (p .order))
 
+-- The route after a move.
 unfoldable pub reconnected : Move → List ℕ → List ℕ
 unfolding segments joined
 reconnected m r = joined (m .pattern) (segments 0 (m .cuts) r)
@@ -37,7 +39,7 @@ unfoldable pub count : ℕ → List ℕ → ℕ
 unfolding total
 count x r = total (λ y. cond (eqb x y) 1 0) r
 
--- What polisher and rival share beside k: legs, deadlines, where the tour starts and where it ends.
+-- What "the polisher, and a rival planner" share beside k: "the leg table, the deadlines, the depot".
 pub record Problem : Type 0 where
   pub leg : ℕ → ℕ → ℕ
   pub latest : ℕ → ℕ
@@ -48,16 +50,17 @@ unfoldable pub path : (ℕ → ℕ → ℕ) → ℕ → List ℕ → ℕ
 path d a [] = 0
 path d a (x ∷ xs) = d a x + path d x xs
 
--- The length of a route.
+-- "Length means depot to first stop, each leg, last stop to depot; an empty round has the leg depot to depot."
 unfoldable pub tour-length : Problem → List ℕ → ℕ
 unfolding path
 tour-length P r = path (P .leg) (P .depot) (r ++ (P .depot ∷ []))
 
--- When the stop at place i is reached.
+-- "The legs from the depot up to it": when the stop at position i is reached.
 unfoldable pub arrival : Problem → List ℕ → ℕ → ℕ
 unfolding path
 arrival P r i = path (P .leg) (P .depot) (take (suc i) r)
 
+-- "A stop is late if the legs from the depot up to it exceed its latest."
 unfoldable pub late : Problem → List ℕ → ℕ → Bool
 unfolding arrival
 late P r i = ltb (P .latest (getD r i 0)) (arrival P r i)
@@ -67,10 +70,11 @@ unfoldable pub every : ℕ → (ℕ → Bool) → Bool
 every zero t = true
 every (suc n) t = t n && every n t
 
+-- The running form of the next definition.
 unfoldable pub feasible : Problem → List ℕ → Bool
 unfolding late every
 feasible P r = every (length r) (λ i. not (late P r i))
 
--- No stop is late.
+-- "A round keeps every deadline when none of its stops is late."
 abbrev pub Feasible : Problem → List ℕ → Type 0
 Feasible P r = (i : ℕ) → i < length r → arrival P r i ≤ P .latest (getD r i 0)
