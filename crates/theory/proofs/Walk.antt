@@ -2,12 +2,12 @@
 use mathlib.Core.Path.{_≡_, refl, sym, ap, ap₂, _∙_, subst}
 use mathlib.Core.Bool.{Bool, true, false}
 use mathlib.Core.Option.{Option, none, some}
-use mathlib.Core.List.{List, [], _∷_, _++_, map, flatMap, append-nil}
+use mathlib.Core.List.{List, [], _∷_, _++_, map, flatMap, append-nil, append-assoc, map-append}
 use Prim.Native.Nat.{ℕ, zero, suc, _+_, _-_, _*_, _≤_, _<_}
 use native.Mathlib.Omega.{arith}
 use native.Mathlib.Nat.{le-of-suc-le-suc}
 use lib.Dec.{leb}
-use lib.ListN.{length, getD, drop}
+use lib.ListN.{length, getD, take, drop, take-append-drop}
 use lib.Seq.{drop-cons, drop-length}
 use borrow.Author.Tests.{leb-true, leb-false, lt-leb, le-leb}
 use Rattle.theory.specs.Moves.{upfrom, combinations, cut-sets, next-cuts, Pattern, Move, candidates}
@@ -73,6 +73,14 @@ pub rest-cons : (ps : List Pattern) (n : ℕ) (cs : List ℕ) (i : ℕ) (p : Pat
     rest ps n cs i ≡ record { cuts = cs; pattern = getD ps i p } ∷ rest ps n cs (suc i)
 unfolding rest
 rest-cons ps n cs i p h = rw (drop-cons ps i p h)
+
+-- The first j patterns on the cut set, and then the rest.
+pub rest-split : (ps : List Pattern) (n : ℕ) (cs : List ℕ) (j : ℕ) → rest ps n cs 0 ≡ map (λ p. record { cuts = cs; pattern = p }) (take j ps) ++ rest ps n cs j
+unfolding rest
+rest-split ps n cs j =
+    let f : Pattern → Move = λ p. record { cuts = cs; pattern = p } in
+    ap (λ l. map f l ++ candidates ps (onward n cs)) (sym (take-append-drop j ps))
+    ∙ rw (map-append f (take j ps) (drop j ps)) (append-assoc (map f (take j ps)) (map f (drop j ps)) (candidates ps (onward n cs)))
 
 pub rest-next : (ps : List Pattern) (n : ℕ) (cs cs′ : List ℕ) → next-cuts n cs ≡ some cs′ → rest ps n cs (length ps) ≡ rest ps n cs′ 0
 unfolding rest candidates flatMap
