@@ -1,7 +1,7 @@
 -- Segments by their bounds, and one turn of the loop that puts them together. Assumes nothing.
 use mathlib.Core.Path.{_≡_, refl, sym, ap, _∙_}
 use mathlib.Core.Bool.{Bool, true, false}
-use mathlib.Core.List.{List, [], _∷_, _++_, append-nil, append-assoc, flatten, List·Memᴰ, List·Memᴰ·head, List·Memᴰ·tail}
+use mathlib.Core.List.{List, [], _∷_, _++_, append-nil, append-assoc, flatten}
 use Prim.Native.Nat.{ℕ, zero, suc, _+_, _-_, _<_, _≤_}
 use native.Mathlib.Numerals.{add-one}
 use native.Mathlib.Omega.{arith}
@@ -13,6 +13,7 @@ use Rattle.theory.specs.Tables.{CutSet, Order}
 use Rattle.theory.proofs.Moves.{total-ones}
 use Rattle.theory.proofs.Orders.{in-range}
 use Rattle.theory.proofs.Route.{total-reconnected}
+use Rattle.theory.proofs.Stops.{getD-mem}
 use Rattle.theory.proofs.Delta.{length-reverse-if}
 use Rattle.reconnection.specs.Segments.{bound, Reconnectable}
 
@@ -56,11 +57,6 @@ rise from low n (c ∷ cs) (suc i) h l t k = rise c (suc c) n cs i (omega arith)
 
 pub bounds-rise : (cs : List ℕ) (n i : ℕ) → Rising 0 cs n → i ≤ length cs → (bound cs n i ≤ bound cs n (i + 1)) × (bound cs n (i + 1) ≤ n)
 bounds-rise cs n i t k = rw (add-one i) (rise 0 0 n cs i (omega arith) (omega arith) t k)
-
-getD-mem : (l : List ℕ) (i : ℕ) → i < length l → List·Memᴰ (getD l i 0) l
-getD-mem [] i h = absurd (omega arith)
-getD-mem (x ∷ l) zero h = List·Memᴰ·head refl
-getD-mem (x ∷ l) (suc i) h = List·Memᴰ·tail (getD-mem l i (omega arith))
 
 -- What is still to be put: the segments that the order names from a place on.
 pub rest : ℕ → List (List ℕ) → List ℕ → ℕ → List ℕ

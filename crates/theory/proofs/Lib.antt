@@ -14,5 +14,6 @@ pub mod Dictionary
 pub mod Clock
 pub mod Steps
 pub mod Cuts
+pub mod Stops
 pub mod Refusals
 pub mod Judged

@@ -1,0 +1,42 @@
+-- Stops by their positions: a rearranged route has as many stops, and all of them are known locations. Assumes nothing.
+use mathlib.Core.Path.{_≡_, refl, sym, ap, _∙_}
+use mathlib.Core.Bool.{cond}
+use mathlib.Core.Logic.{⊎-elim}
+use mathlib.Core.List.{List, [], _∷_, List·Memᴰ, List·Memᴰ·head, List·Memᴰ·tail, List·Memᴰ·cases-cons, List·Memᴰ·not-nil}
+use Prim.Native.Nat.{ℕ, zero, suc, _<_, _≤_}
+use native.Mathlib.Omega.{arith}
+use lib.Dec.{eqb}
+use lib.ListN.{length, getD}
+use Rattle.theory.specs.Moves.{total}
+use Rattle.theory.specs.Route.{count}
+use Rattle.theory.specs.Tables.{Stops}
+use Rattle.theory.proofs.Moves.{total-ones}
+use Rattle.theory.proofs.Orders.{count-mem, mem-count}
+
+-- What stands at a position stands in the list, and the other way round.
+pub getD-mem : (l : List ℕ) (i : ℕ) → i < length l → List·Memᴰ (getD l i 0) l
+getD-mem [] i h = absurd (omega arith)
+getD-mem (x ∷ l) zero h = List·Memᴰ·head refl
+getD-mem (x ∷ l) (suc i) h = List·Memᴰ·tail (getD-mem l i (omega arith))
+
+pub mem-getD : (x : ℕ) (l : List ℕ) → List·Memᴰ x l → (i : ℕ) × (i < length l) × (getD l i 0 ≡ x)
+mem-getD x [] m = absurd (List·Memᴰ·not-nil m)
+mem-getD x (y ∷ l) m = ⊎-elim (λ e. (0, omega arith, sym e)) (λ n. let t = mem-getD x l n in (suc (t .0), omega (arith, t .1), t .2)) (List·Memᴰ·cases-cons m)
+
+same-count : (r r′ : List ℕ) → ((g : ℕ → ℕ) → total g r′ ≡ total g r) → (x : ℕ) → count x r′ ≡ count x r
+unfolding count
+same-count r r′ same x = same (λ y. cond (eqb x y) 1 0)
+
+module _ (r r′ : List ℕ) (same : (g : ℕ → ℕ) → total g r′ ≡ total g r) where
+  pub as-many : length r′ ≡ length r
+  as-many = sym (total-ones r′) ∙ same (λ x. 1) ∙ total-ones r
+
+  pub stops-rearranged : (locations : ℕ) → Stops locations r → Stops locations r′
+  stops-rearranged locations s = record { short = omega (arith, as-many, s .short); known = known }
+    where
+      known : (i : ℕ) → i < length r′ → getD r′ i 0 < locations
+      known i h =
+          let x = getD r′ i 0 in
+          let m : List·Memᴰ x r = mem-count x r (omega (arith, same-count r r′ same x, count-mem x r′ (getD-mem r′ i h))) in
+          let t = mem-getD x r m in
+          rw (← (t .2)) (s .known (t .0) (t .1))
