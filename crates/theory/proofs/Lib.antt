@@ -11,3 +11,4 @@ pub mod Orders
 pub mod Distinct
 pub mod Clock
 pub mod Steps
+pub mod ForK
