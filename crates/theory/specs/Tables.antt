@@ -1,7 +1,7 @@
 -- The lent tables as a problem, and what the checks establish of them (the `requires` of the crates above).
 use mathlib.Core.Path.{_≡_}
-use mathlib.Core.List.{List, []}
-use Prim.Native.Nat.{ℕ, suc, _+_, _*_, _≤_, _<_}
+use mathlib.Core.List.{List, [], _∷_, _++_}
+use Prim.Native.Nat.{ℕ, suc, _+_, _-_, _*_, _^_, _≤_, _<_}
 use lib.ListN.{length, getD}
 use Rattle.theory.specs.Moves.{Pattern, Rising, total, upfrom}
 use Rattle.theory.specs.Route.{Problem}
@@ -45,3 +45,12 @@ pub record CutSet (k n : ℕ) (cuts : List ℕ) : Type 0 where
 -- A pattern for k cuts, as it is handed on: the order holds each of the segments 0 to k once, and the mask is a byte.
 pub record Order (k : ℕ) (order : List ℕ) : Type 0 where
   pub once : (g : ℕ → ℕ) → total g order ≡ total g (upfrom 0 (suc k))
+
+-- "Piece 0 stays first and piece k last, both unturned": the middle segments 1 to k - 1 stand once each, and the mask is of them, shifted left by one.
+pub record ForK (k : ℕ) (order : List ℕ) (mask : ℕ) : Type 0 where
+  pub middle : List ℕ
+  pub bits : ℕ
+  pub order-is : order ≡ 0 ∷ (middle ++ (k ∷ []))
+  pub once : (g : ℕ → ℕ) → total g middle ≡ total g (upfrom 1 (k - 1))
+  pub mask-is : mask ≡ 2 * bits
+  pub few : bits < 2 ^ (k - 1)
