@@ -13,11 +13,8 @@ pub mod Distinct
 pub mod Dictionary
 pub mod Clock
 pub mod Steps
-<<<<<<< HEAD
 pub mod Cuts
 pub mod Stops
 pub mod Refusals
 pub mod Judged
-=======
 pub mod ForK
->>>>>>> 5b6cab2bd97ef883d97638e3c550cbd46a904147
