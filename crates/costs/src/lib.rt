@@ -53,7 +53,13 @@ fn step(locations: usize, legs: &[u32], route: &[u32], t: usize, backwards: bool
 }
 
 // The running sums in one direction.
-fn running_sums(locations: usize, legs: &[u32], route: &[u32], backwards: bool, sums: &mut [u64; 512])
+fn running_sums(
+    locations: usize,
+    legs: &[u32],
+    route: &[u32],
+    backwards: bool,
+    sums: &mut [u64; 512],
+)
     requires { ⌜ Summable locations (now legs) (now route) (now sums) ⌝ }
     ensures { λ _. ⌜ Summed (now (route .entry)) (running backwards (leg locations (now (legs .entry))) (now (route .entry))) (now (sums .entry)) (now (sums .exit)) ⌝ }
 {
@@ -151,10 +157,16 @@ fn place(
     let back = route[end - 1];
     if reversed {
         let to_back = route_distance(locations, legs, previous, back);
-        return Placed { seconds: to_back + inner(backward, start, end), last: front };
+        return Placed {
+            seconds: to_back + inner(backward, start, end),
+            last: front,
+        };
     }
     let to_front = route_distance(locations, legs, previous, front);
-    Placed { seconds: to_front + inner(forward, start, end), last: back }
+    Placed {
+        seconds: to_front + inner(forward, start, end),
+        last: back,
+    }
 }
 
 // The segment of a number after the stop `previous`.
@@ -177,7 +189,17 @@ fn place_segment(
     let start = cuts[segment - 1];
     let end = cuts[segment];
     let reversed = should_reverse(mask, segment);
-    place(locations, legs, route, forward, backward, start, end, reversed, previous)
+    place(
+        locations,
+        legs,
+        route,
+        forward,
+        backward,
+        start,
+        end,
+        reversed,
+        previous,
+    )
 }
 
 // From the head's end through the middle segments, placed in an order, to the tail's start.
@@ -205,7 +227,15 @@ fn cost(
     while position < cuts.len() {
         let segment = order[position] as usize;
         let placed = place_segment(
-            locations, legs, route, forward, backward, cuts, mask, segment, previous,
+            locations,
+            legs,
+            route,
+            forward,
+            backward,
+            cuts,
+            mask,
+            segment,
+            previous,
         );
         total += placed.seconds;
         previous = placed.last;
@@ -232,7 +262,29 @@ pub fn delta(
     let from = head_end(depot, route, cuts);
     let to = tail_start(depot, route, cuts);
     let standing = [0u8, 1, 2, 3, 4, 5];
-    let current = cost(locations, legs, route, forward, backward, cuts, &standing, 0, from, to);
-    let proposed = cost(locations, legs, route, forward, backward, cuts, order, mask, from, to);
+    let current = cost(
+        locations,
+        legs,
+        route,
+        forward,
+        backward,
+        cuts,
+        &standing,
+        0,
+        from,
+        to,
+    );
+    let proposed = cost(
+        locations,
+        legs,
+        route,
+        forward,
+        backward,
+        cuts,
+        order,
+        mask,
+        from,
+        to,
+    );
     proposed as i64 - current as i64
 }

@@ -22,8 +22,8 @@ Inv-loop locations legs route forward backward cuts order mask head-end tail-sta
     × (previous < locations)
     × (total ≤ 512000000 * (position - 1))
     × (
-      total + through (leg locations legs) previous (placed mask (segments 0 cuts route) (slice position (length cuts) order)) tail-start
-      ≡ through (leg locations legs) head-end (placed mask (segments 0 cuts route) (slice 1 (length cuts) order)) tail-start
+    total + through (leg locations legs) previous (placed mask (segments 0 cuts route) (slice position (length cuts) order)) tail-start
+    ≡ through (leg locations legs) head-end (placed mask (segments 0 cuts route) (slice 1 (length cuts) order)) tail-start
     )
 
 abbrev μ-loop : tie.MeasureT-loop
@@ -95,8 +95,12 @@ returns c =
     let s = c .before .before .before .before .before .before .before in
     let d = c .route-distance .ensures in
     record {
-      is = omega (arith, l .inv .4, d .is,
-      last-through (leg (s .args .locations) (s .args .legs .now)) (s .args .mask) (segments 0 (s .args .cuts .now) (s .args .route .now)) (s .args .order .now) (length (s .args .cuts .now)) (l .previous) (l .position) (s .args .tail-start) (omega arith));
+      is = omega (
+        arith,
+        l .inv .4,
+        d .is,
+        last-through (leg (s .args .locations) (s .args .legs .now)) (s .args .mask) (segments 0 (s .args .cuts .now) (s .args .route .now)) (s .args .order .now) (length (s .args .cuts .now)) (l .previous) (l .position) (s .args .tail-start) (omega arith),
+      );
       small = omega (arith, d .small, l .inv .3, l .inv .1, s .pre .1 .0 .most);
     }
 

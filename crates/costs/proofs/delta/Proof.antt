@@ -33,20 +33,36 @@ slice-aggregate-cost c = search needs
 -- src/lib.rt:235:9
 cost-requires : tie.Need-cost-requires
 cost-requires c κs =
-    let s = c .before .before .before .before .before .before .before in
-    (costs-of s, (s .pre .cut-set, (standing-order (length (s .args .cuts .now)) (s .pre .cut-set .most), (
-      rw (c .before .before .head-end .ensures) (head-known (s .args .cuts .now) (s .args .route .now) (s .pre .cut-set) (s .args .locations) (s .args .depot) (s .pre .measurable .stops) (s .pre .measurable .depot-known)),
-      rw (c .before .tail-start .ensures) (tail-known (s .args .cuts .now) (s .args .route .now) (s .pre .cut-set) (s .args .locations) (s .args .depot) (s .pre .measurable .stops) (s .pre .measurable .depot-known)),
-    ))))
+    let s = c .before .before .before .before .before .before .before in (
+      costs-of s,
+      (
+        s .pre .cut-set,
+        (
+          standing-order (length (s .args .cuts .now)) (s .pre .cut-set .most),
+          (
+            rw (c .before .before .head-end .ensures) (head-known (s .args .cuts .now) (s .args .route .now) (s .pre .cut-set) (s .args .locations) (s .args .depot) (s .pre .measurable .stops) (s .pre .measurable .depot-known)),
+            rw (c .before .tail-start .ensures) (tail-known (s .args .cuts .now) (s .args .route .now) (s .pre .cut-set) (s .args .locations) (s .args .depot) (s .pre .measurable .stops) (s .pre .measurable .depot-known)),
+          ),
+        ),
+      ),
+    )
 
 -- src/lib.rt:236:9
 cost-requires-2 : tie.Need-cost-requires-2
 cost-requires-2 c κs =
-    let s = c .before .before .before .before .before .before .before .before in
-    (costs-of s, (s .pre .cut-set, (pattern-middle (length (s .args .cuts .now)) (s .args .order .now) (s .args .mask) (s .pre .cut-set .least) (s .pre .pattern), (
-      rw (c .before .before .before .head-end .ensures) (head-known (s .args .cuts .now) (s .args .route .now) (s .pre .cut-set) (s .args .locations) (s .args .depot) (s .pre .measurable .stops) (s .pre .measurable .depot-known)),
-      rw (c .before .before .tail-start .ensures) (tail-known (s .args .cuts .now) (s .args .route .now) (s .pre .cut-set) (s .args .locations) (s .args .depot) (s .pre .measurable .stops) (s .pre .measurable .depot-known)),
-    ))))
+    let s = c .before .before .before .before .before .before .before .before in (
+      costs-of s,
+      (
+        s .pre .cut-set,
+        (
+          pattern-middle (length (s .args .cuts .now)) (s .args .order .now) (s .args .mask) (s .pre .cut-set .least) (s .pre .pattern),
+          (
+            rw (c .before .before .before .head-end .ensures) (head-known (s .args .cuts .now) (s .args .route .now) (s .pre .cut-set) (s .args .locations) (s .args .depot) (s .pre .measurable .stops) (s .pre .measurable .depot-known)),
+            rw (c .before .before .tail-start .ensures) (tail-known (s .args .cuts .now) (s .args .route .now) (s .pre .cut-set) (s .args .locations) (s .args .depot) (s .pre .measurable .stops) (s .pre .measurable .depot-known)),
+          ),
+        ),
+      ),
+    )
 
 -- src/lib.rt:237:5
 cast-result : tie.Need-cast-result

@@ -35,12 +35,14 @@ should-reverse-requires c κs = search needs
 -- src/lib.rt:180:5
 place-requires : tie.Need-place-requires
 place-requires c κs =
-    let s = c .before .before .before .before .before .before in
-    (s .pre .0, (
-      segment-filled (s .args .cuts .now) (s .args .route .now) (s .pre .1 .0) (s .args .segment) (s .pre .1 .1 .0) (s .pre .1 .1 .1),
-      cut-below (s .args .cuts .now) (s .args .route .now) (s .pre .1 .0) (s .args .segment) (s .pre .1 .1 .1),
-      s .pre .1 .1 .2,
-    ))
+    let s = c .before .before .before .before .before .before in (
+      s .pre .0,
+      (
+        segment-filled (s .args .cuts .now) (s .args .route .now) (s .pre .1 .0) (s .args .segment) (s .pre .1 .1 .0) (s .pre .1 .1 .1),
+        cut-below (s .args .cuts .now) (s .args .route .now) (s .pre .1 .0) (s .args .segment) (s .pre .1 .1 .1),
+        s .pre .1 .1 .2,
+      ),
+    )
 
 -- src/lib.rt:161:1
 returns : tie.Need-returns
