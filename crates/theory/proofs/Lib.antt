@@ -8,6 +8,7 @@ pub mod Walk
 pub mod Delta
 pub mod Excluded
 pub mod Orders
+pub mod Index
 pub mod Distinct
 pub mod Clock
 pub mod Steps
