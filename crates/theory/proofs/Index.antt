@@ -5,11 +5,11 @@ use mathlib.Core.List.{List, [], _∷_, _++_, map, flatMap, tail, List·Memᴰ, 
 use Prim.Native.Nat.{ℕ, zero, suc, _+_, _-_, _*_, _/_, _%_, _^_, _≤_, _<_}
 use native.Mathlib.Omega.{arith}
 use native.Mathlib.Nat.{zero-add, suc-mul, div-add-mod', div-lt-iff-lt-mul, mod-lt, pow-succ'}
-use lib.ListN.{length, getD, length-append, length-map, List·getD-append, List·getD-map}
+use lib.ListN.{length, getD, take, drop, length-append, length-map, List·getD-append, List·getD-map}
 use lib.Seq.{getD-append-add}
 use lib.Pow.{pow-pos}
-use Rattle.theory.specs.Moves.{upfrom, total, orders, Pattern, arrangements, patterns, factorial}
-use Rattle.theory.proofs.Moves.{length-upfrom, length-flatMap, length-orders, length-arrangements, length-patterns, total-orders, total-ones, pattern-shape, rearranges}
+use Rattle.theory.specs.Moves.{upfrom, total, picks, orders, Pattern, arrangements, patterns, factorial}
+use Rattle.theory.proofs.Moves.{length-upfrom, length-flatMap, length-picks, length-orders, length-arrangements, length-patterns, total-orders, total-ones, pattern-shape, rearranges}
 use Rattle.theory.proofs.Orders.{in-range}
 
 -- Lists of one length n, one after the other: place r of the one at q.
@@ -31,6 +31,11 @@ getD-upfrom f zero i d h = absurd (omega arith)
 getD-upfrom f (suc n) zero d h = omega arith
 getD-upfrom f (suc n) (suc i) d h = omega (arith, getD-upfrom (suc f) n i d (omega arith))
 
+pub getD-map : {A B : Type 0} (g : A → B) (l : List A) (i : ℕ) (e : A) (d : B) → i < length l → getD (map g l) i d ≡ g (getD l i e)
+getD-map g [] i e d h = absurd (omega arith)
+getD-map g (x ∷ xs) zero e d h = refl
+getD-map g (x ∷ xs) (suc i) e d h = getD-map g xs i e d (omega arith)
+
 getD-tail : {A : Type 0} (l : List A) (i : ℕ) (d : A) → getD (tail l) i d ≡ getD l (suc i) d
 getD-tail [] zero d = refl
 getD-tail [] (suc i) d = refl
@@ -41,14 +46,18 @@ mem-getD [] i d h = absurd (omega arith)
 mem-getD (x ∷ xs) zero d h = List·Memᴰ·head refl
 mem-getD (x ∷ xs) (suc i) d h = List·Memᴰ·tail (mem-getD xs i d (omega arith))
 
+-- The element at i, taken out.
+pub picks-at : (l : List ℕ) (i : ℕ) (d : ℕ × List ℕ) → i < length l → getD (picks l) i d ≡ (getD l i 0, take i l ++ drop (suc i) l)
+unfolding picks
+picks-at [] i d h = absurd (omega arith)
+picks-at (x ∷ xs) zero d h = refl
+picks-at (x ∷ xs) (suc i) d h =
+    let more : ℕ × List ℕ → ℕ × List ℕ = λ p. (p .0, x ∷ p .1) in
+    getD-map more (picks xs) i d d (rw length-picks (omega arith)) ∙ ap more (picks-at xs i d (omega arith))
+
 -- Each order of n segments has n.
 pub length-order : (n : ℕ) (l o : List ℕ) → length l ≡ n → List·Memᴰ o (orders n l) → length o ≡ n
 length-order n l o h i = omega (arith, total-orders (λ x. 1) n l h o i, total-ones o, total-ones l)
-
-pub getD-map : {A B : Type 0} (g : A → B) (l : List A) (i : ℕ) (e : A) (d : B) → i < length l → getD (map g l) i d ≡ g (getD l i e)
-getD-map g [] i e d h = absurd (omega arith)
-getD-map g (x ∷ xs) zero e d h = refl
-getD-map g (x ∷ xs) (suc i) e d h = getD-map g xs i e d (omega arith)
 
 -- The arrangement of m middle segments with index t: the order at t / 2 ^ m, with mask t % 2 ^ m shifted left by one.
 abbrev pub arranged : ℕ → ℕ → Pattern
