@@ -1,6 +1,6 @@
 -- The rows of the orders, as the recursion meets them: with each item taken out in turn. Assumes nothing.
 use mathlib.Core.Path.{_≡_, refl, sym, ap, _∙_}
-use mathlib.Core.List.{List, [], _∷_, _++_, map, flatMap, append-nil, append-assoc}
+use mathlib.Core.List.{List, [], _∷_, _++_, map, flatMap, flatten, append-nil, append-assoc}
 use Prim.Native.Nat.{ℕ, zero, suc, _+_, _-_, _≤_, _<_}
 use native.Mathlib.Numerals.{add-one}
 use native.Mathlib.Omega.{arith}
@@ -13,13 +13,13 @@ use Rattle.patterns.specs.Rows.{rows, permutations}
 use Rattle.patterns.proofs.Stores.{sets-append, sets-cons}
 
 rows-append : (front : List ℕ) (xs ys : List (List ℕ)) → rows front (xs ++ ys) ≡ rows front xs ++ rows front ys
-unfolding rows flatMap
+unfolding rows flatten
 rows-append front [] ys = refl
 rows-append front (x ∷ xs) ys = rw (rows-append front xs ys) (sym (append-assoc (front ++ x) (rows front xs) (rows front ys)))
 
 -- An item before each order goes behind the segments that are placed.
 rows-cons : (front : List ℕ) (x : ℕ) (os : List (List ℕ)) → rows front (map (λ o. x ∷ o) os) ≡ rows (front ++ (x ∷ [])) os
-unfolding rows flatMap
+unfolding rows flatten
 rows-cons front x [] = refl
 rows-cons front x (o ∷ os) = rw (rows-cons front x os, append-assoc front (x ∷ []) o)
 
@@ -28,7 +28,7 @@ unfoldable pub rows-from : List ℕ → ℕ → List ℕ → ℕ → List ℕ
 rows-from front left l i = rows front (flatMap (λ p. map (λ o. p .0 ∷ o) (orders (left - 1) (p .1))) (drop i (picks l)))
 
 pub none-left : (items row : List ℕ) (left depth : ℕ) → left ≡ 0 → permutations items left row depth ≡ take depth row
-unfolding rows flatMap orders
+unfolding rows flatten orders
 none-left items row left depth z = rw z (append-nil (take depth row ++ []) ∙ append-nil (take depth row))
 
 pub rows-first : (front : List ℕ) (left : ℕ) (l : List ℕ) → 0 < left → rows front (orders left l) ≡ rows-from front left l 0
@@ -47,7 +47,7 @@ rows-next front left l i h =
     (rows-append front (map (λ o. getD l i 0 ∷ o) os) others ∙ ap (λ (r : List ℕ). r ++ rows-from front left l (suc i)) (rows-cons front (getD l i 0) os))
 
 pub rows-last : (front : List ℕ) (left : ℕ) (l : List ℕ) → rows-from front left l (length l) ≡ []
-unfolding rows-from rows flatMap
+unfolding rows-from rows flatten flatMap
 rows-last front left l = rw (← (length-picks l), drop-length)
 
 -- The first n items where the one at i is gone.

@@ -2,10 +2,9 @@
 use mathlib.Core.Path.{_≡_}
 use mathlib.Core.List.{List, [], _∷_, _++_, map, flatten}
 use Prim.Native.Nat.{ℕ, _+_, _-_, _*_, _≤_, _<_}
-use lib.ListN.{length, getD, set, drop, replicate}
+use lib.ListN.{length, getD, take, set, drop, replicate}
 use lib.Seq.{sets}
 use Rattle.theory.specs.Moves.{Pattern, patterns, orders, upfrom}
-use Rattle.patterns.specs.Rows.{rows}
 use Rattle.theory.specs.declared.KOptReconnection.{KOptReconnection}
 
 -- "1: k outside 2 to 5."
@@ -39,11 +38,19 @@ pub record Holds (k : ℕ) (p : Pattern) (r : KOptReconnection) : Type 0 where
   pub mask : r .«reverse_mask» ≡ p .mask
   pub segments : r .len ≡ k + 1
 
--- One turn of the enumeration: the rows of the orders of the middle segments stand in the permutations.
+-- "The middle orders come in dictionary order"
+abbrev pub middle-orders : ℕ → List (List ℕ)
+middle-orders k = orders (k - 1) (upfrom 1 (k - 1))
+
+pub record OrderRoom (middle : List ℕ) (k : ℕ) (out : List ℕ) (at : ℕ) : Type 0 where
+  pub few : k ≤ 5
+  pub middles : length middle + 1 ≡ k
+  pub room : at + k < length out
+
+-- One turn of the enumeration: the permutations begin with the middle orders, one after the other.
 pub record Ready (k index : ℕ) (permutations orders₀ masks₀ : List ℕ) : Type 0 where
   pub listed : Listed k index
-  pub rest : List ℕ
-  pub permuted : permutations ≡ rows [] (orders (k - 1) (upfrom 1 (k - 1))) ++ rest
+  pub permuted : take (length (flatten (middle-orders k))) permutations ≡ flatten (middle-orders k)
   pub order : (index + 1) * (k + 1) ≤ length orders₀
   pub mask : index < length masks₀
 

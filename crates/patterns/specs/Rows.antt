@@ -1,6 +1,6 @@
 -- Orders as rows of bytes, one after the other, and what the recursion that writes them is told and tells.
 use mathlib.Core.Path.{_≡_}
-use mathlib.Core.List.{List, [], _∷_, _++_, flatMap}
+use mathlib.Core.List.{List, _++_, map, flatten}
 use Prim.Native.Nat.{ℕ, _+_, _≤_, _<_}
 use lib.ListN.{length, take, drop}
 use lib.Seq.{sets}
@@ -8,8 +8,8 @@ use Rattle.theory.specs.Moves.{orders}
 
 -- The orders, each behind the same segments.
 unfoldable pub rows : List ℕ → List (List ℕ) → List ℕ
-unfolding flatMap
-rows front os = flatMap (λ o. front ++ o) os
+unfolding flatten
+rows front os = flatten (map (λ o. front ++ o) os)
 
 -- What the recursion writes: the first `depth` of the row are placed, and the first `left` of the items are still to be ordered.
 abbrev pub permutations : List ℕ → ℕ → List ℕ → ℕ → List ℕ

@@ -6,7 +6,7 @@ ghost use lib.ListN.{length, drop};
 ghost use lib.Seq.{sets};
 ghost use Rattle.theory.specs.Moves.{patterns};
 ghost use Rattle.patterns.specs.Rows.{RowRoom, Permuted};
-ghost use Rattle.patterns.specs.Enumeration.{CutCount, Ready, Put, PatternRoom, Enumerated, pattern, Listed, Holds};
+ghost use Rattle.patterns.specs.Enumeration.{CutCount, OrderRoom, Ready, Put, PatternRoom, Enumerated, pattern, Listed, Holds};
 
 // A part into out from `at` on.
 fn copy_in(part: &[u8], out: &mut [u8], at: usize)
@@ -85,7 +85,7 @@ pub fn pattern_count(k: usize) -> usize
 
 // An order into out from `at` on: segment 0, the middle segments, segment k.
 fn put_order(middle: &[u8], k: usize, out: &mut [u8], at: usize)
-    requires { ⌜ (CutCount k) × (length (now middle) + 1 ≡ k) × (at + k < length (now out)) ⌝ }
+    requires { ⌜ OrderRoom (now middle) k (now out) at ⌝ }
     ensures { λ _. ⌜ now (out .exit) ≡ sets (now (out .entry)) at (0 ∷ (now (middle .entry) ++ (k ∷ []))) ⌝ }
 {
     out[at] = 0;
