@@ -3,15 +3,15 @@ use mathlib.Core.Path.{_≡_, refl, sym, ap, _∙_}
 use mathlib.Core.List.{List, [], _∷_, _++_, map, flatten, List·Memᴰ, Memᴰ·of-map}
 use Prim.Native.Nat.{ℕ, zero, suc, _+_, _-_, _*_, _≤_, _<_}
 use native.Mathlib.Numerals.{add-one}
-use native.Mathlib.Nat.{zero-add, suc-mul, mul-le-mul}
+use native.Mathlib.Nat.{zero-add, suc-mul, mul-le-mul, sub-zero, zero-sub, suc-sub-suc}
 use native.Mathlib.Omega.{arith}
-use lib.ListN.{length, getD, take, drop, set, length-map}
+use lib.ListN.{length, getD, take, drop, set, replicate, length-map, List·getD-append}
 use lib.Seq.{sets, sets-eq, drop-cons, drop-length, take-at}
 use Rattle.theory.specs.Moves.{Pattern, orders, upfrom, patterns, factorial}
 use Rattle.theory.proofs.Moves.{length-upfrom, length-orders}
 use Rattle.theory.proofs.Index.{length-pattern, mem-getD, getD-map}
 use Rattle.patterns.specs.Rows.{rows, permutations}
-use Rattle.patterns.specs.Enumeration.{CutCount, Listed, pattern, middle-orders, PatternRoom}
+use Rattle.patterns.specs.Enumeration.{CutCount, Listed, pattern, middle-orders, Enumerated}
 use Rattle.patterns.proofs.Stores.{sets-append}
 use Rattle.patterns.proofs.Strides.{length-flatten, row-at}
 use Rattle.patterns.proofs.Turn.{each-middle}
@@ -116,3 +116,31 @@ module _ (k n : ℕ) (most : k ≤ 5) (all : n ≡ length (patterns k)) where
       let r : 0 + length (masks-of (patterns k)) ≤ length out₀ = omega (arith, c, few-patterns k most) in
       let d : drop n (patterns k) ≡ [] = rw all (drop-length (patterns k)) in
       (rw d at e) ∙ sets-eq (masks-of (patterns k)) out₀ 0 r ∙ ap (λ (m : ℕ). masks-of (patterns k) ++ drop m out₀) (zero-add (length (masks-of (patterns k))) ∙ c)
+
+-- ---- one pattern, read back
+
+drop-replicate : (m n a : ℕ) → drop n (replicate m a) ≡ replicate (m - n) a
+drop-replicate m zero a = ap (λ (i : ℕ). replicate i a) (sym (sub-zero m))
+drop-replicate zero (suc n) a = ap (λ (i : ℕ). replicate i a) (sym (zero-sub (suc n)))
+drop-replicate (suc m) (suc n) a = drop-replicate m n a ∙ ap (λ (i : ℕ). replicate i a) (sym (suc-sub-suc m n))
+
+order-row : (k index : ℕ) → index < length (patterns k) → (rest : List ℕ) → take (k + 1) (drop (index * (k + 1)) (orders-of (patterns k) ++ rest)) ≡ pattern k index .order
+order-row k index known rest =
+    row-at (k + 1) (map (λ p. p .order) (patterns k)) (each-order k) index (rw length-map known) rest
+    ∙ getD-map (λ p. p .order) (patterns k) index (record { order = []; mask = 0 }) [] known
+
+module _ (k index r : ℕ) (out₀ masks₀ out masks : List ℕ) (listed : Listed k index) (e : Enumerated k out₀ masks₀ r out masks) where
+  pub mask-read : getD masks index 0 ≡ pattern k index .mask
+  mask-read =
+      ap (λ (l : List ℕ). getD l index 0) (e .masks)
+      ∙ List·getD-append (masks-of (patterns k)) (drop (length (patterns k)) masks₀) 0 index (rw length-map (listed .known))
+      ∙ getD-map (λ p. p .mask) (patterns k) index (record { order = []; mask = 0 }) 0 (listed .known)
+
+  pub order-read : (last : List ℕ) → last ≡ sets (replicate 6 0) 0 (take (index * (k + 1) + (k + 1) - index * (k + 1)) (drop (index * (k + 1)) out)) →
+      last ≡ pattern k index .order ++ replicate (5 - k) 0
+  order-read last h =
+      let w : index * (k + 1) + (k + 1) - index * (k + 1) ≡ k + 1 = omega arith in
+      let row : take (index * (k + 1) + (k + 1) - index * (k + 1)) (drop (index * (k + 1)) out) ≡ pattern k index .order = rw (w, e .orders) (order-row k index (listed .known) (drop (length (patterns k) * (k + 1)) out₀)) in
+      let c : 0 + length (pattern k index .order) ≡ suc k = omega (arith, length-pattern k (pattern k index) (mem-getD (patterns k) index (record { order = []; mask = 0 }) (listed .known))) in
+      let m : 0 + length (pattern k index .order) ≤ 6 = omega (arith, listed .cuts .most) in
+      h ∙ rw row (sets-eq (pattern k index .order) (replicate 6 0) 0 m ∙ ap (λ (n : ℕ). pattern k index .order ++ drop n (replicate 6 0)) c ∙ ap (λ (l : List ℕ). pattern k index .order ++ l) (drop-replicate 5 k 0))

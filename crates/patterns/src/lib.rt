@@ -131,13 +131,14 @@ pub fn pattern_at(k: usize, index: usize) -> theory::KOptReconnection
     let mut orders = [0u8; 2298];
     let mut masks = [0u8; 383];
     let _ = enumerate_reconnections(k, &mut orders, &mut masks);
-    let from = index * (k + 1);
-    let end = from + k + 1;
+    let width = k + 1;
+    let from = index * width;
+    let end = from + width;
     let mut places = [0u8; 6];
     copy_in(&orders[from..end], &mut places, 0);
     theory::KOptReconnection {
         segment_order: places,
         reverse_mask: masks[index],
-        len: (k + 1) as u8,
+        len: width as u8,
     }
 }
