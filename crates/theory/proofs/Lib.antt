@@ -9,6 +9,7 @@ pub mod Delta
 pub mod Links
 pub mod Excluded
 pub mod Orders
+pub mod Index
 pub mod Distinct
 pub mod Dictionary
 pub mod Clock

@@ -1,0 +1,144 @@
+// The reconnection patterns for k cuts, after k_opt_reconnection.rs: an order of the k + 1 segments and a reversal mask each. No entry is here.
+ghost use mathlib.Core.Path.{_≡_};
+ghost use mathlib.Core.List.{_++_, _∷_, []};
+ghost use Prim.Native.Nat.{_+_, _-_, _*_, _^_, _≤_, _<_};
+ghost use lib.ListN.{length, drop};
+ghost use lib.Seq.{sets};
+ghost use Rattle.theory.specs.Moves.{patterns};
+ghost use Rattle.patterns.specs.Rows.{RowRoom, Permuted};
+ghost use Rattle.patterns.specs.Enumeration.{CutCount, OrderRoom, Ready, Put, PatternRoom, Enumerated, pattern, Listed, Holds};
+
+// A part into out from `at` on.
+fn copy_in(part: &[u8], out: &mut [u8], at: usize)
+    requires { ⌜ at + length (now part) ≤ length (now out) ⌝ }
+    ensures { λ _. ⌜ now (out .exit) ≡ sets (now (out .entry)) at (now (part .entry)) ⌝ }
+{
+    for j in 0..part.len() {
+        out[at + j] = part[j];
+    }
+}
+
+// The items with those after i moved up by one: the one at i is gone, and the last stands twice.
+fn remove(items: [u8; 4], i: usize) -> [u8; 4]
+    requires { ⌜ i < 4 ⌝ }
+    ensures { λ r. ⌜ r ≡ sets items i (drop (i + 1) items) ⌝ }
+{
+    let mut rest = items;
+    let next = i + 1;
+    copy_in(&items[next..], &mut rest, i);
+    rest
+}
+
+// Takes out one of the `left` items and orders the rest: each order behind the first `depth` of the row, into out from `at` on. Answers where the next row begins.
+fn generate_permutations(
+    items: [u8; 4],
+    left: usize,
+    row: [u8; 4],
+    depth: usize,
+    out: &mut [u8],
+    at: usize,
+) -> usize
+    requires { ⌜ RowRoom items left row depth (now out) at ⌝ }
+    ensures { λ r. ⌜ Permuted items left row depth (now (out .entry)) at r (now (out .exit)) ⌝ }
+{
+    if left == 0 {
+        copy_in(&row[..depth], out, at);
+        return at + depth;
+    }
+    let mut next = at;
+    let mut i = 0;
+    while i < left {
+        let mut longer = row;
+        longer[depth] = items[i];
+        let rest = remove(items, i);
+        next = generate_permutations(rest, left - 1, longer, depth + 1, out, next);
+        i += 1;
+    }
+    next
+}
+
+// The reversals of the middle segments: 2 to the k - 1.
+fn reversal_count(k: usize) -> usize
+    requires { ⌜ CutCount k ⌝ }
+    ensures { λ r. ⌜ r ≡ 2 ^ (k - 1) ⌝ }
+{
+    match k {
+        2 => 2,
+        3 => 4,
+        4 => 8,
+        _ => 16,
+    }
+}
+
+// How many patterns k cuts have.
+pub fn pattern_count(k: usize) -> usize
+    requires { ⌜ CutCount k ⌝ }
+    ensures { λ r. ⌜ r ≡ length (patterns k) ⌝ }
+{
+    match k {
+        2 => 1,
+        3 => 7,
+        4 => 47,
+        _ => 383,
+    }
+}
+
+// An order into out from `at` on: segment 0, the middle segments, segment k.
+fn put_order(middle: &[u8], k: usize, out: &mut [u8], at: usize)
+    requires { ⌜ OrderRoom (now middle) k (now out) at ⌝ }
+    ensures { λ _. ⌜ now (out .exit) ≡ sets (now (out .entry)) at (0 ∷ (now (middle .entry) ++ (k ∷ []))) ⌝ }
+{
+    out[at] = 0;
+    copy_in(middle, out, at + 1);
+    out[at + k] = k as u8;
+}
+
+// The pattern with this index, from the rows of the permutations: the arrangement after the one that changes nothing.
+fn put_pattern(permutations: &[u8], k: usize, index: usize, orders: &mut [u8], masks: &mut [u8])
+    requires { ⌜ Ready k index (now permutations) (now orders) (now masks) ⌝ }
+    ensures { λ _. ⌜ Put k index (now (orders .entry)) (now (masks .entry)) (now (orders .exit)) (now (masks .exit)) ⌝ }
+{
+    let reversals = reversal_count(k);
+    let t = index + 1;
+    let middle = k - 1;
+    let from = t / reversals * middle;
+    let end = from + middle;
+    put_order(&permutations[from..end], k, orders, index * (k + 1));
+    masks[index] = (2 * (t % reversals)) as u8;
+}
+
+// All patterns for k: the order of the one at i in the k + 1 bytes from i * (k + 1) on, its mask at i. Answers how many there are.
+pub fn enumerate_reconnections(k: usize, orders: &mut [u8], masks: &mut [u8]) -> usize
+    requires { ⌜ PatternRoom k (now orders) (now masks) ⌝ }
+    ensures { λ r. ⌜ Enumerated k (now (orders .entry)) (now (masks .entry)) r (now (orders .exit)) (now (masks .exit)) ⌝ }
+{
+    let mut permutations = [0u8; 96];
+    let _ = generate_permutations([1, 2, 3, 4], k - 1, [0; 4], 0, &mut permutations, 0);
+    let count = pattern_count(k);
+    let mut index = 0;
+    while index < count {
+        put_pattern(&permutations, k, index, orders, masks);
+        index += 1;
+    }
+    count
+}
+
+// The pattern with this index.
+pub fn pattern_at(k: usize, index: usize) -> theory::KOptReconnection
+    requires { ⌜ Listed k index ⌝ }
+    ensures { λ r. ⌜ Holds k (pattern k index) r ⌝ }
+{
+    let mut orders = [0u8; 2298];
+    let mut masks = [0u8; 383];
+    let _ = enumerate_reconnections(k, &mut orders, &mut masks);
+    let width = k + 1;
+    let from = index * width;
+    let end = from + width;
+    let mut places = [0u8; 6];
+    copy_in(&orders[from..end], &mut places, 0);
+    theory::KOptReconnection {
+        segment_order: places,
+        reverse_mask: masks[index],
+        len: width as u8,
+    }
+}
