@@ -129,7 +129,7 @@ orders-ascending (suc n) l a =
     starts-before (p .0) (q .0) (s .0) (t .0) u v h (s .2) (t .2))
 
 -- "The middle orders come in dictionary order .. for each order the turn masks .. follow."
-arrangements-ascending : (m : ℕ) → Ascending PatternBefore (arrangements (suc m))
+pub arrangements-ascending : (m : ℕ) → Ascending PatternBefore (arrangements (suc m))
 unfolding arrangements
 arrangements-ascending m =
     ascending-flatMap Before PatternBefore _ (orders m (upfrom 1 m)) (orders-ascending m (upfrom 1 m) (ascending-upfrom 1 m))
