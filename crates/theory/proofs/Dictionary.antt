@@ -1,12 +1,15 @@
--- The order in which the moves are listed: orders and cut sets in dictionary order, patterns by order and then mask, candidates by cuts and then pattern. Assumes nothing.
-use mathlib.Core.Path.{_≡_, refl, sym, ap, subst}
-use mathlib.Core.Logic.{_⊎_, inl, inr, ⊎-elim}
-use mathlib.Core.List.{List, [], _∷_, _++_, map, flatMap, tail, List·Memᴰ, List·Memᴰ·head, List·Memᴰ·tail, List·Memᴰ·cases-cons, List·Memᴰ·not-nil, List·Memᴰ·append-cases, Memᴰ·map, Memᴰ·of-map}
+-- The order in which the moves are listed: orders and cut sets in dictionary order, patterns by order and then mask, candidates by cuts and
+-- then pattern; and the lists are known by their members. Assumes nothing.
+use mathlib.Core.Path.{_≡_, refl, sym, ap, ap₂, _∙_, subst}
+use mathlib.Core.Logic.{_↔_, _⊎_, inl, inr, ⊎-elim}
+use mathlib.Core.List.{List, [], _∷_, _++_, map, flatMap, tail, List·Memᴰ, List·Memᴰ·head, List·Memᴰ·tail, List·Memᴰ·cases-cons, List·Memᴰ·not-nil, List·Memᴰ·append-cases, Memᴰ·map, Memᴰ·of-map, Memᴰ·cast}
 use Prim.Native.Nat.{ℕ, zero, suc, _^_, _<_}
 use native.Mathlib.Omega.{arith}
-use Rattle.theory.specs.Moves.{upfrom, picks, orders, Pattern, arrangements, patterns, combinations, cut-sets, Move, candidates}
-use Rattle.theory.proofs.Moves.{of-flatMap, upfrom-range}
-use Rattle.theory.proofs.Distinct.{picks-keys, picks-sub}
+use lib.ListN.{length}
+use Rattle.theory.specs.Moves.{upfrom, picks, orders, Pattern, arrangements, patterns, combinations, cut-sets, Move, candidates, Rising}
+use Rattle.theory.proofs.Moves.{of-flatMap, upfrom-range, cuts-listed, listed-cuts, Shape, pattern-shape}
+use Rattle.theory.proofs.Orders.{patterns-complete}
+use Rattle.theory.proofs.Distinct.{picks-keys, picks-sub, patterns-distinct}
 
 -- Dictionary order among lists of one length: the first difference decides.
 abbrev pub Before : List ℕ → List ℕ → Type 0
@@ -126,7 +129,7 @@ orders-ascending (suc n) l a =
     starts-before (p .0) (q .0) (s .0) (t .0) u v h (s .2) (t .2))
 
 -- "The middle orders come in dictionary order .. for each order the turn masks .. follow."
-arrangements-ascending : (m : ℕ) → Ascending PatternBefore (arrangements (suc m))
+pub arrangements-ascending : (m : ℕ) → Ascending PatternBefore (arrangements (suc m))
 unfolding arrangements
 arrangements-ascending m =
     ascending-flatMap Before PatternBefore _ (orders m (upfrom 1 m)) (orders-ascending m (upfrom 1 m) (ascending-upfrom 1 m))
@@ -150,3 +153,60 @@ candidates-ascending ps k n a =
     let s = Memᴰ·of-map _ ps i in
     let t = Memᴰ·of-map _ ps j in
     rw (← (s .2), ← (t .2)) (inl b))
+
+-- ---- a list in such an order is known by its members
+
+module _ {A : Type 0} (before : A → A → Type 0) (asym : (x y : A) → before x y → before y x → ⊥) where
+  same-members : (xs ys : List A) → Ascending before xs → Ascending before ys → ((z : A) → List·Memᴰ z xs ↔ List·Memᴰ z ys) → xs ≡ ys
+  same-members [] [] a b m = refl
+  same-members [] (y ∷ ys) a b m = absurd (List·Memᴰ·not-nil (m y .1 (List·Memᴰ·head refl)))
+  same-members (x ∷ xs) [] a b m = absurd (List·Memᴰ·not-nil (m x .0 (List·Memᴰ·head refl)))
+  same-members (x ∷ xs) (y ∷ ys) a b m = ap₂ _∷_ heads (same-members xs ys (a .1) (b .1) (λ z. (there z, back z)))
+    where
+      heads : x ≡ y
+      heads =
+          ⊎-elim (λ e. e)
+          (λ i. ⊎-elim (λ e. sym e) (λ j. absurd (asym y x (b .0 x i) (a .0 y j))) (List·Memᴰ·cases-cons (m y .1 (List·Memᴰ·head refl))))
+          (List·Memᴰ·cases-cons (m x .0 (List·Memᴰ·head refl)))
+
+      -- A member of the rest is not the first.
+      there : (z : A) → List·Memᴰ z xs → List·Memᴰ z ys
+      there z i = ⊎-elim (λ e. let h : before x x = subst (before x) (e ∙ sym heads) (a .0 z i) in absurd (asym x x h h)) (λ j. j) (List·Memᴰ·cases-cons (m z .0 (List·Memᴰ·tail i)))
+
+      back : (z : A) → List·Memᴰ z ys → List·Memᴰ z xs
+      back z i = ⊎-elim (λ e. let h : before y y = subst (before y) (e ∙ heads) (b .0 z i) in absurd (asym y y h h)) (λ j. j) (List·Memᴰ·cases-cons (m z .1 (List·Memᴰ·tail i)))
+
+before-asym : (xs ys : List ℕ) → Before xs ys → Before ys xs → ⊥
+before-asym [] ys b c = b
+before-asym (x ∷ xs) [] b c = b
+before-asym (x ∷ xs) (y ∷ ys) (inl h) (inl k) = omega arith
+before-asym (x ∷ xs) (y ∷ ys) (inl h) (inr k) = omega arith
+before-asym (x ∷ xs) (y ∷ ys) (inr h) (inl k) = omega arith
+before-asym (x ∷ xs) (y ∷ ys) (inr h) (inr k) = before-asym xs ys (h .1) (k .1)
+
+pattern-asym : (p q : Pattern) → PatternBefore p q → PatternBefore q p → ⊥
+pattern-asym p q (inl h) (inl k) = before-asym (p .order) (q .order) h k
+pattern-asym p q (inl h) (inr k) = let z : Before (p .order) (p .order) = subst (Before (p .order)) (k .0) h in before-asym (p .order) (p .order) z z
+pattern-asym p q (inr h) (inl k) = let z : Before (q .order) (q .order) = subst (Before (q .order)) (h .0) k in before-asym (q .order) (q .order) z z
+pattern-asym p q (inr h) (inr k) = omega arith
+
+-- The cut sets are the list, in dictionary order, of all k strictly rising places from 0 to n.
+pub cut-sets-are : (k n : ℕ) (l : List (List ℕ)) → Ascending Before l → ((cs : List ℕ) → List·Memᴰ cs l ↔ ((length cs ≡ k) × Rising 0 cs n)) → l ≡ cut-sets k n
+unfolding cut-sets
+cut-sets-are k n l a m =
+    same-members Before before-asym l (cut-sets k n) a (cut-sets-ascending k n)
+    (λ cs. (λ i. let h = m cs .0 i in rw (h .0) at (cuts-listed n (suc n) 0 cs (omega arith) (h .1)), λ i. m cs .1 (listed-cuts n (suc n) 0 k cs (omega arith) i)))
+
+-- The patterns are the list, by order and then mask, of all orders of the middle segments with all masks on them, but the one that changes nothing.
+abbrev pub still : ℕ → Pattern
+still m = record { order = 0 ∷ (upfrom 1 m ++ (suc m ∷ [])); mask = 0 }
+
+pub patterns-are : (m : ℕ) (l : List Pattern) → Ascending PatternBefore l → ((p : Pattern) → List·Memᴰ p l ↔ (Shape m p × (p ≡ still m → ⊥))) → l ≡ patterns (suc m)
+patterns-are m l a h =
+    same-members PatternBefore pattern-asym l (patterns (suc m)) a (patterns-ascending m) (λ p. (λ i. into p (h p .0 i), λ i. h p .1 (pattern-shape m p i, moves p i)))
+  where
+    moves : (p : Pattern) → List·Memᴰ p (patterns (suc m)) → p ≡ still m → ⊥
+    moves p i e = patterns-distinct m .1 (Memᴰ·cast (sym e) i)
+
+    into : (p : Pattern) → Shape m p × (p ≡ still m → ⊥) → List·Memᴰ p (patterns (suc m))
+    into p s = ⊎-elim (λ e. absurd (s .1 (s .0 .is ∙ e))) (λ i. Memᴰ·cast (s .0 .is) i) (patterns-complete m (s .0 .middle) (s .0 .bits) (s .0 .once) (s .0 .few))
