@@ -13,7 +13,7 @@ use Rattle.theory.specs.Tables.{CutSet, Order}
 use Rattle.theory.proofs.Moves.{total-ones}
 use Rattle.theory.proofs.Orders.{in-range}
 use Rattle.theory.proofs.Route.{total-reconnected}
-use Rattle.theory.proofs.Stops.{getD-mem}
+use Rattle.theory.proofs.Index.{mem-getD}
 use Rattle.theory.proofs.Delta.{length-reverse-if}
 use Rattle.reconnection.specs.Segments.{bound, Reconnectable}
 
@@ -108,7 +108,7 @@ module _ (r cs o out₀ : List ℕ) (mask : ℕ) (ready : Reconnectable r cs o o
 
   -- A place of the order names a segment.
   pub named : (i : ℕ) → i < length o → getD o i 0 ≤ length cs
-  named i h = omega (arith, in-range o 0 (suc (length cs)) (ready .once .once) (getD o i 0) (getD-mem o i h))
+  named i h = omega (arith, in-range o 0 (suc (length cs)) (ready .once .once) (getD o i 0) (mem-getD o i 0 h))
 
   -- One turn: the segment at `position` lies at a..b, and goes into `out` at `at`.
   module _ (out : List ℕ) (at position a b : ℕ) (flip : Bool) (more : position < length o)

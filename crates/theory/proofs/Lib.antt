@@ -19,3 +19,4 @@ pub mod Stops
 pub mod Refusals
 pub mod Judged
 pub mod ForK
+pub mod Rows

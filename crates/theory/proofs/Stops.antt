@@ -12,16 +12,12 @@ use Rattle.theory.specs.Route.{count}
 use Rattle.theory.specs.Tables.{Stops}
 use Rattle.theory.proofs.Moves.{total-ones}
 use Rattle.theory.proofs.Orders.{count-mem, mem-count}
+use Rattle.theory.proofs.Index.{mem-getD}
 
--- What stands at a position stands in the list, and the other way round.
-pub getD-mem : (l : List ℕ) (i : ℕ) → i < length l → List·Memᴰ (getD l i 0) l
-getD-mem [] i h = absurd (omega arith)
-getD-mem (x ∷ l) zero h = List·Memᴰ·head refl
-getD-mem (x ∷ l) (suc i) h = List·Memᴰ·tail (getD-mem l i (omega arith))
-
-pub mem-getD : (x : ℕ) (l : List ℕ) → List·Memᴰ x l → (i : ℕ) × (i < length l) × (getD l i 0 ≡ x)
-mem-getD x [] m = absurd (List·Memᴰ·not-nil m)
-mem-getD x (y ∷ l) m = ⊎-elim (λ e. (0, omega arith, sym e)) (λ n. let t = mem-getD x l n in (suc (t .0), omega (arith, t .1), t .2)) (List·Memᴰ·cases-cons m)
+-- What stands in a list stands at a position (and the other way round, `mem-getD` of Index).
+pub position-of : (x : ℕ) (l : List ℕ) → List·Memᴰ x l → (i : ℕ) × (i < length l) × (getD l i 0 ≡ x)
+position-of x [] m = absurd (List·Memᴰ·not-nil m)
+position-of x (y ∷ l) m = ⊎-elim (λ e. (0, omega arith, sym e)) (λ n. let t = position-of x l n in (suc (t .0), omega (arith, t .1), t .2)) (List·Memᴰ·cases-cons m)
 
 same-count : (r r′ : List ℕ) → ((g : ℕ → ℕ) → total g r′ ≡ total g r) → (x : ℕ) → count x r′ ≡ count x r
 unfolding count
@@ -37,6 +33,6 @@ module _ (r r′ : List ℕ) (same : (g : ℕ → ℕ) → total g r′ ≡ tota
       known : (i : ℕ) → i < length r′ → getD r′ i 0 < locations
       known i h =
           let x = getD r′ i 0 in
-          let m : List·Memᴰ x r = mem-count x r (omega (arith, same-count r r′ same x, count-mem x r′ (getD-mem r′ i h))) in
-          let t = mem-getD x r m in
+          let m : List·Memᴰ x r = mem-count x r (omega (arith, same-count r r′ same x, count-mem x r′ (mem-getD r′ i 0 h))) in
+          let t = position-of x r m in
           rw (← (t .2)) (s .known (t .0) (t .1))

@@ -1,8 +1,8 @@
 -- The lent tables as a problem, and what the checks establish of them (the `requires` of the crates above).
 use mathlib.Core.Path.{_≡_}
-use mathlib.Core.List.{List, [], _∷_, _++_}
+use mathlib.Core.List.{List, [], _∷_, _++_, List·Memᴰ}
 use Prim.Native.Nat.{ℕ, suc, _+_, _-_, _*_, _^_, _≤_, _<_}
-use lib.ListN.{length, getD}
+use lib.ListN.{length, getD, take, drop}
 use Rattle.theory.specs.Moves.{Pattern, Rising, total, upfrom}
 use Rattle.theory.specs.Route.{Problem}
 
@@ -54,3 +54,14 @@ pub record ForK (k : ℕ) (order : List ℕ) (mask : ℕ) : Type 0 where
   pub once : (g : ℕ → ℕ) → total g middle ≡ total g (upfrom 1 (k - 1))
   pub mask-is : mask ≡ 2 * bits
   pub few : bits < 2 ^ (k - 1)
+
+-- A list of patterns as it is lent: the orders end to end, k + 1 segments each, and the masks beside them.
+unfoldable pub pattern-rows : ℕ → List ℕ → List ℕ → List Pattern
+pattern-rows k orders [] = []
+pattern-rows k orders (m ∷ masks) = record { order = take (suc k) orders; mask = m } ∷ pattern-rows k (drop (suc k) orders) masks
+
+-- Rows of patterns for k cuts, as many as there are masks.
+pub record PatternRows (k : ℕ) (orders masks : List ℕ) : Type 0 where
+  pub few : length masks ≤ 383
+  pub long : length orders ≡ length masks * suc k
+  pub each : (p : Pattern) → List·Memᴰ p (pattern-rows k orders masks) → ForK k (p .order) (p .mask)
