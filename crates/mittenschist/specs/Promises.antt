@@ -8,6 +8,7 @@ use lib.IntN.{ℤ, pos, _-ℤ_}
 use lib.ListN.{length, getD, drop}
 use Rattle.theory.specs.Moves.{Pattern, Move, patterns, next-cuts}
 use Rattle.theory.specs.Route.{Problem, tour-length, reconnected}
+use Rattle.theory.specs.Polish.{move-at}
 use Rattle.theory.specs.Tables.{problem, legs-only}
 use Rattle.theory.specs.Refusals.{Rule, refusal, cut-count, leg-table, deadline-list, leg-sizes, known-stops, stop-count, pattern-index, cut-positions, room}
 use Rattle.theory.specs.Answers.{Answer, reply, step-answer, length-answer, delta-answer, feasibility-answer, Verdict}
@@ -22,13 +23,6 @@ use Rattle.theory.specs.declared.ReconnectionAt.{ReconnectionAt}
 -- One thing where no rule applies, another where the call is refused.
 abbrev pub if-taken : {A : Type 0} → List Rule → A → A → A
 if-taken rules a b = cond (eqb (refusal rules) 0) a b
-
--- The pattern with an index, and the move that applies it at cuts.
-abbrev pub pattern-at : ℕ → ℕ → Pattern
-pattern-at k index = getD (patterns k) index (record { order = []; mask = 0 })
-
-abbrev pub move-at : ℕ → ℕ → List ℕ → Move
-move-at k index cuts = record { cuts = cuts; pattern = pattern-at k index }
 
 -- ---- next cut set
 
@@ -47,7 +41,7 @@ reconnect-rules k pattern cuts route out =
 
 pub record Reconnected (k pattern : ℕ) (cuts route out : List ℕ) (answer : ℕ) (out′ : List ℕ) : Type 0 where
   pub number-is : answer ≡ refusal (reconnect-rules k pattern cuts route out)
-  pub out-is : out′ ≡ if-taken (reconnect-rules k pattern cuts route out) (reconnected (move-at k pattern cuts) route ++ drop (length route) out) out
+  pub out-is : out′ ≡ if-taken (reconnect-rules k pattern cuts route out) (reconnected (move-at (patterns k) cuts pattern) route ++ drop (length route) out) out
 
 -- ---- route length
 
@@ -75,7 +69,7 @@ abbrev pub length-change : Problem → Move → List ℕ → ℤ
 length-change P move route = pos (tour-length P (reconnected move route)) -ℤ pos (tour-length P route)
 
 pub record DeltaReply (k pattern : ℕ) (cuts : List ℕ) (locations : ℕ) (legs : List ℕ) (depot : ℕ) (route : List ℕ) (answer : LengthDelta) : Type 0 where
-  pub reply-is : delta-answer answer ≡ reply (refusal (delta-rules k pattern cuts locations legs depot route)) (length-change (legs-only locations legs depot) (move-at k pattern cuts) route ∷ [])
+  pub reply-is : delta-answer answer ≡ reply (refusal (delta-rules k pattern cuts locations legs depot route)) (length-change (legs-only locations legs depot) (move-at (patterns k) cuts pattern) route ∷ [])
 
 -- ---- deadline check
 

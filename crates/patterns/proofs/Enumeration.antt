@@ -55,9 +55,12 @@ module _ (k : ℕ) (cuts : CutCount k) (row : List ℕ) where
   pub middles-room : 0 + length (permutations (1 ∷ 2 ∷ 3 ∷ 4 ∷ []) (k - 1) row 0) ≤ 96
   middles-room =
       rw (all-middles k row (cuts .most))
-      (omega
-      (arith, length-flatten (k - 1) (middle-orders k) (each-middle k),
-      ap (λ (n : ℕ). n * (k - 1)) (length-orders (k - 1) (upfrom 1 (k - 1)) (length-upfrom 1 (k - 1))), few-orders (k - 1) (omega (arith, cuts .most))))
+      (omega (
+        arith,
+        length-flatten (k - 1) (middle-orders k) (each-middle k),
+        ap (λ (n : ℕ). n * (k - 1)) (length-orders (k - 1) (upfrom 1 (k - 1)) (length-upfrom 1 (k - 1))),
+        few-orders (k - 1) (omega (arith, cuts .most)),
+      ))
 
   pub middles-first : (out last : List ℕ) → length out ≡ 96 → last ≡ sets out 0 (permutations (1 ∷ 2 ∷ 3 ∷ 4 ∷ []) (k - 1) row 0) →
       take (length (flatten (middle-orders k))) last ≡ flatten (middle-orders k)

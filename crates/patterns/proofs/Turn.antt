@@ -50,9 +50,14 @@ module _ (k index r : ℕ) (permutations orders₀ masks₀ : List ℕ) (ready :
 
   pub row-room : (index + 1) / r * (k - 1) + (k - 1) ≤ length permutations
   row-room =
-      omega
-      (arith, suc-mul ((index + 1) / r) (k - 1), mul-le-mul-right (k - 1) row-known, length-flatten (k - 1) (middle-orders k) (each-middle k),
-      ap length parts, length-append (flatten (middle-orders k)) rest)
+      omega (
+        arith,
+        suc-mul ((index + 1) / r) (k - 1),
+        mul-le-mul-right (k - 1) row-known,
+        length-flatten (k - 1) (middle-orders k) (each-middle k),
+        ap length parts,
+        length-append (flatten (middle-orders k)) rest,
+      )
 
   row-is : take (k - 1) (drop ((index + 1) / r * (k - 1)) permutations) ≡ getD (middle-orders k) ((index + 1) / r) []
   row-is = rw parts (row-at (k - 1) (middle-orders k) (each-middle k) ((index + 1) / r) row-known rest)

@@ -13,13 +13,9 @@ use lib.ListN.{length, getD, take, drop, length-map, length-take, take-append-dr
 use Rattle.theory.specs.Scan.{Search, Reply, scan-from, improves}
 use Rattle.theory.specs.Moves.{Pattern, Move, upfrom, next-cuts, candidates, cut-sets}
 use Rattle.theory.specs.Route.{Problem, reconnected}
-use Rattle.theory.specs.Polish.{search-of, polish-with}
+use Rattle.theory.specs.Polish.{search-of, polish-with, move-at}
 use Rattle.theory.proofs.Scan.{scan-ended, scan-halted, scan-passed, scan-taken}
 use Rattle.theory.proofs.Walk.{rest, rest-split, rest-first, rest-none, rest-cons, rest-next, rest-last}
-
--- The move at a cut set and an index.
-abbrev pub move-at : List Pattern → List ℕ → ℕ → Move
-move-at ps cs i = record { cuts = cs; pattern = getD ps i (record { order = []; mask = 0 }) }
 
 -- What stands among the first j stands at an index below j.
 of-take : (j : ℕ) (ps : List Pattern) (d p : Pattern) → List·Memᴰ p (take j ps) → (x : ℕ) × (x < j) × (p ≡ getD ps x d)

@@ -2,9 +2,9 @@
 use mathlib.Core.Path.{_≡_}
 use mathlib.Core.Bool.{true, false}
 use mathlib.Core.Logic.{_↔_, _⊎_}
-use mathlib.Core.List.{List, List·Memᴰ}
+use mathlib.Core.List.{List, [], List·Memᴰ}
 use Prim.Native.Nat.{ℕ, suc, _+_, _-_, _*_, _≤_, _<_}
-use lib.ListN.{length}
+use lib.ListN.{length, getD}
 use Rattle.theory.specs.Scan.{Search, Reply, scan}
 use Rattle.theory.specs.Moves.{Pattern, Move, patterns, cut-sets, candidates, Rising, binomial, total, upfrom}
 use Rattle.theory.specs.Route.{Problem, reconnected, tour-length, feasible, Feasible, count}
@@ -19,6 +19,10 @@ polish-with P ps k allowance r = scan (search-of P ps k (length r)) allowance r
 -- With "every pattern for k".
 abbrev pub polish : Problem → ℕ → ℕ → List ℕ → Reply (List ℕ)
 polish P k = polish-with P (patterns k) k
+
+-- The move with the pattern of an index at a cut set.
+abbrev pub move-at : List Pattern → List ℕ → ℕ → Move
+move-at ps cuts index = record { cuts = cuts; pattern = getD ps index (record { order = []; mask = 0 }) }
 
 -- "Whichever k cuts and whichever pattern of document 01 the rival takes, the rejoined round doesn't keep every deadline or, as a closed tour from the
 -- depot, is at least as long as the one the rival holds": k-optimal among the feasible routes.
