@@ -2,10 +2,10 @@
 use mathlib.Core.Path.{_≡_}
 use mathlib.Core.Bool.{Bool, true, false, cond}
 use mathlib.Core.List.{List, [], _∷_, _++_}
-use Prim.Native.Nat.{ℕ, suc, _-_}
+use Prim.Native.Nat.{ℕ, _+_, _-_}
 use lib.Dec.{eqb}
 use lib.IntN.{ℤ, pos, _-ℤ_}
-use lib.ListN.{length, getD, drop}
+use lib.ListN.{length, getD, drop, replicate}
 use Rattle.theory.specs.Moves.{Pattern, Move, patterns, next-cuts}
 use Rattle.theory.specs.Route.{Problem, tour-length, reconnected}
 use Rattle.theory.specs.Polish.{move-at}
@@ -24,24 +24,38 @@ use Rattle.theory.specs.declared.ReconnectionAt.{ReconnectionAt}
 abbrev pub if-taken : {A : Type 0} → List Rule → A → A → A
 if-taken rules a b = cond (eqb (refusal rules) 0) a b
 
+-- ---- pattern of an index
+
+abbrev pub pattern-rules : ℕ → ℕ → List Rule
+pattern-rules k pattern = cut-count k ∷ pattern-index k pattern ∷ []
+
+abbrev pub pattern-at : ℕ → ℕ → Pattern
+pattern-at k index = getD (patterns k) index (record { order = []; mask = 0 })
+
+-- The order has 0 in the unused of six places; where the call is refused there is no segment at all.
+pub record ReconnectionReply (k pattern : ℕ) (answer : ReconnectionAt) : Type 0 where
+  pub number-is : answer .refusal ≡ refusal (pattern-rules k pattern)
+  pub order-is : answer .reconnection .«segment_order» ≡ if-taken (pattern-rules k pattern) (pattern-at k pattern .order ++ replicate (5 - k) 0) (replicate 6 0)
+  pub mask-is : answer .reconnection .«reverse_mask» ≡ if-taken (pattern-rules k pattern) (pattern-at k pattern .mask) 0
+  pub segments-are : answer .reconnection .len ≡ if-taken (pattern-rules k pattern) (k + 1) 0
+
 -- ---- next cut set
 
 abbrev pub next-cut-set-rules : ℕ → ℕ → List ℕ → List Rule
 next-cut-set-rules k n cuts = cut-count k ∷ stop-count n ∷ cut-positions k n cuts ∷ []
 
-pub record NextCutSet (k n : ℕ) (cuts : List ℕ) (answer : CutStep) (cuts′ : List ℕ) : Type 0 where
+pub record NextCutSetReply (k n : ℕ) (cuts : List ℕ) (answer : CutStep) (cuts′ : List ℕ) : Type 0 where
   pub reply-is : step-answer answer ≡ reply (refusal (next-cut-set-rules k n cuts)) (cond (found (next-cuts n cuts)) 1 0 ∷ [])
   pub cuts-are : cuts′ ≡ if-taken (next-cut-set-rules k n cuts) (or-kept (next-cuts n cuts) cuts) cuts
 
 -- ---- reconnect
 
-abbrev pub reconnect-rules : ℕ → ℕ → List ℕ → List ℕ → List ℕ → List Rule
-reconnect-rules k pattern cuts route out =
-    cut-count k ∷ stop-count (length route) ∷ pattern-index k pattern ∷ cut-positions k (length route) cuts ∷ room (length route) (length out) ∷ []
+abbrev pub reconnect-rules : ℕ → ℕ → List ℕ → ℕ → ℕ → List Rule
+reconnect-rules k pattern cuts n lent = cut-count k ∷ stop-count n ∷ pattern-index k pattern ∷ cut-positions k n cuts ∷ room n lent ∷ []
 
-pub record Reconnected (k pattern : ℕ) (cuts route out : List ℕ) (answer : ℕ) (out′ : List ℕ) : Type 0 where
-  pub number-is : answer ≡ refusal (reconnect-rules k pattern cuts route out)
-  pub out-is : out′ ≡ if-taken (reconnect-rules k pattern cuts route out) (reconnected (move-at (patterns k) cuts pattern) route ++ drop (length route) out) out
+pub record ReconnectReply (k pattern : ℕ) (cuts route out : List ℕ) (answer : ℕ) (out′ : List ℕ) : Type 0 where
+  pub number-is : answer ≡ refusal (reconnect-rules k pattern cuts (length route) (length out))
+  pub out-is : out′ ≡ if-taken (reconnect-rules k pattern cuts (length route) (length out)) (reconnected (move-at (patterns k) cuts pattern) route ++ drop (length route) out) out
 
 -- ---- route length
 

@@ -2,7 +2,8 @@
 ghost use mathlib.Core.Path.{_≡_};
 ghost use lib.Dec.{ltb, leb};
 ghost use lib.ListN.{length};
-ghost use Rattle.theory.specs.Refusals.{some, rises, either, number, cut-count, leg-table, deadline-list, leg-sizes, known-stops, stop-count, cut-positions, room};
+ghost use Rattle.theory.specs.Refusals.{some, rises, either, number, cut-count, leg-table, deadline-list, leg-sizes, known-stops, stop-count, pattern-index, cut-positions, room};
+ghost use Rattle.patterns.specs.Enumeration.{CutCount};
 
 // The first of two numbers that is not 0.
 pub fn first(a: u32, b: u32) -> u32
@@ -133,6 +134,17 @@ pub fn check_stop_count(n: usize) -> u32
 {
     if 512 < n {
         return 5;
+    }
+    0
+}
+
+// Judged after k: what the count for another k is plays no part.
+pub fn check_pattern_index(k: usize, index: usize) -> u32
+    requires { ⌜ CutCount k ⌝ }
+    ensures { λ r. ⌜ r ≡ number (pattern-index k index) ⌝ }
+{
+    if patterns::pattern_count(k) <= index {
+        return 6;
     }
     0
 }
