@@ -3,17 +3,49 @@ use mathlib.Core.Path.{_≡_, refl, sym, ap, _∙_}
 use mathlib.Core.Bool.{Bool, true, false, cond}
 use mathlib.Core.List.{List, [], _∷_}
 use Prim.Native.Nat.{ℕ, zero, suc}
+use native.Mathlib.Omega.{arith}
 use lib.Dec.{eqb}
 use borrow.Author.Tests.{ne-eqb, eq-eqb}
-use Rattle.theory.specs.Refusals.{Rule, either, refusal}
+use Rattle.theory.specs.Refusals.{Rule, number, either, refusal, cut-count}
 use Rattle.theory.specs.Answers.{Answer, reply, refused}
 use Rattle.theory.proofs.Refusals.{Passes, known, accepted}
+use Rattle.theory.proofs.Judged.{cut-count-fine}
+use Rattle.patterns.specs.Enumeration.{CutCount}
 use Rattle.mittenschist.specs.Promises.{if-taken}
 
 pub either-zero : (n : ℕ) → either n 0 ≡ n
 unfolding either
 either-zero zero = refl
 either-zero (suc n) = refl
+
+either-assoc : (a b c : ℕ) → either (either a b) c ≡ either a (either b c)
+unfolding either
+either-assoc zero b c = refl
+either-assoc (suc a) b c = refl
+
+-- Four checks that are judged together, and then the others.
+pub four-then : (a b c d rest : ℕ) → either (either a (either b (either c (either d 0)))) rest ≡ either a (either b (either c (either d rest)))
+unfolding either
+four-then a b c d rest = simp either-assoc
+
+-- A check that applies is given, and one that does not is passed.
+pub given : (a n rest : ℕ) → a ≡ n → (a ≡ 0 → ⊥) → a ≡ either n rest
+unfolding either
+given a zero rest e h = absurd (h e)
+given a (suc n) rest e h = e
+
+pub passed-over : (a n rest : ℕ) → a ≡ n → a ≡ 0 → rest ≡ either n rest
+unfolding either
+passed-over a zero rest e h = refl
+passed-over a (suc n) rest e h = absurd (omega arith)
+
+-- k is judged before what is counted by it.
+pub counted : (k a : ℕ) → a ≡ number (cut-count k) → a ≡ 0 → CutCount k
+counted k a e h = let c = cut-count-fine k (by (cut-count k .1) (sym e ∙ h)) in record { least = c .0; most = c .1 }
+  where
+    by : (b : Bool) → _≡_ {A = ℕ} (cond b 1 0) 0 → b ≡ false
+    by true z = absurd (omega arith)
+    by false z = refl
 
 module _ (rules : List Rule) (number : ℕ) (judged : number ≡ refusal rules) where
   pub refused-reply : {A : Type 0} (values : List A) → (number ≡ 0 → ⊥) → refused number ≡ reply (refusal rules) values

@@ -1,3 +1,6 @@
 pub mod Entries
 pub mod NextCutSet
 pub mod RouteLengthReply
+pub mod ReconnectionReply
+pub mod ReconnectReply
+pub mod DeltaReply

@@ -4,7 +4,6 @@ use mathlib.Core.Bool.{Bool, true, false, cond}
 use mathlib.Core.List.{List, [], _∷_, _++_}
 use Prim.Native.Nat.{ℕ, _+_, _-_}
 use lib.Dec.{eqb}
-use lib.IntN.{ℤ, pos, _-ℤ_}
 use lib.ListN.{length, getD, drop, replicate}
 use Rattle.theory.specs.Moves.{Pattern, Move, patterns, next-cuts}
 use Rattle.theory.specs.Route.{Problem, tour-length, reconnected}
@@ -12,6 +11,7 @@ use Rattle.theory.specs.Polish.{move-at}
 use Rattle.theory.specs.Tables.{problem, legs-only}
 use Rattle.theory.specs.Refusals.{Rule, refusal, cut-count, leg-table, deadline-list, leg-sizes, known-stops, stop-count, pattern-index, cut-positions, room}
 use Rattle.theory.specs.Answers.{Answer, reply, step-answer, length-answer, delta-answer, feasibility-answer, Verdict}
+use Rattle.moves.specs.Moves.{length-change}
 use Rattle.cuts.specs.Step.{found, or-kept}
 use Rattle.theory.specs.declared.CutStep.{CutStep}
 use Rattle.theory.specs.declared.RouteLength.{RouteLength}
@@ -77,10 +77,6 @@ delta-rules k pattern cuts locations legs depot route =
     ∷ pattern-index k pattern
     ∷ cut-positions k (length route) cuts
     ∷ []
-
--- Length after minus length before.
-abbrev pub length-change : Problem → Move → List ℕ → ℤ
-length-change P move route = pos (tour-length P (reconnected move route)) -ℤ pos (tour-length P route)
 
 pub record DeltaReply (k pattern : ℕ) (cuts : List ℕ) (locations : ℕ) (legs : List ℕ) (depot : ℕ) (route : List ℕ) (answer : LengthDelta) : Type 0 where
   pub reply-is : delta-answer answer ≡ reply (refusal (delta-rules k pattern cuts locations legs depot route)) (length-change (legs-only locations legs depot) (move-at (patterns k) cuts pattern) route ∷ [])

@@ -91,11 +91,7 @@ pub fn reconnect(k: usize, pattern: usize, cuts: &[usize], route: &[u32], out: &
     if refused != 0 {
         return refused;
     }
-    let found = patterns::pattern_at(k, pattern);
-    let order = found.segment_order;
-    let mask = found.reverse_mask;
-    let segments = k + 1;
-    reconnection::reconnect(route, cuts, &order[..segments], mask, &mut out[..n]);
+    moves::reconnect_pattern(k, pattern, cuts, route, out);
     0
 }
 
@@ -160,23 +156,5 @@ pub fn delta(
     if refused != 0 {
         return LengthDelta::Refused(refused);
     }
-    let found = patterns::pattern_at(k, pattern);
-    let order = found.segment_order;
-    let mask = found.reverse_mask;
-    let segments = k + 1;
-    let mut forward = [0u64; 512];
-    let mut backward = [0u64; 512];
-    costs::forward_sums(locations, legs, route, &mut forward);
-    costs::backward_sums(locations, legs, route, &mut backward);
-    LengthDelta::Seconds(costs::delta(
-        locations,
-        legs,
-        depot,
-        route,
-        &forward,
-        &backward,
-        cuts,
-        &order[..segments],
-        mask,
-    ))
+    LengthDelta::Seconds(moves::delta_pattern(k, pattern, cuts, locations, legs, depot, route))
 }

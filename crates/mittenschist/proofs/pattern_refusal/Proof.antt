@@ -1,23 +1,24 @@
-use native.Mathlib.Omega.{arith}
+-- `mittenschist::pattern_refusal` meets its contract. Assumes nothing.
+use mathlib.Core.Path.{sym, ap₂, _∙_}
+use Rattle.theory.specs.Refusals.{either, refusal}
+use Rattle.mittenschist.proofs.Entries.{either-zero, given, passed-over, counted}
 use borrow.Author.Needs.{needs}
 use Rattle.mittenschist.proofs.pattern_refusal.Statement.{statement}
 use Rattle.mittenschist.proofs.pattern_refusal.Tie as tie
-use Rattle.mittenschist.proofs.pattern_refusal.Reads as reads
-use Rattle.mittenschist.proofs.pattern_refusal.Lts as lts
-use Rattle.refusals.proofs.check_cut_count.Reads as check-cut-count-reads
-use Rattle.refusals.proofs.check_pattern_index.Reads as check-pattern-index-reads
 
 check-cut-count-requires : tie.Need-check-cut-count-requires
 check-cut-count-requires c κs = search needs
 
 returns : tie.Need-returns
-returns c = ?
+unfolding refusal
+returns c = given _ _ _ (c .before .check-cut-count .ensures) (c .if1 .taken)
 
 check-pattern-index-requires : tie.Need-check-pattern-index-requires
-check-pattern-index-requires c κs = ?
+check-pattern-index-requires c κs = counted _ _ (c .before .check-cut-count .ensures) (c .if1 .left)
 
 returns-2 : tie.Need-returns-2
-returns-2 c = ?
+unfolding refusal
+returns-2 c = c .check-pattern-index .ensures ∙ sym (either-zero _) ∙ passed-over _ _ _ (c .before .before .check-cut-count .ensures) (c .before .if1 .left)
 
 pub pattern-refusal-spec : {M : Type 1} → statement M
 pattern-refusal-spec =
