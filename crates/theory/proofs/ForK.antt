@@ -1,11 +1,12 @@
 -- A pattern of document 01 is one for k cuts, as the code is handed it. Assumes nothing.
 use mathlib.Core.Path.{_≡_, ap}
-use mathlib.Core.List.{List·Memᴰ}
-use Prim.Native.Nat.{ℕ, suc, _-_}
+use mathlib.Core.List.{List, List·Memᴰ}
+use Prim.Native.Nat.{ℕ, zero, suc, _-_, _≤_}
 use native.Mathlib.Omega.{arith}
 use Rattle.theory.specs.Moves.{Pattern, patterns}
-use Rattle.theory.specs.Tables.{ForK}
-use Rattle.theory.proofs.Moves.{Shape, pattern-shape}
+use Rattle.theory.specs.Tables.{ForK, PatternRows, pattern-rows}
+use Rattle.theory.specs.Polish.{ForCuts}
+use Rattle.theory.proofs.Moves.{Shape, pattern-shape, rearranges-shape}
 
 pub shape-for-k : (m : ℕ) (p : Pattern) → Shape m p → ForK (suc m) (p .order) (p .mask)
 shape-for-k m p s =
@@ -21,3 +22,19 @@ shape-for-k m p s =
 
 pub pattern-for-k : (m : ℕ) (p : Pattern) → List·Memᴰ p (patterns (suc m)) → ForK (suc m) (p .order) (p .mask)
 pattern-for-k m p i = shape-for-k m p (pattern-shape m p i)
+
+pub for-k-shape : (m : ℕ) (order : List ℕ) (mask : ℕ) → ForK (suc m) order mask → Shape m (record { order = order; mask = mask })
+for-k-shape m order mask f =
+    let one-less : suc m - 1 ≡ m = omega arith in
+    record {
+      middle = f .middle;
+      bits = f .bits;
+      few = rw one-less at (f .few);
+      once = λ g. rw one-less at (f .once g);
+      is = rw (f .order-is, f .mask-is);
+    }
+
+-- Lent rows of patterns for k cuts are a list of patterns for k cuts.
+pub rows-for-cuts : (k : ℕ) (orders masks : List ℕ) → 1 ≤ k → PatternRows k orders masks → ForCuts k (pattern-rows k orders masks)
+rows-for-cuts zero orders masks h rows p i g = absurd (omega arith)
+rows-for-cuts (suc m) orders masks h rows p i g = rearranges-shape m p (for-k-shape m (p .order) (p .mask) (rows .each p i)) g
