@@ -2,7 +2,7 @@
 use mathlib.Core.Path.{_≡_, refl, sym, ap, _∙_}
 use mathlib.Core.Bool.{Bool, true, false, cond}
 use mathlib.Core.List.{List, [], _∷_, _++_, reverse, reverse-cons}
-use Prim.Native.Nat.{ℕ, zero, suc, _+_, _-_, _≤_, _<_}
+use Prim.Native.Nat.{ℕ, zero, suc, _-_, _≤_, _<_}
 use native.Mathlib.Omega.{arith}
 use native.Mathlib.Decide.{ℕ-discrete}
 use lib.ListN.{length, getD, take, drop, drop-of-length-le}
@@ -15,7 +15,7 @@ use Rattle.theory.proofs.Delta.{gap}
 
 -- ---- first and last stops
 
-last-snoc : (a : ℕ) (l : List ℕ) (x : ℕ) → last-of a (l ++ (x ∷ [])) ≡ x
+pub last-snoc : (a : ℕ) (l : List ℕ) (x : ℕ) → last-of a (l ++ (x ∷ [])) ≡ x
 unfolding last-of
 last-snoc a [] x = refl
 last-snoc a (y ∷ l) x = last-snoc y l x
