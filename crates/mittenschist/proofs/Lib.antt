@@ -4,3 +4,4 @@ pub mod RouteLengthReply
 pub mod ReconnectionReply
 pub mod ReconnectReply
 pub mod DeltaReply
+pub mod FeasibleReply
