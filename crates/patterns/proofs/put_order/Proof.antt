@@ -17,7 +17,7 @@ add-copy-in c = search needs
 copy-in-requires : tie.Need-copy-in-requires
 copy-in-requires c κs =
     let s = c .before .before .before in
-    rw (length-set (s .args .out .now) (s .args .at) 0) (omega (arith, s .pre .middles, s .pre .room))
+    simp length-set (omega (arith, s .pre .middles, s .pre .room))
 
 cast-out : tie.Need-cast-out
 cast-out c = search needs
@@ -31,7 +31,7 @@ slice-write-out-2 c = search needs
 same-length : tie.Need-same-length
 same-length c =
     let s = c .before .before .before .before .before .before in
-    length-set (c .before .before .copy-in .last .1 .0) (s .args .at + s .args .k) (s .args .k) ∙ c .before .before .copy-in .kept .1 .0 ∙ length-set (s .args .out .now) (s .args .at) 0
+    length-set (c .before .before .copy-in .last .1 .0) (s .args .at + s .args .k) (s .args .k) ∙ simp length-set at (c .before .before .copy-in .kept .1 .0)
 
 returns : tie.Need-returns
 returns c =
