@@ -1,17 +1,23 @@
 -- The difference of the costs of two orders, the pattern's and the standing one, is that of the lengths.
 use mathlib.Core.Path.{_≡_, sym}
 use mathlib.Core.List.{List}
-use Prim.Native.Nat.{ℕ, suc, _+_, _-_, _*_}
+use Prim.Native.Nat.{ℕ, suc, _+_, _-_, _*_, _^_, _<_}
 use native.Mathlib.Omega.{arith}
 use native.Mathlib.Nat.{pow-suc}
-use lib.IntN.{pos, _-ℤ_}
+use lib.Dec.{ltb}
+use lib.IntN.{ℤ, pos, _-ℤ_}
 use lib.ListN.{length}
-use Rattle.theory.specs.Route.{reconnected, tour-length}
+use lib.Signed.{mag, ltZ}
+use mir.Syntax.{w64}
+use mir.Val.{toZ, ofZ}
+use mir.Facts.{toZ-ofZ}
+use borrow.Author.Needs.{sfits-of}
+use Rattle.theory.specs.Route.{Problem, tour-length}
 use Rattle.theory.specs.Tables.{legs-only}
 use Rattle.theory.proofs.Delta.{even-head, small-tail, delta-through}
-use Rattle.costs.specs.RouteCosts.{Middle, Costable, cost-of, Cost, Deltable, delta-of}
+use Rattle.costs.specs.RouteCosts.{Middle, Costable, cost-of, Cost, Deltable, reconnected-at, delta-of}
 use Rattle.costs.proofs.Orders.{middle-is, pattern-middle, standing, standing-middle, standing-order}
-use Rattle.costs.proofs.Signed.{same-difference}
+use Rattle.costs.proofs.Signed.{same-difference, negative}
 
 module _ {locations : ℕ} {legs : List ℕ} {depot : ℕ} {route forward-sums backward-sums cuts order : List ℕ} {mask : ℕ}
     (d : Deltable locations legs depot route forward-sums backward-sums cuts order mask) where
@@ -31,8 +37,7 @@ module _ {locations : ℕ} {legs : List ℕ} {depot : ℕ} {route forward-sums b
   pattern-costable = costable order (pattern-middle (length cuts) order mask (d .cut-set .least) (d .pattern))
 
   crosswise :
-      tour-length (legs-only locations legs depot) (reconnected (record { cuts = cuts; pattern = record { order = order; mask = mask } }) route)
-      + cost-of (legs-only locations legs depot) route cuts standing 0
+      tour-length (legs-only locations legs depot) (reconnected-at route cuts order mask) + cost-of (legs-only locations legs depot) route cuts standing 0
       ≡ tour-length (legs-only locations legs depot) route + cost-of (legs-only locations legs depot) route cuts order mask
   crosswise =
       let c = d .cut-set in
@@ -45,5 +50,11 @@ module _ {locations : ℕ} {legs : List ℕ} {depot : ℕ} {route forward-sums b
   pub delta-is : {proposed current : ℕ} → Cost (legs-only locations legs depot) route cuts order mask proposed → Cost (legs-only locations legs depot) route cuts standing 0 current →
       pos proposed -ℤ pos current ≡ delta-of (legs-only locations legs depot) route cuts order mask
   delta-is {proposed} {current} p c =
-      same-difference (tour-length (legs-only locations legs depot) (reconnected (record { cuts = cuts; pattern = record { order = order; mask = mask } }) route))
-      (tour-length (legs-only locations legs depot) route) proposed current (omega (arith, p .is, c .is, crosswise))
+      same-difference (tour-length (legs-only locations legs depot) (reconnected-at route cuts order mask)) (tour-length (legs-only locations legs depot) route)
+      proposed current (omega (arith, p .is, c .is, crosswise))
+
+-- For callers that test `delta(..) < 0`: it is so exactly where the route after the move is shorter.
+pub negative-delta : (P : Problem) (route cuts order : List ℕ) (mask : ℕ) (d : ℤ) → mag d < 2 ^ 63 → d ≡ delta-of P route cuts order mask →
+    ltZ (toZ w64 (ofZ w64 d)) (pos 0) ≡ ltb (tour-length P (reconnected-at route cuts order mask)) (tour-length P route)
+negative-delta P route cuts order mask d range e =
+    rw (toZ-ofZ (sfits-of range), e) (negative (tour-length P (reconnected-at route cuts order mask)) (tour-length P route))

@@ -33,7 +33,7 @@ two r t h =
     slice-cons t (suc (suc t)) r 0 (omega arith) (omega arith)
     ∙ ap (λ l. getD r t 0 ∷ l) (slice-cons (suc t) (suc (suc t)) r 0 (omega arith) (omega arith) ∙ ap (λ l. getD r (suc t) 0 ∷ l) (slice-empty (suc (suc t)) r))
 
-pub running-next : (b : Bool) (d : ℕ → ℕ → ℕ) (r : List ℕ) (t : ℕ) → 1 ≤ t → t < length r →
+running-next : (b : Bool) (d : ℕ → ℕ → ℕ) (r : List ℕ) (t : ℕ) → 1 ≤ t → t < length r →
     running b d r (t - 1) + leg-between b d (getD r (t - 1) 0) (getD r t 0) ≡ running b d r t
 running-next b d r zero h k = absurd (omega arith)
 running-next b d r (suc t) h k =

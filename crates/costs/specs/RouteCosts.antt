@@ -107,7 +107,10 @@ pub record Deltable (locations : ℕ) (legs : List ℕ) (depot : ℕ) (route for
   pub cut-set : CutSet (length cuts) (length route) cuts
   pub pattern : ForK (length cuts) order mask
 
+-- The route after a pattern at cuts.
+abbrev pub reconnected-at : List ℕ → List ℕ → List ℕ → ℕ → List ℕ
+reconnected-at route cuts order mask = reconnected (record { cuts = cuts; pattern = record { order = order; mask = mask } }) route
+
 -- "The delta from running sums in both directions equals the length after minus the length before."
 abbrev pub delta-of : Problem → List ℕ → List ℕ → List ℕ → ℕ → ℤ
-delta-of P route cuts order mask =
-    pos (tour-length P (reconnected (record { cuts = cuts; pattern = record { order = order; mask = mask } }) route)) -ℤ pos (tour-length P route)
+delta-of P route cuts order mask = pos (tour-length P (reconnected-at route cuts order mask)) -ℤ pos (tour-length P route)

@@ -1,21 +1,15 @@
 -- `costs::cost` meets its contract. The invariant: what is added up so far, with the way through the segments still to place, is the whole way.
-use mathlib.Core.Path.{_≡_, sym, ap, _∙_}
+use mathlib.Core.Path.{_≡_, ap}
 use Prim.Native.Nat.{_+_, _-_, _*_, _≤_, _<_}
+use native.Mathlib.Omega.{arith}
 use lib.ListN.{length}
+use borrow.Author.Needs.{needs}
 use Rattle.theory.specs.Tables.{legs-only}
 use Rattle.costs.specs.RouteCosts.{leg, cost-of}
 use Rattle.costs.proofs.Segments.{head-known, tail-known}
 use Rattle.costs.proofs.Through.{rest-of, last-rest, place-next}
-use native.Mathlib.Omega.{arith}
-use borrow.Author.Needs.{needs}
 use Rattle.costs.proofs.cost.Statement.{statement}
 use Rattle.costs.proofs.cost.Tie as tie
-use Rattle.costs.proofs.cost.Reads as reads
-use Rattle.costs.proofs.cost.Lts as lts
-use Rattle.costs.proofs.head_end.Reads as head-end-reads
-use Rattle.costs.proofs.place_segment.Reads as place-segment-reads
-use Rattle.costs.proofs.route_distance.Reads as route-distance-reads
-use Rattle.costs.proofs.tail_start.Reads as tail-start-reads
 
 abbrev Inv-loop : tie.InvT-loop
 Inv-loop locations legs depot route forward backward cuts order mask total₀ previous₀ position₀ total previous position =

@@ -1,6 +1,5 @@
 -- `costs::delta` meets its contract: the costs of the pattern's order and of the standing one differ as the lengths do.
 use mathlib.Core.Path.{_∙_}
-use Prim.Native.Nat.{_^_, _<_}
 use native.Mathlib.Omega.{arith}
 use borrow.Author.Needs.{needs}
 use Rattle.costs.proofs.Signed.{difference-fits, difference-is}

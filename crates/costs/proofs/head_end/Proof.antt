@@ -1,7 +1,7 @@
 -- `costs::head_end` meets its contract.
-use Rattle.costs.proofs.Segments.{cut-below, head-empty, head-filled}
 use native.Mathlib.Omega.{arith}
 use borrow.Author.Needs.{needs}
+use Rattle.costs.proofs.Segments.{cut-below, head-empty, head-filled}
 use Rattle.costs.proofs.head_end.Statement.{statement}
 use Rattle.costs.proofs.head_end.Tie as tie
 

@@ -1,8 +1,8 @@
 -- `costs::inner_leg` meets its contract in either direction.
 use mathlib.Core.Bool.{true, false}
-use Rattle.costs.proofs.Sums.{inner-leg-in}
 use native.Mathlib.Omega.{arith}
 use borrow.Author.Needs.{needs}
+use Rattle.costs.proofs.Sums.{inner-leg-in}
 use Rattle.costs.proofs.inner_leg.Statement.{statement}
 use Rattle.costs.proofs.inner_leg.Tie as tie
 

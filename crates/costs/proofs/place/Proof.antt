@@ -1,8 +1,8 @@
 -- `costs::place` meets its contract, reversed and not.
 use mathlib.Core.Bool.{true, false}
-use Rattle.costs.proofs.Placing.{inner-asked, inner-small, placed-after}
 use native.Mathlib.Omega.{arith}
 use borrow.Author.Needs.{needs}
+use Rattle.costs.proofs.Placing.{inner-asked, inner-small, placed-after}
 use Rattle.costs.proofs.place.Statement.{statement}
 use Rattle.costs.proofs.place.Tie as tie
 

@@ -1,6 +1,6 @@
 -- `costs::place_segment` meets its contract: a middle segment lies between two cuts.
-use Rattle.costs.proofs.Segments.{cut-below, segment-is, segment-filled}
 use borrow.Author.Needs.{needs}
+use Rattle.costs.proofs.Segments.{cut-below, segment-is, segment-filled}
 use Rattle.costs.proofs.place_segment.Statement.{statement}
 use Rattle.costs.proofs.place_segment.Tie as tie
 

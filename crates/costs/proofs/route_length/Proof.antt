@@ -3,10 +3,10 @@ use mathlib.Core.Path.{_≡_}
 use Prim.Native.Nat.{_+_, _-_, _*_, _≤_, _<_}
 use native.Mathlib.Omega.{arith}
 use lib.ListN.{length, drop}
+use borrow.Author.Needs.{needs}
 use Rattle.theory.specs.Route.{tour-length}
 use Rattle.theory.specs.Tables.{legs-only}
 use Rattle.costs.proofs.Length.{to-go, all-to-go, next-to-go, last-to-go}
-use borrow.Author.Needs.{needs}
 use Rattle.costs.proofs.route_length.Statement.{statement}
 use Rattle.costs.proofs.route_length.Tie as tie
 

@@ -1,11 +1,11 @@
 -- `costs::running_sums` meets its contract. The invariant: the places below t hold their sums, the others what they held.
 use mathlib.Core.Path.{_≡_}
 use Prim.Native.Nat.{ℕ, _+_, _-_, _≤_, _<_}
+use native.Mathlib.Omega.{arith}
 use lib.ListN.{length, getD}
+use borrow.Author.Needs.{needs}
 use Rattle.costs.specs.RouteCosts.{leg, running}
 use Rattle.costs.proofs.Sums.{running-first, Written, written-none, written-next, written-first, written-all, no-stops}
-use native.Mathlib.Omega.{arith}
-use borrow.Author.Needs.{needs}
 use Rattle.costs.proofs.running_sums.Statement.{statement}
 use Rattle.costs.proofs.running_sums.Tie as tie
 

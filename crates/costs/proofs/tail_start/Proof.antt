@@ -1,7 +1,7 @@
 -- `costs::tail_start` meets its contract.
-use Rattle.costs.proofs.Segments.{last-cut, tail-empty, tail-filled}
 use native.Mathlib.Omega.{arith}
 use borrow.Author.Needs.{needs}
+use Rattle.costs.proofs.Segments.{last-cut, tail-empty, tail-filled}
 use Rattle.costs.proofs.tail_start.Statement.{statement}
 use Rattle.costs.proofs.tail_start.Tie as tie
 

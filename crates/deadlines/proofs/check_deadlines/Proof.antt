@@ -1,10 +1,10 @@
 -- `deadlines::check_deadlines` meets its contract. The invariant: the clock is the legs up to here, and no stop so far is late.
 use Prim.Native.Nat.{_-_, _*_, _≤_, _<_}
+use native.Mathlib.Omega.{arith}
 use lib.ListN.{length, getD}
+use borrow.Author.Needs.{needs}
 use Rattle.theory.specs.Tables.{problem}
 use Rattle.deadlines.proofs.Clock.{At, at-depot, late-there, at-next}
-use native.Mathlib.Omega.{arith}
-use borrow.Author.Needs.{needs}
 use Rattle.deadlines.proofs.check_deadlines.Statement.{statement}
 use Rattle.deadlines.proofs.check_deadlines.Tie as tie
 
