@@ -6,7 +6,7 @@ use native.Mathlib.Nat.{zero-add}
 use native.Mathlib.Omega.{arith}
 use lib.ListN.{length, getD, take, length-append, List·getD-append}
 use lib.Seq.{slice, take-at}
-use Rattle.theory.specs.Moves.{upfrom, total}
+use Rattle.theory.specs.Moves.{upfrom}
 use Rattle.theory.specs.Tables.{ForK}
 use Rattle.theory.proofs.Moves.{total-ones, length-upfrom}
 use Rattle.theory.proofs.Orders.{in-range}

@@ -1,37 +1,45 @@
 -- A segment placed after a stop: its seconds from the leg to it and the running sums of its direction.
-use mathlib.Core.Path.{_≡_, refl, sym, ap, _∙_}
+use mathlib.Core.Path.{_≡_, sym}
 use mathlib.Core.Bool.{Bool, true, false, cond}
-use mathlib.Core.List.{List, [], _∷_}
+use mathlib.Core.List.{List}
 use Prim.Native.Nat.{ℕ, suc, _+_, _-_, _*_, _≤_, _<_}
 use native.Mathlib.Omega.{arith}
 use lib.ListN.{length, getD}
 use lib.Seq.{slice}
 use Rattle.theory.specs.Route.{reverse-if}
-use Rattle.theory.specs.Costs.{inner, forward, backward}
-use Rattle.theory.specs.Tables.{Stops}
+use Rattle.theory.specs.Costs.{inner}
 use Rattle.theory.proofs.Delta.{placed-inner}
-use Rattle.costs.specs.declared.Placed.{Placed}
-use Rattle.costs.specs.RouteCosts.{leg, running, Leg, Sums, Passed}
+use Rattle.costs.specs.RouteCosts.{leg, running, Leg, Sums, RouteCosts, PlacedAfter}
 use Rattle.costs.proofs.Segments.{first-placed, last-placed}
 
-module _ (b : Bool) (locations : ℕ) (legs route sums : List ℕ) (stops : Stops locations route) (held : Sums route (running b (leg locations legs) route) sums)
-    (start end : ℕ) (h : start < end) (k : end ≤ length route) where
+-- Reversed, a segment is read off the backward sums, entered at its last stop and left at its first.
+module _ {locations : ℕ} {legs route forward-sums backward-sums : List ℕ} (costs : RouteCosts locations legs route forward-sums backward-sums)
+    (b : Bool) (start end : ℕ) (h : start < end) (k : end ≤ length route) where
+  abbrev sums : List ℕ
+  sums = cond b backward-sums forward-sums
+
+  held : Sums route (running b (leg locations legs) route) sums
+  held = pick b
+    where
+      pick : (c : Bool) → Sums route (running c (leg locations legs) route) (cond c backward-sums forward-sums)
+      pick true = costs .backwards
+      pick false = costs .forwards
+
   inner-sum : getD sums start 0 + inner (leg locations legs) (reverse-if b (slice start end route)) ≡ getD sums (end - 1) 0
   inner-sum =
       let e : suc (end - 1) ≡ end = omega arith in
       rw (held .each start (omega arith), held .each (end - 1) (omega arith)) (rw e at (placed-inner (leg locations legs) route b start (end - 1) (omega arith) (omega arith)))
 
   pub inner-asked : (length sums ≡ 512) × ((start < end) × (end ≤ 512) × (getD sums start 0 ≤ getD sums (end - 1) 0))
-  inner-asked = (held .places, (h, omega (arith, stops .short), omega (arith, inner-sum)))
+  inner-asked = (held .places, (h, omega (arith, costs .stops .short), omega (arith, inner-sum)))
 
   pub inner-small : getD sums (end - 1) 0 - getD sums start 0 ≤ 511 * 1000000
-  inner-small = omega (arith, held .small (end - 1) (omega arith), stops .short)
+  inner-small = omega (arith, held .small (end - 1) (omega arith), costs .stops .short)
 
-  -- Reversed, it is entered at its last stop and left at its first.
-  pub passed : (reversed : Bool) (previous v w : ℕ) → reversed ≡ b → Leg locations legs previous (cond b (getD route (end - 1) 0) (getD route start 0)) v →
+  pub placed-after : (reversed : Bool) (previous v w : ℕ) → reversed ≡ b → Leg locations legs previous (cond b (getD route (end - 1) 0) (getD route start 0)) v →
       w ≡ getD sums (end - 1) 0 - getD sums start 0 →
-      Passed locations legs previous (reverse-if reversed (slice start end route)) (record { seconds = v + w; last = cond b (getD route start 0) (getD route (end - 1) 0) })
-  passed reversed previous v w e leg-is w-is =
+      PlacedAfter locations legs previous (reverse-if reversed (slice start end route)) (record { seconds = v + w; last = cond b (getD route start 0) (getD route (end - 1) 0) })
+  placed-after reversed previous v w e leg-is w-is =
       rw e
       (record {
         seconds = rw (first-placed route start end h k b previous) (omega (arith, leg-is .is, inner-sum));
@@ -41,5 +49,5 @@ module _ (b : Bool) (locations : ℕ) (legs route sums : List ℕ) (stops : Stop
       })
     where
       known-end : (c : Bool) → cond c (getD route start 0) (getD route (end - 1) 0) < locations
-      known-end true = stops .known start (omega arith)
-      known-end false = stops .known (end - 1) (omega arith)
+      known-end true = costs .stops .known start (omega arith)
+      known-end false = costs .stops .known (end - 1) (omega arith)

@@ -2,7 +2,7 @@
 use mathlib.Core.Path.{_≡_, refl, sym, ap, _∙_}
 use mathlib.Core.Bool.{Bool, true, false, cond}
 use mathlib.Core.List.{List, [], _∷_, _++_, reverse, reverse-cons}
-use Prim.Native.Nat.{ℕ, zero, suc, _+_, _-_, _≤_, _<_}
+use Prim.Native.Nat.{ℕ, zero, suc, _-_, _≤_, _<_}
 use native.Mathlib.Omega.{arith}
 use native.Mathlib.Decide.{ℕ-discrete}
 use lib.ListN.{length, getD, take, drop, drop-of-length-le}
@@ -15,7 +15,7 @@ use Rattle.theory.proofs.Delta.{gap}
 
 -- ---- first and last stops
 
-last-snoc : (a : ℕ) (l : List ℕ) (x : ℕ) → last-of a (l ++ (x ∷ [])) ≡ x
+pub last-snoc : (a : ℕ) (l : List ℕ) (x : ℕ) → last-of a (l ++ (x ∷ [])) ≡ x
 unfolding last-of
 last-snoc a [] x = refl
 last-snoc a (y ∷ l) x = last-snoc y l x
@@ -25,22 +25,22 @@ unfolding first-of
 first-snoc [] x a = refl
 first-snoc (y ∷ l) x a = refl
 
-pub first-reverse : (l : List ℕ) (a : ℕ) → first-of (reverse l) a ≡ last-of a l
+first-reverse : (l : List ℕ) (a : ℕ) → first-of (reverse l) a ≡ last-of a l
 unfolding first-of last-of
 first-reverse [] a = refl
 first-reverse (x ∷ l) a = rw (reverse-cons x l) (first-snoc (reverse l) x a ∙ first-reverse l x)
 
-pub last-reverse : (l : List ℕ) (a : ℕ) → last-of a (reverse l) ≡ first-of l a
+last-reverse : (l : List ℕ) (a : ℕ) → last-of a (reverse l) ≡ first-of l a
 unfolding first-of last-of
 last-reverse [] a = refl
 last-reverse (x ∷ l) a = rw (reverse-cons x l) (last-snoc a (reverse l) x)
 
 module _ (r : List ℕ) (start end : ℕ) (h : start < end) (k : end ≤ length r) where
-  pub first-slice : (a : ℕ) → first-of (slice start end r) a ≡ getD r start 0
+  first-slice : (a : ℕ) → first-of (slice start end r) a ≡ getD r start 0
   unfolding first-of
   first-slice a = rw (slice-cons start end r 0 h k)
 
-  pub last-slice : (a : ℕ) → last-of a (slice start end r) ≡ getD r (end - 1) 0
+  last-slice : (a : ℕ) → last-of a (slice start end r) ≡ getD r (end - 1) 0
   last-slice a =
       let e : end ≡ suc (end - 1) = omega arith in
       let parted : slice start end r ≡ slice start (end - 1) r ++ (getD r (end - 1) 0 ∷ []) =

@@ -4,8 +4,8 @@ use mathlib.Core.Bool.{Bool, true, false, cond}
 use Prim.Native.Nat.{ℕ, zero, suc, _+_, _-_, _^_, _≤_, _<_}
 use native.Mathlib.Omega.{arith}
 use lib.Dec.{ltb}
-use lib.IntN.{ℤ, pos, negsuc, _-ℤ_}
-use lib.Signed.{mag}
+use lib.IntN.{pos, negsuc, _-ℤ_}
+use lib.Signed.{mag, ltZ}
 use mir.Syntax.{w64}
 use mir.Val.{SFits, toZ, ofZ}
 use mir.Facts.{toZ-pos, toZ-ofZ}
@@ -42,3 +42,11 @@ same-difference a b x y e = by (ltb x y) refl
     by : (t : Bool) → ltb x y ≡ t → pos x -ℤ pos y ≡ pos a -ℤ pos b
     by true f = let h = ltb-true x y f in below x y h ∙ ap negsuc (omega arith) ∙ sym (below a b (omega arith))
     by false f = let h = ltb-false x y f in not-below x y h ∙ ap pos (omega arith) ∙ sym (not-below a b (omega arith))
+
+-- A difference is below 0 exactly where the first number is below the second.
+pub negative : (a b : ℕ) → ltZ (pos a -ℤ pos b) (pos 0) ≡ ltb a b
+negative a b = by (ltb a b) refl
+  where
+    by : (t : Bool) → ltb a b ≡ t → ltZ (pos a -ℤ pos b) (pos 0) ≡ t
+    by true f = rw (below a b (ltb-true a b f))
+    by false f = rw (not-below a b (ltb-false a b f)) (le-ltb (a - b) 0 (omega arith))

@@ -1,5 +1,5 @@
 -- The running sums step by step, and an array that is filled with them from the front.
-use mathlib.Core.Path.{_≡_, refl, sym, ap, _∙_}
+use mathlib.Core.Path.{_≡_, refl, ap, _∙_}
 use mathlib.Core.Bool.{Bool, true, false, cond}
 use mathlib.Core.List.{List, [], _∷_}
 use Prim.Native.Nat.{ℕ, zero, suc, _+_, _-_, _*_, _≤_, _<_}
@@ -10,7 +10,7 @@ use borrow.Author.Count.{below-more}
 use Rattle.theory.specs.Route.{path, reverse-if}
 use Rattle.theory.specs.Costs.{inner, forward, backward}
 use Rattle.theory.proofs.Delta.{placed-inner}
-use Rattle.costs.specs.RouteCosts.{leg, running, Step, Summed}
+use Rattle.costs.specs.RouteCosts.{leg, running, InnerLeg, Summed}
 
 pub running-first : (b : Bool) (d : ℕ → ℕ → ℕ) (r : List ℕ) → 0 ≡ running b d r 0
 unfolding forward backward inner path
@@ -33,7 +33,7 @@ two r t h =
     slice-cons t (suc (suc t)) r 0 (omega arith) (omega arith)
     ∙ ap (λ l. getD r t 0 ∷ l) (slice-cons (suc t) (suc (suc t)) r 0 (omega arith) (omega arith) ∙ ap (λ l. getD r (suc t) 0 ∷ l) (slice-empty (suc (suc t)) r))
 
-pub running-next : (b : Bool) (d : ℕ → ℕ → ℕ) (r : List ℕ) (t : ℕ) → 1 ≤ t → t < length r →
+running-next : (b : Bool) (d : ℕ → ℕ → ℕ) (r : List ℕ) (t : ℕ) → 1 ≤ t → t < length r →
     running b d r (t - 1) + leg-between b d (getD r (t - 1) 0) (getD r t 0) ≡ running b d r t
 running-next b d r zero h k = absurd (omega arith)
 running-next b d r (suc t) h k =
@@ -41,9 +41,9 @@ running-next b d r (suc t) h k =
     rw (e, ← (inner-two b d (getD r t 0) (getD r (suc t) 0)), ← (two r t k)) (placed-inner d r b t (suc t) (omega arith) k)
 
 -- One arm of the choice of a direction.
-pub step-in : (b : Bool) (locations : ℕ) (legs route : List ℕ) (t : ℕ) (backwards : Bool) (v : ℕ) → backwards ≡ b → 1 ≤ t → t < length route →
-    v ≡ leg-between b (leg locations legs) (getD route (t - 1) 0) (getD route t 0) → v ≤ 1000000 → Step locations legs route t backwards v
-step-in b locations legs route t backwards v e h k f s = record { adds = rw (e, f) (running-next b (leg locations legs) route t h k); small = s }
+pub inner-leg-in : (b : Bool) (locations : ℕ) (legs route : List ℕ) (t : ℕ) (backwards : Bool) (v : ℕ) → backwards ≡ b → 1 ≤ t → t < length route →
+    v ≡ leg-between b (leg locations legs) (getD route (t - 1) 0) (getD route t 0) → v ≤ 1000000 → InnerLeg locations legs route t backwards v
+inner-leg-in b locations legs route t backwards v e h k f s = record { adds = rw (e, f) (running-next b (leg locations legs) route t h k); small = s }
 
 -- The first t places of `sums` hold the sums, and the others what they held before.
 pub record Written (sum : ℕ → ℕ) (before sums : List ℕ) (t : ℕ) : Type 0 where

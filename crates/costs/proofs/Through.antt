@@ -1,33 +1,42 @@
 -- The way through the placed segments as code adds it up: segment by segment along an order, and at last the leg to the tail's start.
-use mathlib.Core.Path.{_≡_, refl}
-use mathlib.Core.List.{List, [], _∷_}
-use Prim.Native.Nat.{ℕ, suc, _+_, _≤_, _<_}
+use mathlib.Core.Path.{_≡_}
+use mathlib.Core.List.{List, []}
+use Prim.Native.Nat.{ℕ, _+_, _≤_, _<_}
 use native.Mathlib.Numerals.{add-one}
 use native.Mathlib.Omega.{arith}
 use lib.ListN.{length, getD}
 use lib.Seq.{slice, slice-cons, slice-empty}
-use Rattle.theory.specs.Route.{reverses, reverse-if, placed}
+use Rattle.theory.specs.Route.{Problem, segments, reverses, reverse-if, placed}
 use Rattle.theory.specs.Costs.{last-of, first-of, inner, through}
+use Rattle.theory.specs.Tables.{legs-only}
 use Rattle.costs.specs.declared.Placed.{Placed}
-use Rattle.costs.specs.RouteCosts.{leg, Passed}
+use Rattle.costs.specs.RouteCosts.{tail-start, PlacedAfter}
 
--- The segment at place p of an order, as it is placed.
-abbrev pub here : ℕ → List (List ℕ) → List ℕ → ℕ → List ℕ
-here mask ps order p = reverse-if (reverses mask (getD order p 0)) (getD ps (getD order p 0) [])
+-- From a stop through the segments that an order still has at the place p.
+abbrev pub rest-of : Problem → List ℕ → List ℕ → List ℕ → ℕ → ℕ → ℕ → ℕ
+rest-of P route cuts order mask previous p =
+    through (P .leg) previous (placed mask (segments 0 cuts route) (slice p (length cuts) order)) (tail-start P route cuts)
 
-module _ (d : ℕ → ℕ → ℕ) (mask : ℕ) (ps : List (List ℕ)) (order : List ℕ) (k : ℕ) where
-  pub next-through : (a p e : ℕ) → p < k → k ≤ length order →
-      through d a (placed mask ps (slice p k order)) e ≡ d a (first-of (here mask ps order p) a) + inner d (here mask ps order p) + through d (last-of a (here mask ps order p)) (placed mask ps (slice (p + 1) k order)) e
-  unfolding through placed
-  next-through a p e h n = rw (slice-cons p k order 0 h n, add-one p)
+-- The segment at the place p of an order, as it is placed.
+abbrev pub segment-at : List ℕ → List ℕ → List ℕ → ℕ → ℕ → List ℕ
+segment-at route cuts order mask p = reverse-if (reverses mask (getD order p 0)) (getD (segments 0 cuts route) (getD order p 0) [])
 
-  pub last-through : (a p e : ℕ) → p ≡ k → through d a (placed mask ps (slice p k order)) e ≡ d a e
-  unfolding through placed
-  last-through a p e h = rw (h, slice-empty k order)
+next-rest : (P : Problem) (route cuts order : List ℕ) (mask previous p : ℕ) → p < length cuts → length cuts ≤ length order →
+    rest-of P route cuts order mask previous p
+    ≡ P .leg previous (first-of (segment-at route cuts order mask p) previous) + inner (P .leg) (segment-at route cuts order mask p)
+    + rest-of P route cuts order mask (last-of previous (segment-at route cuts order mask p)) (p + 1)
+unfolding through placed
+next-rest P route cuts order mask previous p h n = rw (slice-cons p (length cuts) order 0 h n, add-one p)
 
--- One turn of the loop: the segment at place p is passed.
-pub pass : (locations : ℕ) (legs : List ℕ) (mask : ℕ) (ps : List (List ℕ)) (order : List ℕ) (k a p e total whole : ℕ) {r : Placed} → p < k → k ≤ length order →
-    total + through (leg locations legs) a (placed mask ps (slice p k order)) e ≡ whole → Passed locations legs a (here mask ps order p) r →
-    total + r .seconds + through (leg locations legs) (r .last) (placed mask ps (slice (p + 1) k order)) e ≡ whole
-pass locations legs mask ps order k a p e total whole h n inv passed =
-    rw (passed .last) (omega (arith, inv, passed .seconds, next-through (leg locations legs) mask ps order k a p e h n))
+pub last-rest : (P : Problem) (route cuts order : List ℕ) (mask previous p : ℕ) → p ≡ length cuts →
+    rest-of P route cuts order mask previous p ≡ P .leg previous (tail-start P route cuts)
+unfolding through placed
+last-rest P route cuts order mask previous p h = rw (h, slice-empty (length cuts) order)
+
+-- One turn of the loop: the segment at the place p is placed.
+pub place-next : (locations : ℕ) (legs : List ℕ) (depot : ℕ) (route cuts order : List ℕ) (mask previous p total whole : ℕ) {r : Placed} →
+    p < length cuts → length cuts ≤ length order → total + rest-of (legs-only locations legs depot) route cuts order mask previous p ≡ whole →
+    PlacedAfter locations legs previous (segment-at route cuts order mask p) r →
+    total + r .seconds + rest-of (legs-only locations legs depot) route cuts order mask (r .last) (p + 1) ≡ whole
+place-next locations legs depot route cuts order mask previous p total whole h n inv after =
+    rw (after .last) (omega (arith, inv, after .seconds, next-rest (legs-only locations legs depot) route cuts order mask previous p h n))

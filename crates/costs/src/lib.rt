@@ -8,11 +8,11 @@ ghost use lib.Seq.{slice};
 ghost use Rattle.theory.specs.Route.{segments, reverses, reverse-if};
 ghost use Rattle.theory.specs.Costs.{last-of, first-of, forward, backward};
 ghost use Rattle.theory.specs.Tables.{legs-only, LegTable, Stops, Measurable, CutSet};
-ghost use Rattle.costs.specs.RouteCosts.{leg, running, Pair, Leg, Length, Step, Summable, Summed, RouteCosts, Passed, Middle, Cost, Deltable, delta-of};
+ghost use Rattle.costs.specs.RouteCosts.{leg, running, KnownLeg, Leg, Length, InnerLeg, Summable, Summed, RouteCosts, PlacedAfter, Costable, Cost, Deltable, delta-of};
 
 // The leg between two locations.
 pub fn route_distance(locations: usize, legs: &[u32], from: u32, to: u32) -> u64
-    requires { ⌜ Pair locations (now legs) from to ⌝ }
+    requires { ⌜ KnownLeg locations (now legs) from to ⌝ }
     ensures { λ r. ⌜ Leg locations (now (legs .entry)) from to r ⌝ }
 {
     let row = from as usize;
@@ -38,11 +38,11 @@ pub fn route_length(locations: usize, legs: &[u32], depot: u32, route: &[u32]) -
 }
 
 // The leg between the stops t - 1 and t, in the direction asked for.
-fn step(locations: usize, legs: &[u32], route: &[u32], t: usize, backwards: bool) -> u64
+fn inner_leg(locations: usize, legs: &[u32], route: &[u32], t: usize, backwards: bool) -> u64
     requires { ⌜ LegTable locations (now legs) ⌝ }
     requires { ⌜ Stops locations (now route) ⌝ }
     requires { ⌜ (1 ≤ t) × (t < length (now route)) ⌝ }
-    ensures { λ r. ⌜ Step locations (now (legs .entry)) (now (route .entry)) t backwards r ⌝ }
+    ensures { λ r. ⌜ InnerLeg locations (now (legs .entry)) (now (route .entry)) t backwards r ⌝ }
 {
     let before = route[t - 1];
     let after = route[t];
@@ -69,7 +69,7 @@ fn running_sums(
     sums[0] = 0;
     let mut t = 1;
     while t < route.len() {
-        sums[t] = sums[t - 1] + step(locations, legs, route, t, backwards);
+        sums[t] = sums[t - 1] + inner_leg(locations, legs, route, t, backwards);
         t += 1;
     }
 }
@@ -151,7 +151,7 @@ fn place(
 ) -> Placed
     requires { ⌜ RouteCosts locations (now legs) (now route) (now forward) (now backward) ⌝ }
     requires { ⌜ (start < end) × (end ≤ length (now route)) × (previous < locations) ⌝ }
-    ensures { λ r. ⌜ Passed locations (now (legs .entry)) previous (reverse-if reversed (slice start end (now (route .entry)))) r ⌝ }
+    ensures { λ r. ⌜ PlacedAfter locations (now (legs .entry)) previous (reverse-if reversed (slice start end (now (route .entry)))) r ⌝ }
 {
     let front = route[start];
     let back = route[end - 1];
@@ -184,7 +184,7 @@ fn place_segment(
     requires { ⌜ RouteCosts locations (now legs) (now route) (now forward) (now backward) ⌝ }
     requires { ⌜ CutSet (length (now cuts)) (length (now route)) (now cuts) ⌝ }
     requires { ⌜ (1 ≤ segment) × (segment < length (now cuts)) × (previous < locations) ⌝ }
-    ensures { λ r. ⌜ Passed locations (now (legs .entry)) previous (reverse-if (reverses mask segment) (getD (segments 0 (now (cuts .entry)) (now (route .entry))) segment [])) r ⌝ }
+    ensures { λ r. ⌜ PlacedAfter locations (now (legs .entry)) previous (reverse-if (reverses mask segment) (getD (segments 0 (now (cuts .entry)) (now (route .entry))) segment [])) r ⌝ }
 {
     let start = cuts[segment - 1];
     let end = cuts[segment];
@@ -206,23 +206,19 @@ fn place_segment(
 fn cost(
     locations: usize,
     legs: &[u32],
+    depot: u32,
     route: &[u32],
     forward: &[u64; 512],
     backward: &[u64; 512],
     cuts: &[usize],
     order: &[u8],
     mask: u8,
-    head_end: u32,
-    tail_start: u32,
 ) -> u64
-    requires { ⌜ RouteCosts locations (now legs) (now route) (now forward) (now backward) ⌝ }
-    requires { ⌜ CutSet (length (now cuts)) (length (now route)) (now cuts) ⌝ }
-    requires { ⌜ Middle (length (now cuts)) (now order) ⌝ }
-    requires { ⌜ («head_end» < locations) × («tail_start» < locations) ⌝ }
-    ensures { λ r. ⌜ Cost locations (now (legs .entry)) (now (route .entry)) (now (cuts .entry)) (now (order .entry)) mask «head_end» «tail_start» r ⌝ }
+    requires { ⌜ Costable locations (now legs) depot (now route) (now forward) (now backward) (now cuts) (now order) ⌝ }
+    ensures { λ r. ⌜ Cost (legs-only locations (now (legs .entry)) depot) (now (route .entry)) (now (cuts .entry)) (now (order .entry)) mask r ⌝ }
 {
     let mut total = 0u64;
-    let mut previous = head_end;
+    let mut previous = head_end(depot, route, cuts);
     let mut position = 1;
     while position < cuts.len() {
         let segment = order[position] as usize;
@@ -241,7 +237,8 @@ fn cost(
         previous = placed.last;
         position += 1;
     }
-    total + route_distance(locations, legs, previous, tail_start)
+    let to = tail_start(depot, route, cuts);
+    total + route_distance(locations, legs, previous, to)
 }
 
 // The length after a move minus the length before it: below 0 it improves.
@@ -259,32 +256,28 @@ pub fn delta(
     requires { ⌜ Deltable locations (now legs) depot (now route) (now forward) (now backward) (now cuts) (now order) mask ⌝ }
     ensures { λ r. ⌜ r ≡ delta-of (legs-only locations (now (legs .entry)) depot) (now (route .entry)) (now (cuts .entry)) (now (order .entry)) mask ⌝ }
 {
-    let from = head_end(depot, route, cuts);
-    let to = tail_start(depot, route, cuts);
     let standing = [0u8, 1, 2, 3, 4, 5];
     let current = cost(
         locations,
         legs,
+        depot,
         route,
         forward,
         backward,
         cuts,
         &standing,
         0,
-        from,
-        to,
     );
     let proposed = cost(
         locations,
         legs,
+        depot,
         route,
         forward,
         backward,
         cuts,
         order,
         mask,
-        from,
-        to,
     );
     proposed as i64 - current as i64
 }

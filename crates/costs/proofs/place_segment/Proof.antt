@@ -1,38 +1,27 @@
-use Rattle.costs.proofs.Segments.{cut-below, segment-is, segment-filled}
-use native.Mathlib.Omega.{arith}
+-- `costs::place_segment` meets its contract: a middle segment lies between two cuts.
 use borrow.Author.Needs.{needs}
+use Rattle.costs.proofs.Segments.{cut-below, segment-is, segment-filled}
 use Rattle.costs.proofs.place_segment.Statement.{statement}
 use Rattle.costs.proofs.place_segment.Tie as tie
-use Rattle.costs.proofs.place_segment.Reads as reads
-use Rattle.costs.proofs.place_segment.Lts as lts
-use Rattle.costs.proofs.place.Reads as place-reads
-use Rattle.costs.proofs.should_reverse.Reads as should-reverse-reads
 
--- src/lib.rt:177:22
 sub-start : tie.Need-sub-start
 sub-start c = search needs
 
--- src/lib.rt:177:17
 mul-start : tie.Need-mul-start
 mul-start c = search needs
 
--- src/lib.rt:177:17
 shared-slice-read-start : tie.Need-shared-slice-read-start
 shared-slice-read-start c = search needs
 
--- src/lib.rt:178:15
 mul-end : tie.Need-mul-end
 mul-end c = search needs
 
--- src/lib.rt:178:15
 shared-slice-read-end : tie.Need-shared-slice-read-end
 shared-slice-read-end c = search needs
 
--- src/lib.rt:179:9
 should-reverse-requires : tie.Need-should-reverse-requires
 should-reverse-requires c κs = search needs
 
--- src/lib.rt:180:5
 place-requires : tie.Need-place-requires
 place-requires c κs =
     let s = c .before .before .before .before .before .before in (
@@ -44,7 +33,6 @@ place-requires c κs =
       ),
     )
 
--- src/lib.rt:161:1
 returns : tie.Need-returns
 returns c =
     let s = c .before .before .before .before .before .before .before in

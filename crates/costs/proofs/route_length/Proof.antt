@@ -1,16 +1,14 @@
+-- `costs::route_length` meets its contract. The invariant: what is added up so far, with what is to go, is the length.
 use mathlib.Core.Path.{_≡_}
 use Prim.Native.Nat.{_+_, _-_, _*_, _≤_, _<_}
 use native.Mathlib.Omega.{arith}
-use lib.ListN.{length, getD, drop}
+use lib.ListN.{length, drop}
+use borrow.Author.Needs.{needs}
 use Rattle.theory.specs.Route.{tour-length}
 use Rattle.theory.specs.Tables.{legs-only}
 use Rattle.costs.proofs.Length.{to-go, all-to-go, next-to-go, last-to-go}
-use borrow.Author.Needs.{needs}
 use Rattle.costs.proofs.route_length.Statement.{statement}
 use Rattle.costs.proofs.route_length.Tie as tie
-use Rattle.costs.proofs.route_length.Reads as reads
-use Rattle.costs.proofs.route_length.Lts as lts
-use Rattle.costs.proofs.route_distance.Reads as route-distance-reads
 
 abbrev Inv-loop : tie.InvT-loop
 Inv-loop locations legs depot route total₀ previous₀ i₀ total previous i =
@@ -22,7 +20,6 @@ Inv-loop locations legs depot route total₀ previous₀ i₀ total previous i =
 abbrev μ-loop : tie.MeasureT-loop
 μ-loop locations legs depot route total₀ previous₀ i₀ total previous i = length route - i
 
--- src/lib.rt:30:5
 loop-holds : tie.Need-loop-holds Inv-loop μ-loop
 loop-holds c =
     let s = c .before .before in (
@@ -32,34 +29,27 @@ loop-holds c =
       all-to-go (legs-only (s .args .locations) (s .args .legs .now) (s .args .depot)) (s .args .route .now),
     )
 
--- src/lib.rt:31:20
 mul-stop : tie.Need-mul-stop Inv-loop μ-loop
 mul-stop c = search needs
 
--- src/lib.rt:31:20
 shared-slice-read-stop : tie.Need-shared-slice-read-stop Inv-loop μ-loop
 shared-slice-read-stop c = search needs
 
--- src/lib.rt:32:18
 route-distance-requires : tie.Need-route-distance-requires Inv-loop μ-loop
 route-distance-requires c κs =
     let b = c .before .before in
     let s = b .before .before .before in
     record { table = s .pre .table; from-known = b .loop .inv .1; to-known = s .pre .stops .known _ (c .before .loop-test .taken) }
 
--- src/lib.rt:32:9
 add-total : tie.Need-add-total Inv-loop μ-loop
 add-total c = search needs
 
--- src/lib.rt:34:9
 add-i : tie.Need-add-i Inv-loop μ-loop
 add-i c = search needs
 
--- src/lib.rt:30:5
 loop-less : tie.Need-loop-less Inv-loop μ-loop
 loop-less c = search needs
 
--- src/lib.rt:30:5
 loop-again : tie.Need-loop-again Inv-loop μ-loop
 loop-again c =
     let b = c .before .before .before in
@@ -71,15 +61,12 @@ loop-again c =
       omega (arith, next-to-go (legs-only (s .args .locations) (s .args .legs .now) (s .args .depot)) (b .loop .previous) (s .args .route .now) (b .loop .i) h),
     )
 
--- src/lib.rt:36:13
 route-distance-requires-2 : tie.Need-route-distance-requires-2 Inv-loop μ-loop
 route-distance-requires-2 c κs = search needs
 
--- src/lib.rt:36:5
 add-result : tie.Need-add-result Inv-loop μ-loop
 add-result c = search needs
 
--- src/lib.rt:23:1
 returns : tie.Need-returns Inv-loop μ-loop
 returns c =
     let b = c .before .before in

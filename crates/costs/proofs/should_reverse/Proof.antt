@@ -1,8 +1,8 @@
 -- `costs::should_reverse` meets its contract: a byte has no bit beyond the seventh.
-use native.Mathlib.Omega.{arith}
-use borrow.Author.Needs.{needs}
 use mathlib.Core.Path.{sym}
+use native.Mathlib.Omega.{arith}
 use lib.Pow.{pow-mono}
+use borrow.Author.Needs.{needs}
 use Rattle.theory.specs.Route.{reverses}
 use Rattle.theory.proofs.Delta.{small-tail}
 use Rattle.costs.proofs.should_reverse.Statement.{statement}
