@@ -99,7 +99,7 @@ pub fn should_reverse(mask: u8, segment: usize) -> bool
 }
 
 // The stop before the first cut; cut 0 makes the depot the head's end.
-fn head_end(depot: u32, route: &[u32], cuts: &[usize]) -> u32
+pub fn head_end(depot: u32, route: &[u32], cuts: &[usize]) -> u32
     requires { ⌜ CutSet (length (now cuts)) (length (now route)) (now cuts) ⌝ }
     ensures { λ r. ⌜ r ≡ last-of depot (getD (segments 0 (now (cuts .entry)) (now (route .entry))) 0 []) ⌝ }
 {
@@ -111,7 +111,7 @@ fn head_end(depot: u32, route: &[u32], cuts: &[usize]) -> u32
 }
 
 // The stop after the last cut; cut n makes the depot the tail's start.
-fn tail_start(depot: u32, route: &[u32], cuts: &[usize]) -> u32
+pub fn tail_start(depot: u32, route: &[u32], cuts: &[usize]) -> u32
     requires { ⌜ CutSet (length (now cuts)) (length (now route)) (now cuts) ⌝ }
     ensures { λ r. ⌜ r ≡ first-of (getD (segments 0 (now (cuts .entry)) (now (route .entry))) (length (now (cuts .entry))) []) depot ⌝ }
 {

@@ -1,0 +1,5 @@
+pub mod States
+pub mod Chain
+mod Rows
+mod Ends
+mod Filling

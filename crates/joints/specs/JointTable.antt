@@ -1,0 +1,165 @@
+-- The joint table of a cut set: what it costs to go on from one state to another, shared by all patterns on the cut set.
+use mathlib.Core.Path.{_≡_}
+use mathlib.Core.Bool.{Bool, cond}
+use mathlib.Core.Logic.{_≢_}
+use mathlib.Core.List.{List, [], _∷_}
+use Prim.Native.Nat.{ℕ, zero, suc, _+_, _-_, _*_, _/_, _%_, _^_, _≤_, _<_}
+use lib.Dec.{eqb}
+use lib.ListN.{length, getD, set}
+use Rattle.theory.specs.Route.{Problem, segments}
+use Rattle.theory.specs.Costs.{last-of, first-of, inner, forward, backward}
+use Rattle.theory.specs.Tables.{LegTable, Measurable, CutSet}
+use Rattle.costs.specs.RouteCosts.{leg, Sums}
+use Rattle.joints.specs.States.{state-count, placed-in}
+
+-- A table of 10 rows of 16 places.
+abbrev pub cell : List ℕ → ℕ → ℕ → ℕ
+cell table a b = getD table (16 * a + b) 0
+
+-- The cells from state a along the states listed, and at last the one to the tail.
+unfoldable pub chain : List ℕ → ℕ → List ℕ → ℕ
+chain table a [] = cell table a 8
+chain table a (b ∷ bs) = cell table a b + chain table b bs
+
+-- A table whose chains can be added up. The tail follows the tail at no cost: that pads the rows.
+pub record Padded (table : List ℕ) : Type 0 where
+  pub places : length table ≡ 160
+  pub padding : cell table 8 8 ≡ 0
+  pub small : (c : ℕ) → getD table c 0 ≤ 2 ^ 40
+
+-- A table, and row i of rows of four states.
+pub record Chainable (table rows : List ℕ) (i : ℕ) : Type 0 where
+  pub padded : Padded table
+  pub places : length rows ≡ 1532
+  pub within : i < 383
+  pub known : (c : ℕ) → 4 * i ≤ c → c < 4 * i + 4 → getD rows c 0 ≤ 8
+
+pub record CellAt (table : List ℕ) (a b : ℕ) : Type 0 where
+  pub padded : Padded table
+  pub row : a < 10
+  pub column : b < 10
+
+pub record Cell (table : List ℕ) (a b r : ℕ) : Type 0 where
+  pub is : r ≡ cell table a b
+  pub small : r ≤ 2 ^ 40
+
+pub record FourStates (table : List ℕ) (a b c d : ℕ) : Type 0 where
+  pub padded : Padded table
+  pub first : a ≤ 8
+  pub second : b ≤ 8
+  pub third : c ≤ 8
+  pub fourth : d ≤ 8
+
+pub record Standing (table : List ℕ) (k : ℕ) : Type 0 where
+  pub padded : Padded table
+  pub least : 2 ≤ k
+  pub most : k ≤ 5
+
+-- Row a, for a state that is left at the stop `exit`: the leg to another state's entry with the legs inside that state, and the leg to the tail's start.
+pub record JointRow (d : ℕ → ℕ → ℕ) (entry inside : ℕ → ℕ) (count tail : ℕ) (table : List ℕ) (a exit : ℕ) : Type 0 where
+  pub next : (b : ℕ) → b < count → cell table a b ≡ d exit (entry b) + inside b
+  pub last : cell table a 8 ≡ d exit tail
+
+-- The rows of the head and of the states 0 to count - 1, each a part of the route as it is placed.
+pub record JointTable (d : ℕ → ℕ → ℕ) (part : ℕ → List ℕ) (count head tail : ℕ) (table : List ℕ) : Type 0 where
+  pub padded : Padded table
+  pub from-head : JointRow d (λ s. first-of (part s) 0) (λ s. inner d (part s)) count tail table 9 head
+  pub from-each : (a : ℕ) → a < count → JointRow d (λ s. first-of (part s) 0) (λ s. inner d (part s)) count tail table a (last-of 0 (part a))
+
+-- "Cut 0 makes the depot the head's end, cut n the tail's start."
+abbrev pub joint-table : ℕ → List ℕ → ℕ → List ℕ → List ℕ → List ℕ → Type 0
+joint-table locations legs depot route cuts table =
+    JointTable (leg locations legs) (placed-in cuts route) (state-count (length cuts)) (last-of depot (getD (segments 0 cuts route) 0 []))
+    (first-of (getD (segments 0 cuts route) (length cuts) []) depot) table
+
+-- What the joint table of a cut set is read from, and the places for it.
+pub record Joinable (locations : ℕ) (legs : List ℕ) (depot : ℕ) (route forward-sums backward-sums cuts table : List ℕ) : Type 0 where
+  pub measurable : Measurable locations legs depot route
+  pub forwards : Sums route (forward (leg locations legs) route) forward-sums
+  pub backwards : Sums route (backward (leg locations legs) route) backward-sums
+  pub cut-set : CutSet (length cuts) (length route) cuts
+  pub padded : Padded table
+
+-- ---- the parts of the filling
+
+-- Running sums that rise along the route.
+pub record Rises (route sums : List ℕ) : Type 0 where
+  pub places : length sums ≡ 512
+  pub rise : (s t : ℕ) → s ≤ t → t < length route → getD sums s 0 ≤ getD sums t 0
+
+-- Places for each state's entry, exit and inner legs.
+pub record Ends (entries exits inside : List ℕ) : Type 0 where
+  pub entry-places : length entries ≡ 8
+  pub exit-places : length exits ≡ 8
+  pub inside-places : length inside ≡ 8
+
+-- A segment route[start..end] with two states s and s + 1.
+pub record Segment (route forward-sums backward-sums : List ℕ) (start end s : ℕ) (entries exits inside : List ℕ) : Type 0 where
+  pub filled : start < end
+  pub within : end ≤ length route
+  pub short : length route ≤ 512
+  pub forward-places : length forward-sums ≡ 512
+  pub forward-rise : getD forward-sums start 0 ≤ getD forward-sums (end - 1) 0
+  pub backward-places : length backward-sums ≡ 512
+  pub backward-rise : getD backward-sums start 0 ≤ getD backward-sums (end - 1) 0
+  pub room : s + 1 < 8
+  pub places : Ends entries exits inside
+
+-- Reversed, a segment is entered at its last stop, left at its first, and its inner legs are the backward ones.
+pub record SegmentEnds (route forward-sums backward-sums : List ℕ) (start end s : ℕ) (entries exits inside entries′ exits′ inside′ : List ℕ) : Type 0 where
+  pub entered : entries′ ≡ set (set entries s (getD route start 0)) (s + 1) (getD route (end - 1) 0)
+  pub left : exits′ ≡ set (set exits s (getD route (end - 1) 0)) (s + 1) (getD route start 0)
+  pub legs : inside′ ≡ set (set inside s (getD forward-sums (end - 1) 0 - getD forward-sums start 0)) (s + 1) (getD backward-sums (end - 1) 0 - getD backward-sums start 0)
+
+-- The segments of a cut set, and the places for their states.
+pub record Segmented (route forward-sums backward-sums cuts entries exits inside : List ℕ) : Type 0 where
+  pub cut-set : CutSet (length cuts) (length route) cuts
+  pub forwards : Rises route forward-sums
+  pub backwards : Rises route backward-sums
+  pub places : Ends entries exits inside
+
+abbrev pub inner-sum : List ℕ → List ℕ → List ℕ → ℕ → ℕ
+inner-sum forward-sums backward-sums cuts s =
+    cond (eqb (s % 2) 1)
+    (getD backward-sums (getD cuts (1 + s / 2) 0 - 1) 0 - getD backward-sums (getD cuts (s / 2) 0) 0)
+    (getD forward-sums (getD cuts (1 + s / 2) 0 - 1) 0 - getD forward-sums (getD cuts (s / 2) 0) 0)
+
+-- Each state's entry, exit and inner legs in their places.
+pub record StateEnds (route forward-sums backward-sums cuts : List ℕ) (count : ℕ) (entries exits inside : List ℕ) : Type 0 where
+  pub places : Ends entries exits inside
+  pub entry : (s : ℕ) → s < count → getD entries s 0 ≡ first-of (placed-in cuts route s) 0
+  pub exit : (s : ℕ) → s < count → getD exits s 0 ≡ last-of 0 (placed-in cuts route s)
+  pub legs : (s : ℕ) → s < count → getD inside s 0 ≡ inner-sum forward-sums backward-sums cuts s
+
+-- What the cells are read from.
+pub record Fillable (locations : ℕ) (legs : List ℕ) (tail count : ℕ) (entries inside : List ℕ) : Type 0 where
+  pub leg-table : LegTable locations legs
+  pub tail-known : tail < locations
+  pub few : count ≤ 8
+  pub entry-places : length entries ≡ 8
+  pub inside-places : length inside ≡ 8
+  pub entries-known : (s : ℕ) → s < count → getD entries s 0 < locations
+  pub inside-small : (s : ℕ) → s < count → getD inside s 0 ≤ 1000000 * 512
+
+-- A row that can be filled: not the tail's.
+pub record FillableRow (locations : ℕ) (legs : List ℕ) (from tail count : ℕ) (entries inside : List ℕ) (a : ℕ) (table : List ℕ) : Type 0 where
+  pub fillable : Fillable locations legs tail count entries inside
+  pub padded : Padded table
+  pub from-known : from < locations
+  pub within : a < 10
+  pub not-tail : a ≢ 8
+
+pub record FilledRow (locations : ℕ) (legs : List ℕ) (from tail count : ℕ) (entries inside : List ℕ) (a : ℕ) (before after : List ℕ) : Type 0 where
+  pub padded : Padded after
+  pub filled : JointRow (leg locations legs) (λ s. getD entries s 0) (λ s. getD inside s 0) count tail after a from
+  pub others : (x y : ℕ) → y < 16 → x ≢ a → cell after x y ≡ cell before x y
+
+pub record FillableStates (locations : ℕ) (legs : List ℕ) (tail count : ℕ) (entries exits inside : List ℕ) (table : List ℕ) : Type 0 where
+  pub fillable : Fillable locations legs tail count entries inside
+  pub padded : Padded table
+  pub exit-places : length exits ≡ 8
+  pub exits-known : (s : ℕ) → s < count → getD exits s 0 < locations
+
+pub record FilledStates (locations : ℕ) (legs : List ℕ) (tail count : ℕ) (entries exits inside : List ℕ) (after : List ℕ) : Type 0 where
+  pub padded : Padded after
+  pub each : (a : ℕ) → a < count → JointRow (leg locations legs) (λ s. getD entries s 0) (λ s. getD inside s 0) count tail after a (getD exits a 0)
