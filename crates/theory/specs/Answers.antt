@@ -1,10 +1,11 @@
 -- What a caller is told: document 01's number and values for each case of an answer.
 use mathlib.Core.Path.{_≡_}
 use mathlib.Core.List.{List, [], _∷_}
-use mathlib.Core.Bool.{true, false}
+use mathlib.Core.Bool.{true, false, cond}
 use mathlib.Core.Logic.{_⊎_}
 use Prim.Native.Nat.{ℕ, zero, suc, _<_}
-use lib.ListN.{length, take}
+use lib.Dec.{eqb}
+use lib.ListN.{length, getD, take}
 use lib.IntN.{ℤ}
 use Rattle.theory.specs.Moves.{Pattern}
 use Rattle.theory.specs.Route.{Problem, late, Feasible, tour-length}
@@ -91,6 +92,14 @@ counts-of (Polishing.Spent c) = c
 abbrev pub polish-values : Polished → List ℕ
 polish-values (Polishing.Finished c) = 0 ∷ c .examined ∷ c .accepted ∷ c .before ∷ c .after ∷ []
 polish-values (Polishing.Spent c) = 1 ∷ c .examined ∷ c .accepted ∷ c .before ∷ c .after ∷ []
+
+-- The same five numbers, of the scan's reply q to a route.
+abbrev pub five-numbers : Problem → List ℕ → Reply (List ℕ) → List ℕ
+five-numbers P route q = cond (q .finished) 0 1 ∷ q .examined ∷ q .accepted ∷ tour-length P route ∷ tour-length P (q .route) ∷ []
+
+-- What a result and a route that were handed back say: the scan's reply.
+abbrev pub handed-back : List ℕ → List ℕ → Reply (List ℕ)
+handed-back result route = record { finished = eqb (getD result 0 0) 0; examined = getD result 1 0; accepted = getD result 2 0; route = route }
 
 -- What polishing promises, of the route handed in, the answer and the route handed back, for a list of patterns: "round and reply are those of document
 -- 01's scan", with the lengths; and demand 3.
