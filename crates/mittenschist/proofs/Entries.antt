@@ -23,10 +23,14 @@ unfolding either
 either-assoc zero b c = refl
 either-assoc (suc a) b c = refl
 
--- Four checks that are judged together, and then the others.
+-- Checks that are judged together, and then the others.
 pub four-then : (a b c d rest : ℕ) → either (either a (either b (either c (either d 0)))) rest ≡ either a (either b (either c (either d rest)))
 unfolding either
 four-then a b c d rest = simp either-assoc
+
+pub five-then : (a b c d e rest : ℕ) → either (either a (either b (either c (either d (either e 0))))) rest ≡ either a (either b (either c (either d (either e rest))))
+unfolding either
+five-then a b c d e rest = simp either-assoc
 
 -- A check that applies is given, and one that does not is passed.
 pub given : (a n rest : ℕ) → a ≡ n → (a ≡ 0 → ⊥) → a ≡ either n rest

@@ -5,7 +5,7 @@ use mathlib.Core.List.{List, [], _∷_}
 use Prim.Native.Nat.{ℕ}
 use lib.ListN.{length}
 use Rattle.theory.specs.Tables.{problem, Timed}
-use Rattle.theory.specs.Refusals.{refusal}
+use Rattle.theory.specs.Refusals.{number, either, refusal, leg-table, deadline-list, leg-sizes, known-stops, stop-count}
 use Rattle.theory.specs.Answers.{Checked, Verdict, deadline-position}
 use Rattle.theory.specs.declared.Deadline.{Deadline}
 use Rattle.theory.specs.declared.Deadline.the-variants.{Kept, Late}
@@ -13,7 +13,15 @@ use Rattle.theory.specs.declared.Feasibility.the-variants as Answer
 use Rattle.theory.proofs.Refusals.{known}
 use Rattle.theory.proofs.Judged.{measurable-fine, deadlines-fine}
 use Rattle.mittenschist.specs.Promises.{FeasibleReply, feasible-rules}
-use Rattle.mittenschist.proofs.Entries.{refused-reply, taken-reply, taken-passes}
+use Rattle.mittenschist.proofs.Entries.{five-then, refused-reply, taken-reply, taken-passes}
+
+-- The rules of the problem, and then the others.
+pub problem-then : (locations : ℕ) (legs latest : List ℕ) (depot : ℕ) (route : List ℕ) (rest : ℕ) →
+    either (refusal (feasible-rules locations legs latest depot route)) rest
+    ≡ either (number (leg-table locations legs)) (either (number (deadline-list locations latest)) (either (number (leg-sizes legs)) (either (number (known-stops locations depot route)) (either (number (stop-count (length route))) rest))))
+unfolding refusal
+problem-then locations legs latest depot route rest =
+    five-then (number (leg-table locations legs)) (number (deadline-list locations latest)) (number (leg-sizes legs)) (number (known-stops locations depot route)) (number (stop-count (length route))) rest
 
 module _ (locations : ℕ) (legs latest : List ℕ) (depot : ℕ) (route : List ℕ) (number : ℕ) (judged : number ≡ refusal (feasible-rules locations legs latest depot route)) where
   pub refused : (number ≡ 0 → ⊥) → FeasibleReply locations legs latest depot route (Answer.Refused number)

@@ -7,10 +7,10 @@ use lib.Dec.{eqb}
 use lib.ListN.{length, getD, drop, replicate}
 use Rattle.theory.specs.Moves.{Pattern, Move, patterns, next-cuts}
 use Rattle.theory.specs.Route.{Problem, tour-length, reconnected}
-use Rattle.theory.specs.Polish.{move-at}
+use Rattle.theory.specs.Polish.{move-at, polish, Demand3}
 use Rattle.theory.specs.Tables.{problem, legs-only}
 use Rattle.theory.specs.Refusals.{Rule, refusal, cut-count, leg-table, deadline-list, leg-sizes, known-stops, stop-count, pattern-index, cut-positions, room}
-use Rattle.theory.specs.Answers.{Answer, reply, step-answer, length-answer, delta-answer, feasibility-answer, Verdict}
+use Rattle.theory.specs.Answers.{Answer, reply, step-answer, length-answer, delta-answer, feasibility-answer, Verdict, five-numbers, handed-back}
 use Rattle.moves.specs.Moves.{length-change}
 use Rattle.cuts.specs.Step.{found, or-kept}
 use Rattle.theory.specs.declared.CutStep.{CutStep}
@@ -92,3 +92,26 @@ pub record FeasibleReply (locations : ℕ) (legs latest : List ℕ) (depot : ℕ
   pub position : ℕ
   pub reply-is : feasibility-answer (length route) answer ≡ reply (refusal (feasible-rules locations legs latest depot route)) (position ∷ [])
   pub verdict : refusal (feasible-rules locations legs latest depot route) ≡ 0 → Verdict (problem locations legs latest depot) route position
+
+-- ---- polishing
+
+abbrev pub polish-rules : ℕ → ℕ → List ℕ → List ℕ → ℕ → List ℕ → ℕ → List Rule
+polish-rules k locations legs latest depot route lent =
+    cut-count k
+    ∷ leg-table locations legs
+    ∷ deadline-list locations latest
+    ∷ leg-sizes legs
+    ∷ known-stops locations depot route
+    ∷ stop-count (length route)
+    ∷ room 5 lent
+    ∷ []
+
+-- Of the slices as they are handed in and as they are handed back: route and result are those of document 01's scan; and demand 3 whenever it returns 0.
+pub record PolishReply (k allowance locations : ℕ) (legs latest : List ℕ) (depot : ℕ) (route result : List ℕ) (answer : ℕ) (route′ result′ : List ℕ) : Type 0 where
+  pub number-is : answer ≡ refusal (polish-rules k locations legs latest depot route (length result))
+  pub route-is : route′ ≡ if-taken (polish-rules k locations legs latest depot route (length result)) (polish (problem locations legs latest depot) k allowance route .route) route
+  pub result-is : result′
+      ≡ if-taken (polish-rules k locations legs latest depot route (length result))
+      (five-numbers (problem locations legs latest depot) route (polish (problem locations legs latest depot) k allowance route) ++ drop 5 result)
+      result
+  pub demand3 : answer ≡ 0 → Demand3 (problem locations legs latest depot) (patterns k) k allowance route (handed-back result′ route′)

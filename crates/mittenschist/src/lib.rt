@@ -1,7 +1,7 @@
 // The entries. Each takes whatever it is handed, judges it, and refuses it or calls the crate below that does the work.
 ghost use mathlib.Core.Path.{_≡_};
 ghost use Rattle.theory.specs.Refusals.{refusal};
-ghost use Rattle.mittenschist.specs.Promises.{NextCutSetReply, next-cut-set-rules, RouteLengthReply, route-length-rules, pattern-rules, ReconnectionReply, reconnect-rules, ReconnectReply, delta-rules, DeltaReply, feasible-rules, FeasibleReply};
+ghost use Rattle.mittenschist.specs.Promises.{NextCutSetReply, next-cut-set-rules, RouteLengthReply, route-length-rules, pattern-rules, ReconnectionReply, reconnect-rules, ReconnectReply, delta-rules, DeltaReply, feasible-rules, FeasibleReply, polish-rules, PolishReply};
 ghost use lib.ListN.{length};
 use theory::CutStep;
 use theory::Feasibility;
@@ -194,4 +194,21 @@ pub fn route_feasible(
     }
     let answer = deadlines::check_deadlines(locations, legs, latest, depot, route);
     Feasibility::Checked(answer)
+}
+
+fn polish_refusal(
+    k: usize,
+    locations: usize,
+    legs: &[u32],
+    latest: &[u32],
+    depot: u32,
+    route: &[u32],
+    lent: usize,
+) -> u32
+    ensures { λ r. ⌜ r ≡ refusal (polish-rules k locations (now (legs .entry)) (now (latest .entry)) depot (now (route .entry)) lent) ⌝ }
+{
+    let bad_k = refusals::check_cut_count(k);
+    let bad_problem = feasible_refusal(locations, legs, latest, depot, route);
+    let bad_room = refusals::check_room(5, lent);
+    refusals::first(bad_k, refusals::first(bad_problem, bad_room))
 }
