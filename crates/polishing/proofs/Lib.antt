@@ -1,1 +1,3 @@
 pub mod Accepting
+pub mod Scanning
+pub mod Numbers

@@ -1,0 +1,39 @@
+use native.Mathlib.Omega.{arith}
+use borrow.Author.Needs.{needs}
+use Rattle.polishing.proofs.put_numbers.Statement.{statement}
+use Rattle.polishing.proofs.put_numbers.Tie as tie
+use Rattle.polishing.proofs.put_numbers.Reads as reads
+use Rattle.polishing.proofs.put_numbers.Lts as lts
+
+slice-write-result : tie.Need-slice-write-result
+slice-write-result c = search needs
+
+slice-write-result-2 : tie.Need-slice-write-result-2
+slice-write-result-2 c = ?
+
+slice-write-result-3 : tie.Need-slice-write-result-3
+slice-write-result-3 c = ?
+
+slice-write-result-4 : tie.Need-slice-write-result-4
+slice-write-result-4 c = ?
+
+slice-write-result-5 : tie.Need-slice-write-result-5
+slice-write-result-5 c = search needs
+
+same-length : tie.Need-same-length
+same-length c = search needs
+
+returns : tie.Need-returns
+returns c = ?
+
+pub put-numbers-spec : {M : Type 1} → statement M
+put-numbers-spec =
+    tie.close
+    (tie.spec
+    slice-write-result
+    slice-write-result-2
+    slice-write-result-3
+    slice-write-result-4
+    slice-write-result-5
+    same-length
+    returns)
