@@ -3,7 +3,7 @@ use mathlib.Core.Path.{_≡_}
 use mathlib.Core.Bool.{Bool, true, false}
 use mathlib.Core.List.{List}
 use Prim.Native.Nat.{ℕ, suc, _*_, _≤_, _<_}
-use lib.ListN.{length, getD}
+use lib.ListN.{length, getD, take}
 use Rattle.theory.specs.Moves.{Pattern}
 use Rattle.theory.specs.Scan.{improves}
 use Rattle.theory.specs.Polish.{search-of, move-at}
@@ -36,13 +36,30 @@ pub record Gainable (locations : ℕ) (legs latest : List ℕ) (depot : ℕ) (ro
   pub padded : Padded table
   pub places : length spare ≡ 512
 
--- The answer, and the lent arrays as fit for the next call as they were.
+-- The answer, with the candidate in the first places of `spare`, and the lent arrays as fit for the next call as they were.
 pub record Gained (P : Problem) (ps : List Pattern) (k : ℕ) (route cuts : List ℕ) (limit i : ℕ) (table spare : List ℕ) : Type 0 where
   pub first : FirstGain P ps k route cuts limit i
+  pub built : i < limit → take (length route) spare ≡ reconnected (move-at ps cuts i) route
   pub padded : Padded table
   pub places : length spare ≡ 512
 
 -- ---- the parts of the step
+
+-- The candidate of pattern i on the cut set.
+abbrev pub candidate : List ℕ → List ℕ → List ℕ → List ℕ → ℕ → List ℕ
+candidate route cuts orders masks i = reconnected (move-at (pattern-rows (length cuts) orders masks) cuts i) route
+
+-- Whether it improves the route.
+abbrev pub gains : ℕ → List ℕ → List ℕ → ℕ → List ℕ → List ℕ → List ℕ → List ℕ → ℕ → Bool
+gains locations legs latest depot route cuts orders masks i =
+    improves (search-of (problem locations legs latest depot) (pattern-rows (length cuts) orders masks) (length cuts) (length route)) route
+    (move-at (pattern-rows (length cuts) orders masks) cuts i)
+
+pub record Buildable (route cuts orders masks : List ℕ) (i : ℕ) (out : List ℕ) : Type 0 where
+  pub cut-set : CutSet (length cuts) (length route) cuts
+  pub patterns : PatternRows (length cuts) orders masks
+  pub listed : i < length masks
+  pub room : length out ≡ length route
 
 -- A candidate whose deadlines can be checked.
 pub record Rival (locations : ℕ) (legs latest : List ℕ) (depot : ℕ) (route cuts orders masks : List ℕ) (i : ℕ) (spare : List ℕ) : Type 0 where
@@ -54,7 +71,8 @@ pub record Rival (locations : ℕ) (legs latest : List ℕ) (depot : ℕ) (route
 
 -- "A round keeps every deadline when none of its stops is late", of the candidate.
 pub record Judged (P : Problem) (route cuts orders masks : List ℕ) (i : ℕ) (kept : Bool) (spare : List ℕ) : Type 0 where
-  pub is : kept ≡ feasible P (reconnected (move-at (pattern-rows (length cuts) orders masks) cuts i) route)
+  pub is : kept ≡ feasible P (candidate route cuts orders masks i)
+  pub built : take (length route) spare ≡ candidate route cuts orders masks i
   pub places : length spare ≡ 512
 
 -- Rows of states up to `limit`, whose chains in the table can be added up.
@@ -84,4 +102,5 @@ pub record Tabled (locations : ℕ) (legs latest : List ℕ) (depot : ℕ) (rout
 
 pub record FirstKept (P : Problem) (ps : List Pattern) (k : ℕ) (route cuts : List ℕ) (limit i : ℕ) (spare : List ℕ) : Type 0 where
   pub first : FirstGain P ps k route cuts limit i
+  pub built : i < limit → take (length route) spare ≡ reconnected (move-at ps cuts i) route
   pub places : length spare ≡ 512

@@ -3,7 +3,25 @@ use theory::Deadline;
 ghost use mathlib.Core.Path.{_≡_};
 ghost use lib.ListN.{length};
 ghost use Rattle.theory.specs.Tables.{problem, pattern-rows};
-ghost use Rattle.search.specs.Gain.{Rival, Judged, Chains, NextShorter, Tabled, FirstKept, Gainable, Gained};
+ghost use Rattle.search.specs.Gain.{candidate, Buildable, Rival, Judged, Chains, NextShorter, Tabled, FirstKept, Gainable, Gained};
+
+// The candidate of pattern i.
+fn build_candidate(
+    route: &[u32],
+    cuts: &[usize],
+    orders: &[u8],
+    masks: &[u8],
+    i: usize,
+    out: &mut [u32],
+)
+    requires { ⌜ Buildable (now route) (now cuts) (now orders) (now masks) i (now out) ⌝ }
+    ensures { λ _. ⌜ now (out .exit) ≡ candidate (now (route .entry)) (now (cuts .entry)) (now (orders .entry)) (now (masks .entry)) i ⌝ }
+{
+    let width = cuts.len() + 1;
+    let at = i * width;
+    let end = at + width;
+    reconnection::reconnect(route, cuts, &orders[at..end], masks[i], out);
+}
 
 // Whether the candidate of pattern i, built in `spare`, keeps every deadline.
 fn keeps_deadlines(
@@ -22,16 +40,7 @@ fn keeps_deadlines(
     ensures { λ r. ⌜ Judged (problem locations (now (legs .entry)) (now (latest .entry)) depot) (now (route .entry)) (now (cuts .entry)) (now (orders .entry)) (now (masks .entry)) i r (now (spare .exit)) ⌝ }
 {
     let n = route.len();
-    let width = cuts.len() + 1;
-    let at = i * width;
-    let end = at + width;
-    reconnection::reconnect(
-        route,
-        cuts,
-        &orders[at..end],
-        masks[i],
-        &mut spare[..n],
-    );
+    build_candidate(route, cuts, orders, masks, i, &mut spare[..n]);
     let answer = deadlines::check_deadlines(locations, legs, latest, depot, &spare[..n]);
     let Deadline::Late(_) = answer else {
         return true;
