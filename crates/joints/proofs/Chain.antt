@@ -11,6 +11,7 @@ use Rattle.theory.specs.Route.{Problem, segments, placed, reconnected, tour-len
 use Rattle.theory.specs.Costs.{last-of, first-of, inner, through}
 use Rattle.theory.specs.Tables.{CutSet, ForK}
 use Rattle.theory.proofs.Moves.{Shape}
+use Rattle.theory.proofs.ForK.{for-k-shape}
 use Rattle.theory.proofs.Orders.{in-range}
 use Rattle.theory.proofs.Delta.{shorter-iff, length-reverse-if}
 use Rattle.costs.proofs.Segments.{cut-below, segment-is, segment-filled}
@@ -98,17 +99,6 @@ module _ (cs r : List ℕ) (cut-set : CutSet (length cs) (length r) cs) where
     standing-chain = row-through 0 (upfrom 1 (length cs - 1)) (λ g. refl)
 
 -- ---- the comparison that the scan makes
-
-abbrev for-k-shape : (k m : ℕ) (order : List ℕ) (mask : ℕ) → k ≡ suc m → ForK k order mask → Shape m (record { order = order; mask = mask })
-for-k-shape k m order mask e f =
-    let less : k - 1 ≡ m = omega arith in
-    record {
-      middle = f .middle;
-      bits = f .bits;
-      few = rw less at (f .few);
-      once = λ g. rw less at (f .once g);
-      is = rw (f .order-is, f .mask-is, e);
-    }
 
 shorter-through : (P : Problem) (cs r : List ℕ) (k m : ℕ) (p : Pattern) (s : Shape m p) → length cs ≡ suc m → Rising 0 cs (length r) → k ≡ suc m →
     ltb (tour-length P (reconnected (record { cuts = cs; pattern = p }) r)) (tour-length P r)

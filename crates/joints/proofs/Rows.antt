@@ -4,16 +4,13 @@ use mathlib.Core.Logic.{_≢_}
 use mathlib.Core.List.{List, [], _∷_, _++_}
 use Prim.Native.Nat.{ℕ, zero, suc, _+_, _-_, _*_, _≤_, _<_}
 use native.Mathlib.Omega.{arith}
-use native.Mathlib.Nat.{mul-le-mul, le-refl, suc-mul}
 use native.Mathlib.Numerals.{add-one}
 use native.Mathlib.Decide.{ℕ-discrete, decLt}
 use borrow.Author.Count.{below-more}
 use lib.ListN.{length, getD, set, take, drop, length-set, length-append, List·getD-eq-default}
 use lib.Seq.{slice, slice-cons, slice-empty, sets, sets-eq, set-out, take-at, drop-at, take-set-le, length-take-le, getD-set-same, getD-set-other}
 use Rattle.theory.specs.Moves.{Pattern}
-use Rattle.theory.specs.Tables.{ForK, PatternRows, pattern-rows}
-use Rattle.theory.proofs.Index.{mem-getD}
-use Rattle.theory.proofs.Rows.{length-rows, row-at}
+use Rattle.theory.proofs.Rows.{lent-row, lent-at, listed-for-k}
 use Rattle.costs.specs.RouteCosts.{Middle}
 use Rattle.costs.proofs.Orders.{pattern-middle}
 use Rattle.joints.specs.States.{states, row, Segments, RowPut, Rowable, pattern-row, StateRows}
@@ -88,39 +85,22 @@ row-chain J rows i v n h ea eb ec ed e = rw (row-read rows (4 * i) (omega arith)
 
 -- ---- the rows of a list of patterns
 
--- The order of pattern i as code lends it.
-abbrev pub lent-order : ℕ → List ℕ → ℕ → List ℕ
-lent-order k orders i = take (i * (k + 1) + (k + 1) - i * (k + 1)) (drop (i * (k + 1)) orders)
-
-lent-is : (k : ℕ) (orders : List ℕ) (i : ℕ) → lent-order k orders i ≡ take (suc k) (drop (i * suc k) orders)
-lent-is k orders i =
-    let many : i * (k + 1) + (k + 1) - i * (k + 1) ≡ suc k = omega arith in
-    let at : i * (k + 1) ≡ i * suc k = ap (λ n. i * n) (add-one k) in
-    rw (many, at)
-
 module _ (k : ℕ) (orders masks rows₀ : List ℕ) (given : Rowable k orders masks rows₀) (i : ℕ) (h : i < length masks) where
   abbrev none : Pattern
   none = record { order = []; mask = 0 }
 
-  pub row-segments : Segments k (lent-order k orders i)
+  pub row-segments : Segments k (lent-row k orders i)
   row-segments =
       let p = pattern-row k orders masks i in
-      let f : ForK k (p .order) (p .mask) = given .patterns .each p (mem-getD (pattern-rows k orders masks) i none (omega (arith, length-rows k orders masks))) in
-      let m : Middle k (p .order) = pattern-middle k (p .order) (p .mask) (given .least) f in
-      record { least = given .least; most = given .most; middle = rw (lent-is k orders i) (rw (row-at k orders masks i none h) at m) }
+      let m : Middle k (p .order) = pattern-middle k (p .order) (p .mask) (given .least) (listed-for-k k orders masks (given .patterns) i none h) in
+      record { least = given .least; most = given .most; middle = rw (lent-at k orders masks i none h) at m }
 
-  -- Where it lies among the orders.
-  pub order-within : i * (k + 1) + (k + 1) ≤ length orders
-  order-within =
-      let m : suc i * suc k ≤ length masks * suc k = mul-le-mul h (le-refl (suc k)) in
-      rw (given .patterns .long) (omega (arith, m, suc-mul i (suc k), add-one k))
-
-  pub more-rows : {rows rows′ : List ℕ} → StateRows k orders masks i rows → RowPut k (lent-order k orders i) (getD masks i 0) i rows rows′ → StateRows k orders masks (i + 1) rows′
+  pub more-rows : {rows rows′ : List ℕ} → StateRows k orders masks i rows → RowPut k (lent-row k orders i) (getD masks i 0) i rows rows′ → StateRows k orders masks (i + 1) rows′
   more-rows {rows} {rows′} w p =
       record {
         places = p .places;
         each = below-more (λ x. row rows′ x ≡ states k (pattern-row k orders masks x .order) (pattern-row k orders masks x .mask)) i (λ x l. p .others x l ∙ w .each x l)
-            (rw (row-at k orders masks i none h, ← (lent-is k orders i)) (p .put));
+            (rw (lent-at k orders masks i none h) (p .put));
         small = λ c l. p .small c l (λ b. w .small c b);
       }
 

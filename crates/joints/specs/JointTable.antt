@@ -6,10 +6,10 @@ use mathlib.Core.List.{List, [], _∷_}
 use Prim.Native.Nat.{ℕ, zero, suc, _+_, _-_, _*_, _/_, _%_, _^_, _≤_, _<_}
 use lib.Dec.{eqb}
 use lib.ListN.{length, getD, set}
-use Rattle.theory.specs.Route.{Problem, segments}
+use Rattle.theory.specs.Route.{Problem}
 use Rattle.theory.specs.Costs.{last-of, first-of, inner, forward, backward}
-use Rattle.theory.specs.Tables.{LegTable, Measurable, CutSet}
-use Rattle.costs.specs.RouteCosts.{leg, Sums}
+use Rattle.theory.specs.Tables.{legs-only, LegTable, Measurable, CutSet}
+use Rattle.costs.specs.RouteCosts.{leg, Sums, head-end, tail-start}
 use Rattle.joints.specs.States.{state-count, placed-in}
 
 -- A table of 10 rows of 16 places.
@@ -69,8 +69,8 @@ pub record JointTable (d : ℕ → ℕ → ℕ) (part : ℕ → List ℕ) (count
 -- "Cut 0 makes the depot the head's end, cut n the tail's start."
 abbrev pub joint-table : ℕ → List ℕ → ℕ → List ℕ → List ℕ → List ℕ → Type 0
 joint-table locations legs depot route cuts table =
-    JointTable (leg locations legs) (placed-in cuts route) (state-count (length cuts)) (last-of depot (getD (segments 0 cuts route) 0 []))
-    (first-of (getD (segments 0 cuts route) (length cuts) []) depot) table
+    JointTable (leg locations legs) (placed-in cuts route) (state-count (length cuts)) (head-end (legs-only locations legs depot) route cuts)
+    (tail-start (legs-only locations legs depot) route cuts) table
 
 -- What the joint table of a cut set is read from, and the places for it.
 pub record Joinable (locations : ℕ) (legs : List ℕ) (depot : ℕ) (route forward-sums backward-sums cuts table : List ℕ) : Type 0 where

@@ -1,5 +1,6 @@
 use mathlib.Core.Path.{_≡_}
-use Rattle.joints.proofs.Rows.{no-rows, order-within, row-segments, more-rows}
+use Rattle.theory.proofs.Rows.{lent-within}
+use Rattle.joints.proofs.Rows.{no-rows, row-segments, more-rows}
 use Prim.Native.Nat.{_+_, _-_, _*_, _≤_}
 use lib.ListN.{length}
 use Rattle.joints.specs.States.{StateRows}
@@ -21,7 +22,7 @@ abbrev μ-loop : tie.MeasureT-loop
 within : (c : tie.In-loop Inv-loop μ-loop) → c .before .loop .i * (c .before .before .before .before .args .k + 1) + (c .before .before .before .before .args .k + 1) ≤ length (c .before .before .before .before .args .orders .now)
 within c =
     let s = c .before .before .before .before in
-    order-within (s .args .k) (s .args .orders .now) (s .args .masks .now) (s .args .rows .now) (s .pre) (c .before .loop .i) (c .loop-test .taken)
+    lent-within (s .args .k) (s .args .orders .now) (s .args .masks .now) (c .before .loop .i) (s .pre .patterns .long) (c .loop-test .taken)
 
 -- src/lib.rt:53:17
 add-width : tie.Need-add-width Inv-loop μ-loop

@@ -1,0 +1,106 @@
+-- The inner step of the scan: on one cut set, the first pattern whose candidate improves.
+use mathlib.Core.Path.{_≡_}
+use mathlib.Core.Bool.{Bool, true, false}
+use mathlib.Core.List.{List}
+use Prim.Native.Nat.{ℕ, suc, _*_, _≤_, _<_}
+use lib.ListN.{length, getD, take}
+use Rattle.theory.specs.Moves.{Pattern}
+use Rattle.theory.specs.Scan.{improves}
+use Rattle.theory.specs.Polish.{search-of, move-at}
+use Rattle.theory.specs.Route.{Problem, reconnected, feasible}
+use Rattle.theory.specs.Costs.{forward, backward}
+use Rattle.theory.specs.Tables.{problem, Timed, CutSet, PatternRows, pattern-rows}
+use Rattle.costs.specs.RouteCosts.{leg, Sums}
+use Rattle.joints.specs.States.{row, StateRows}
+use Rattle.joints.specs.JointTable.{chain, Padded, joint-table}
+
+-- What the step reads: tables, the route with its running sums, k cuts of it, and rows of patterns of which the first `limit` are still allowed.
+pub record Searchable (locations : ℕ) (legs latest : List ℕ) (depot : ℕ) (route forward-sums backward-sums cuts orders masks : List ℕ) (limit : ℕ) : Type 0 where
+  pub timed : Timed locations legs latest depot route
+  pub forwards : Sums route (forward (leg locations legs) route) forward-sums
+  pub backwards : Sums route (backward (leg locations legs) route) backward-sums
+  pub cut-set : CutSet (length cuts) (length route) cuts
+  pub rows : PatternRows (length cuts) orders masks
+  pub allowed : limit ≤ length masks
+
+-- The first of the first `limit` patterns on the cut set that improves the route, or `limit` where none does.
+pub record FirstGain (P : Problem) (ps : List Pattern) (k : ℕ) (route cuts : List ℕ) (limit i : ℕ) : Type 0 where
+  pub within : i ≤ limit
+  pub passed : (x : ℕ) → x < i → improves (search-of P ps k (length route)) route (move-at ps cuts x) ≡ false
+  pub gains : i < limit → improves (search-of P ps k (length route)) route (move-at ps cuts i) ≡ true
+
+-- With the lent arrays: the patterns as rows of states, and places for the joint table and for a candidate.
+pub record Gainable (locations : ℕ) (legs latest : List ℕ) (depot : ℕ) (route forward-sums backward-sums cuts orders masks rows table spare : List ℕ) (limit : ℕ) : Type 0 where
+  pub searchable : Searchable locations legs latest depot route forward-sums backward-sums cuts orders masks limit
+  pub state-rows : StateRows (length cuts) orders masks (length masks) rows
+  pub padded : Padded table
+  pub places : length spare ≡ 512
+
+-- The answer, with the candidate in the first places of `spare`, and the lent arrays as fit for the next call as they were.
+pub record Gained (P : Problem) (ps : List Pattern) (k : ℕ) (route cuts : List ℕ) (limit i : ℕ) (table spare : List ℕ) : Type 0 where
+  pub first : FirstGain P ps k route cuts limit i
+  pub built : i < limit → take (length route) spare ≡ reconnected (move-at ps cuts i) route
+  pub padded : Padded table
+  pub places : length spare ≡ 512
+
+-- ---- the parts of the step
+
+-- The candidate of pattern i on the cut set.
+abbrev pub candidate : List ℕ → List ℕ → List ℕ → List ℕ → ℕ → List ℕ
+candidate route cuts orders masks i = reconnected (move-at (pattern-rows (length cuts) orders masks) cuts i) route
+
+-- Whether it improves the route.
+abbrev pub gains : ℕ → List ℕ → List ℕ → ℕ → List ℕ → List ℕ → List ℕ → List ℕ → ℕ → Bool
+gains locations legs latest depot route cuts orders masks i =
+    improves (search-of (problem locations legs latest depot) (pattern-rows (length cuts) orders masks) (length cuts) (length route)) route
+    (move-at (pattern-rows (length cuts) orders masks) cuts i)
+
+pub record Buildable (route cuts orders masks : List ℕ) (i : ℕ) (out : List ℕ) : Type 0 where
+  pub cut-set : CutSet (length cuts) (length route) cuts
+  pub patterns : PatternRows (length cuts) orders masks
+  pub listed : i < length masks
+  pub room : length out ≡ length route
+
+-- A candidate whose deadlines can be checked.
+pub record Rival (locations : ℕ) (legs latest : List ℕ) (depot : ℕ) (route cuts orders masks : List ℕ) (i : ℕ) (spare : List ℕ) : Type 0 where
+  pub timed : Timed locations legs latest depot route
+  pub cut-set : CutSet (length cuts) (length route) cuts
+  pub patterns : PatternRows (length cuts) orders masks
+  pub listed : i < length masks
+  pub places : length spare ≡ 512
+
+-- "A round keeps every deadline when none of its stops is late", of the candidate.
+pub record Judged (P : Problem) (route cuts orders masks : List ℕ) (i : ℕ) (kept : Bool) (spare : List ℕ) : Type 0 where
+  pub is : kept ≡ feasible P (candidate route cuts orders masks i)
+  pub built : take (length route) spare ≡ candidate route cuts orders masks i
+  pub places : length spare ≡ 512
+
+-- Rows of states up to `limit`, whose chains in the table can be added up.
+pub record Chains (table rows : List ℕ) (from limit : ℕ) : Type 0 where
+  pub padded : Padded table
+  pub places : length rows ≡ 1532
+  pub few : limit ≤ 383
+  pub within : from ≤ limit
+  pub known : (c : ℕ) → c < 4 * limit → getD rows c 0 ≤ 8
+
+-- The first row from `from` on whose chain is below `standing`, or `limit` where none is.
+pub record NextShorter (table rows : List ℕ) (standing from limit i : ℕ) : Type 0 where
+  pub least : from ≤ i
+  pub most : i ≤ limit
+  pub passed : (x : ℕ) → from ≤ x → x < i → standing ≤ chain table 9 (row rows x)
+  pub shorter : i < limit → chain table 9 (row rows i) < standing
+
+-- The step once the joint table is filled.
+pub record Tabled (locations : ℕ) (legs latest : List ℕ) (depot : ℕ) (route cuts orders masks rows table spare : List ℕ) (limit : ℕ) : Type 0 where
+  pub timed : Timed locations legs latest depot route
+  pub cut-set : CutSet (length cuts) (length route) cuts
+  pub patterns : PatternRows (length cuts) orders masks
+  pub allowed : limit ≤ length masks
+  pub state-rows : StateRows (length cuts) orders masks (length masks) rows
+  pub joined : joint-table locations legs depot route cuts table
+  pub places : length spare ≡ 512
+
+pub record FirstKept (P : Problem) (ps : List Pattern) (k : ℕ) (route cuts : List ℕ) (limit i : ℕ) (spare : List ℕ) : Type 0 where
+  pub first : FirstGain P ps k route cuts limit i
+  pub built : i < limit → take (length route) spare ≡ reconnected (move-at ps cuts i) route
+  pub places : length spare ≡ 512
