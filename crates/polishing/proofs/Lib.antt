@@ -1,3 +1,3 @@
-pub mod Accepting
 pub mod Scanning
 pub mod Numbers
+pub mod Taking

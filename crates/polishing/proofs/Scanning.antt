@@ -5,18 +5,20 @@ use mathlib.Core.Option.{Option, none, some}
 use mathlib.Core.List.{List, [], _∷_, _++_}
 use Prim.Native.Nat.{ℕ, zero, suc, _+_, _-_, min, _≤_, _<_}
 use native.Mathlib.Omega.{arith}
-use lib.ListN.{length, take, drop}
+use lib.ListN.{length, getD, take, drop, replicate}
 use lib.Seq.{take-at}
 use Rattle.theory.specs.Scan.{improves}
 use Rattle.theory.specs.Moves.{upfrom, next-cuts}
 use Rattle.theory.specs.Route.{Problem, reconnected}
 use Rattle.theory.specs.Polish.{search-of, polish-with, move-at, ForCuts}
-use Rattle.theory.specs.Tables.{problem, Timed, CutSet, PatternRows, pattern-rows}
+use Rattle.theory.specs.Tables.{problem, Stops, Timed, CutSet, PatternRows, pattern-rows}
 use Rattle.theory.proofs.Rows.{length-rows}
 use Rattle.theory.proofs.ForK.{rows-for-cuts}
 use Rattle.theory.proofs.Stops.{stops-rearranged}
 use Rattle.theory.proofs.Polishing.{Polishing, begins, within, as-long, gained, passed, finishes, is-spent}
 use Rattle.cuts.specs.Step.{found, or-kept, Stepped}
+use Rattle.joints.specs.States.{StateRows}
+use Rattle.joints.specs.JointTable.{Padded}
 use Rattle.polishing.specs.Loop.{Scannable}
 
 -- The first cut set, as the array has it.
@@ -29,6 +31,15 @@ first-cuts (suc (suc (suc zero))) h = refl
 first-cuts (suc (suc (suc (suc zero)))) h = refl
 first-cuts (suc (suc (suc (suc (suc zero))))) h = refl
 first-cuts (suc (suc (suc (suc (suc (suc k)))))) h = absurd (omega arith)
+
+-- The joint table before its first use.
+zero-at : (n c : ℕ) → _≡_ {A = ℕ} (getD (replicate n 0) c 0) 0
+zero-at zero c = refl
+zero-at (suc n) zero = refl
+zero-at (suc n) (suc c) = zero-at n c
+
+pub no-cells : Padded (replicate 160 0)
+no-cells = record { places = refl; padding = refl; small = λ c. rw (zero-at 160 c) (omega arith) }
 
 module _ (k locations : ℕ) (legs latest : List ℕ) (depot : ℕ) (orders masks rows route₀ : List ℕ) (A : ℕ) (ok : Scannable k locations legs latest depot orders masks rows route₀) where
   abbrev pub P : Problem
@@ -74,6 +85,9 @@ module _ (k locations : ℕ) (legs latest : List ℕ) (depot : ℕ) (orders mask
     pub own-rows : PatternRows (length cuts) orders masks
     own-rows = rw (now .cut-set .many) (ok .patterns)
 
+    pub own-states : StateRows (length cuts) orders masks (length masks) rows
+    own-states = rw (now .cut-set .many) (ok .state-rows)
+
     module _ (limit i : ℕ) (limit-is : limit ≡ min (length masks) (A - e)) (few : i ≤ limit)
         (idle : (x : ℕ) → x < i → improves (search-of (problem locations legs latest depot) (pattern-rows (length cuts) orders masks) (length cuts) (length r)) r (move-at (pattern-rows (length cuts) orders masks) cuts x) ≡ false) where
       own : length cuts ≡ k
@@ -95,6 +109,11 @@ module _ (k locations : ℕ) (legs latest : List ℕ) (depot : ℕ) (orders mask
       gains h t r′ is =
           rw (first-cuts k (ok .most), is, own)
           (gained (problem locations legs latest depot) (pattern-rows k orders masks) k A route₀ cuts e c r now i listed room passes for-cuts (omega (arith, many)) (omega (arith, below)) (rw own at t))
+
+      pub candidate-stops : i < limit →
+          improves (search-of (problem locations legs latest depot) (pattern-rows (length cuts) orders masks) (length cuts) (length r)) r (move-at (pattern-rows (length cuts) orders masks) cuts i) ≡ true →
+          (r′ : List ℕ) → r′ ≡ reconnected (move-at (pattern-rows (length cuts) orders masks) cuts i) r → Stops locations r′
+      candidate-stops h t r′ is = stops-rearranged route₀ r′ (gains h t r′ is .same) locations (ok .timed .measurable .stops)
 
       module _ (all : i ≡ limit) where
         -- The whole cut set is passed.

@@ -2,36 +2,27 @@
 use mathlib.Core.Path.{_≡_}
 use mathlib.Core.List.{List}
 use Prim.Native.Nat.{ℕ, _+_, _≤_, _<_}
-use lib.ListN.{length}
-use Rattle.theory.specs.Moves.{Pattern, patterns}
-use Rattle.theory.specs.Route.{Problem, reconnected}
+use lib.ListN.{length, take}
+use Rattle.theory.specs.Moves.{Pattern}
+use Rattle.theory.specs.Route.{Problem}
 use Rattle.theory.specs.Costs.{forward, backward}
-use Rattle.theory.specs.Polish.{polish-with, move-at}
-use Rattle.theory.specs.Tables.{LegTable, Stops, Timed, CutSet, Order, PatternRows, pattern-rows}
+use Rattle.theory.specs.Polish.{polish-with}
+use Rattle.theory.specs.Tables.{LegTable, Stops, Timed, PatternRows}
 use Rattle.costs.specs.RouteCosts.{leg, Sums}
 use Rattle.joints.specs.States.{StateRows}
 use Rattle.polishing.specs.declared.Scanned.{Scanned}
 
--- A pattern at cuts of this route, and places to build the route in.
-pub record Acceptable (route cuts order spare : List ℕ) : Type 0 where
-  pub cut-set : CutSet (length cuts) (length route) cuts
-  pub once : Order (length cuts) order
-  pub places : length route ≤ length spare
-
--- A listed pattern at cuts of this route, with places for the route and for its running sums.
-pub record Gainful (locations : ℕ) (legs route cuts orders masks : List ℕ) (index : ℕ) (spare forward-sums backward-sums : List ℕ) : Type 0 where
+-- An accepted candidate in the first of the spare places, and places for its running sums.
+pub record Built (locations : ℕ) (legs spare route forward-sums backward-sums : List ℕ) : Type 0 where
   pub table : LegTable locations legs
-  pub stops : Stops locations route
-  pub cut-set : CutSet (length cuts) (length route) cuts
-  pub rows : PatternRows (length cuts) orders masks
-  pub listed : index < length masks
-  pub places : length spare ≡ 512
+  pub stops : Stops locations (take (length route) spare)
+  pub room : length route ≤ length spare
   pub forward-places : length forward-sums ≡ 512
   pub backward-places : length backward-sums ≡ 512
 
--- The route after the accepted candidate, and its sums anew.
-pub record Taken (locations : ℕ) (legs route cuts orders masks : List ℕ) (index : ℕ) (route′ forward-sums backward-sums : List ℕ) : Type 0 where
-  pub route-is : route′ ≡ reconnected (move-at (pattern-rows (length cuts) orders masks) cuts index) route
+-- The route is the candidate, with its sums anew.
+pub record Taken (locations : ℕ) (legs spare route route′ forward-sums backward-sums : List ℕ) : Type 0 where
+  pub route-is : route′ ≡ take (length route) spare
   pub forwards : Sums route′ (forward (leg locations legs) route′) forward-sums
   pub backwards : Sums route′ (backward (leg locations legs) route′) backward-sums
 

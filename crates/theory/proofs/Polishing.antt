@@ -23,9 +23,10 @@ module _ (P : Problem) (ps : List Pattern) (k A : ℕ) (r₀ : List ℕ) where
     pub at : At P ps k A r₀ cuts 0 e c r
     pub cut-set : CutSet k (length r₀) cuts
     pub same : (g : ℕ → ℕ) → total g r ≡ total g r₀
+    pub counted : c ≤ e
 
   pub begins : 2 ≤ k → k ≤ 5 → length r₀ ≤ 512 → k ≤ length r₀ + 1 → Polishing (upfrom 0 k) 0 0 r₀
-  begins a b c d = record { at = start P ps k A r₀ d; cut-set = first-set k (length r₀) a b c d; same = λ g. refl }
+  begins a b c d = record { at = start P ps k A r₀ d; cut-set = first-set k (length r₀) a b c d; same = λ g. refl; counted = omega arith }
 
   module _ (cuts : List ℕ) (e c : ℕ) (r : List ℕ) (now : Polishing cuts e c r) where
     pub within : e ≤ A
@@ -50,6 +51,7 @@ module _ (P : Problem) (ps : List Pattern) (k A : ℕ) (r₀ : List ℕ) where
             at = rw (← z) (accept P ps k A r₀ cuts count (e + count) c r there h l t fits);
             cut-set = first-set k (length r₀) (s .least) (s .most) (s .short) fits;
             same = λ g. total-reconnected g (length r₀) (move-at ps cuts count) r (s .rising) (λ f. rw (s .many) (for-cuts (move-at ps cuts count .pattern) (mem-getD ps count _ h) f)) ∙ now .same g;
+            counted = omega (arith, now .counted);
           }
 
       pub passed : (cuts′ : List ℕ) → count ≡ length ps → next-cuts (length r₀) cuts ≡ some cuts′ → Polishing cuts′ (e + count) c r
@@ -58,6 +60,7 @@ module _ (P : Problem) (ps : List Pattern) (k A : ℕ) (r₀ : List ℕ) where
             at = step P ps k A r₀ cuts count (e + count) c r there cuts′ z n;
             cut-set = next-set k (length r₀) cuts cuts′ (now .cut-set) n;
             same = now .same;
+            counted = omega (arith, now .counted);
           }
 
       pub finishes : count ≡ length ps → next-cuts (length r₀) cuts ≡ none → polish-with P ps k A r₀ ≡ record { finished = true; examined = e + count; accepted = c; route = r }
