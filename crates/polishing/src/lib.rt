@@ -73,8 +73,20 @@ fn scan_cut_sets(
     loop {
         let limit = still_allowed(masks.len(), allowance - examined);
         let found = search::first_gain(
-            locations, legs, latest, depot, &route[..], &forward, &backward, &cut[..k], orders,
-            masks, rows, &mut joint, &mut spare, limit,
+            locations,
+            legs,
+            latest,
+            depot,
+            &route[..],
+            &forward,
+            &backward,
+            &cut[..k],
+            orders,
+            masks,
+            rows,
+            &mut joint,
+            &mut spare,
+            limit,
         );
         if found < limit {
             take_gain(locations, legs, &spare, route, &mut forward, &mut backward);
@@ -84,10 +96,18 @@ fn scan_cut_sets(
         } else {
             examined += limit as u64;
             if limit < masks.len() {
-                return Scanned { finished: false, examined, accepted };
+                return Scanned {
+                    finished: false,
+                    examined,
+                    accepted,
+                };
             }
             if !cuts::next_cut_set(&mut cut[..k], route.len()) {
-                return Scanned { finished: true, examined, accepted };
+                return Scanned {
+                    finished: true,
+                    examined,
+                    accepted,
+                };
             }
         }
     }
@@ -110,20 +130,44 @@ pub fn polish_rows(
 {
     let before = costs::route_length(locations, legs, depot, &route[..]);
     if route.len() + 1 < k {
-        return Polished::Finished(Counts { examined: 0, accepted: 0, before, after: before });
+        return Polished::Finished(Counts {
+            examined: 0,
+            accepted: 0,
+            before,
+            after: before,
+        });
     }
     let mut rows = [0u8; 1532];
     joints::fill_rows(k, orders, masks, &mut rows);
     let scanned = scan_cut_sets(
-        k, allowance, locations, legs, latest, depot, orders, masks, &rows, route,
+        k,
+        allowance,
+        locations,
+        legs,
+        latest,
+        depot,
+        orders,
+        masks,
+        &rows,
+        route,
     );
     let after = costs::route_length(locations, legs, depot, &route[..]);
     let examined = scanned.examined;
     let accepted = scanned.accepted;
     if scanned.finished {
-        return Polished::Finished(Counts { examined, accepted, before, after });
+        return Polished::Finished(Counts {
+            examined,
+            accepted,
+            before,
+            after,
+        });
     }
-    Polished::Spent(Counts { examined, accepted, before, after })
+    Polished::Spent(Counts {
+        examined,
+        accepted,
+        before,
+        after,
+    })
 }
 
 // Polishing with every pattern for k cuts.
@@ -144,7 +188,15 @@ pub fn polish_route(
     let count = patterns::enumerate_reconnections(k, &mut orders, &mut masks);
     let width = count * (k + 1);
     polish_rows(
-        k, allowance, locations, legs, latest, depot, &orders[..width], &masks[..count], route,
+        k,
+        allowance,
+        locations,
+        legs,
+        latest,
+        depot,
+        &orders[..width],
+        &masks[..count],
+        route,
     )
 }
 

@@ -129,8 +129,28 @@ pub fn first_gain(
     requires { ⌜ Gainable locations (now legs) (now latest) depot (now route) (now forward) (now backward) (now cuts) (now orders) (now masks) (now rows) (now joint) (now spare) limit ⌝ }
     ensures { λ r. ⌜ Gained (problem locations (now (legs .entry)) (now (latest .entry)) depot) (pattern-rows (length (now (cuts .entry))) (now (orders .entry)) (now (masks .entry))) (length (now (cuts .entry))) (now (route .entry)) (now (cuts .entry)) limit r (now (joint .exit)) (now (spare .exit)) ⌝ }
 {
-    joints::fill_joint(locations, legs, depot, route, forward, backward, cuts, joint);
+    joints::fill_joint(
+        locations,
+        legs,
+        depot,
+        route,
+        forward,
+        backward,
+        cuts,
+        joint,
+    );
     first_kept(
-        locations, legs, latest, depot, route, cuts, orders, masks, rows, joint, spare, limit,
+        locations,
+        legs,
+        latest,
+        depot,
+        route,
+        cuts,
+        orders,
+        masks,
+        rows,
+        joint,
+        spare,
+        limit,
     )
 }

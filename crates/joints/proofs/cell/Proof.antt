@@ -1,4 +1,3 @@
-
 use native.Mathlib.Omega.{arith}
 use borrow.Author.Needs.{needs}
 use Rattle.joints.proofs.cell.Statement.{statement}

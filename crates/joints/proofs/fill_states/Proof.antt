@@ -13,7 +13,7 @@ use Rattle.joints.proofs.fill_states.Lts as lts
 use Rattle.joints.proofs.fill_cells.Reads as fill-cells-reads
 
 abbrev Inv-loop : tie.InvT-loop
-Inv-loop locations legs tail count entries exits inside joint₀ a₀ joint a = 
+Inv-loop locations legs tail count entries exits inside joint₀ a₀ joint a =
     (a ≤ count)
     × Padded joint
     × ((x : ℕ) → x < a → JointRow (leg locations legs) (λ s. getD entries s 0) (λ s. getD inside s 0) count tail joint x (getD exits x 0))

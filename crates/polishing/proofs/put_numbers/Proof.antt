@@ -1,11 +1,10 @@
+-- `polishing::put_numbers` meets its contract. Assumes nothing.
 use lib.ListN.{length-set}
 use Rattle.polishing.proofs.Numbers.{five-written}
 use native.Mathlib.Omega.{arith}
 use borrow.Author.Needs.{needs}
 use Rattle.polishing.proofs.put_numbers.Statement.{statement}
 use Rattle.polishing.proofs.put_numbers.Tie as tie
-use Rattle.polishing.proofs.put_numbers.Reads as reads
-use Rattle.polishing.proofs.put_numbers.Lts as lts
 
 slice-write-result : tie.Need-slice-write-result
 slice-write-result c = search needs

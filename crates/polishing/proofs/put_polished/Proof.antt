@@ -1,10 +1,7 @@
-use native.Mathlib.Omega.{arith}
+-- `polishing::put_polished` meets its contract. Assumes nothing.
 use borrow.Author.Needs.{needs}
 use Rattle.polishing.proofs.put_polished.Statement.{statement}
 use Rattle.polishing.proofs.put_polished.Tie as tie
-use Rattle.polishing.proofs.put_polished.Reads as reads
-use Rattle.polishing.proofs.put_polished.Lts as lts
-use Rattle.polishing.proofs.put_numbers.Reads as put-numbers-reads
 
 enum-known-answer : tie.Need-enum-known-answer
 enum-known-answer c = search needs
@@ -22,13 +19,13 @@ same-length : tie.Need-same-length
 same-length c = search needs
 
 returns : tie.Need-returns
-returns c = ?
+returns c = rw (c .before .before .before .before .before .answer .given .1) (c .before .before .put-numbers .ensures)
 
 same-length-2 : tie.Need-same-length-2
 same-length-2 c = search needs
 
 returns-2 : tie.Need-returns-2
-returns-2 c = ?
+returns-2 c = rw (c .before .before .before .before .before .answer2 .given .1) (c .before .before .put-numbers2 .ensures)
 
 pub put-polished-spec : {M : Type 1} → statement M
 put-polished-spec =

@@ -15,14 +15,6 @@ use native.Mathlib.Omega.{arith}
 use borrow.Author.Needs.{needs}
 use Rattle.polishing.proofs.scan_cut_sets.Statement.{statement}
 use Rattle.polishing.proofs.scan_cut_sets.Tie as tie
-use Rattle.polishing.proofs.scan_cut_sets.Reads as reads
-use Rattle.polishing.proofs.scan_cut_sets.Lts as lts
-use Rattle.costs.proofs.backward_sums.Reads as backward-sums-reads
-use Rattle.costs.proofs.forward_sums.Reads as forward-sums-reads
-use Rattle.cuts.proofs.next_cut_set.Reads as next-cut-set-reads
-use Rattle.polishing.proofs.still_allowed.Reads as still-allowed-reads
-use Rattle.polishing.proofs.take_gain.Reads as take-gain-reads
-use Rattle.search.proofs.first_gain.Reads as first-gain-reads
 
 abbrev Inv-loop : tie.InvT-loop
 Inv-loop k allowance locations legs latest depot orders masks rows route₀ forward₀ backward₀ joint₀ spare₀ cut₀ examined₀ accepted₀ route forward backward joint spare cut examined accepted =
@@ -37,22 +29,22 @@ abbrev μ-loop : tie.MeasureT-loop
 μ-loop k allowance locations legs latest depot orders masks rows route₀ forward₀ backward₀ joint₀ spare₀ cut₀ examined₀ accepted₀ route forward backward joint spare cut examined accepted = allowance - examined
 
 forward-sums-requires : tie.Need-forward-sums-requires Inv-loop μ-loop
-forward-sums-requires c κs = 
+forward-sums-requires c κs =
     let s = c .before .before .before .before .before .before .before in
     record { table = s .pre .timed .measurable .table; stops = s .pre .timed .measurable .stops; places = refl }
 
 backward-sums-requires : tie.Need-backward-sums-requires Inv-loop μ-loop
-backward-sums-requires c κs = 
+backward-sums-requires c κs =
     let s = c .before .before .before .before .before .before .before .before .before .before in
     record { table = s .pre .timed .measurable .table; stops = s .pre .timed .measurable .stops; places = refl }
 
 loop-holds : tie.Need-loop-holds Inv-loop μ-loop
-loop-holds c = 
+loop-holds c =
     let s = c .before .before .before .before .before .before .before .before .before .before .before in
     (refl, starts (s .args .k) (s .args .locations) (s .args .legs .now) (s .args .latest .now) (s .args .depot) (s .args .orders .now) (s .args .masks .now) (s .args .rows .now) (s .args .route .now) (s .args .allowance) (s .pre), c .before .before .before .forward-sums .ensures .sums, c .backward-sums .ensures .sums, no-cells, refl)
 
 sub-still-allowed : tie.Need-sub-still-allowed Inv-loop μ-loop
-sub-still-allowed c = 
+sub-still-allowed c =
     let l = c .loop in
     let s = c .before .before .before .before .before .before .before .before .before .before .before .before in
     below (s .args .k) (s .args .locations) (s .args .legs .now) (s .args .latest .now) (s .args .depot) (s .args .orders .now) (s .args .masks .now) (s .args .rows .now) (s .args .route .now) (s .args .allowance) (s .pre) (take (s .args .k) (l .cut)) (l .examined) (l .accepted) (l .route) (l .inv .1)
@@ -61,19 +53,19 @@ still-allowed-requires : tie.Need-still-allowed-requires Inv-loop μ-loop
 still-allowed-requires c κs = tt
 
 array-share-prefix-cut : tie.Need-array-share-prefix-cut Inv-loop μ-loop
-array-share-prefix-cut c = 
+array-share-prefix-cut c =
     let l = c .before .before .before .before .loop in
     let s = c .before .before .before .before .before .before .before .before .before .before .before .before .before .before .before .before in
     omega (arith, l .inv .0, s .pre .most)
 
 slice-aggregate-first-gain : tie.Need-slice-aggregate-first-gain Inv-loop μ-loop
-slice-aggregate-first-gain c = 
+slice-aggregate-first-gain c =
     let l = c .before .before .before .before .before .loop in
     let s = c .before .before .before .before .before .before .before .before .before .before .before .before .before .before .before .before .before in
     sym (l .inv .1 .cut-set .many)
 
 first-gain-requires : tie.Need-first-gain-requires Inv-loop μ-loop
-first-gain-requires c κs = 
+first-gain-requires c κs =
     let l = c .before .before .before .before .before .before .before .loop in
     let s = c .before .before .before .before .before .before .before .before .before .before .before .before .before .before .before .before .before .before .before in
     record {
@@ -91,7 +83,7 @@ first-gain-requires c κs =
     }
 
 slice-aggregate-take-gain : tie.Need-slice-aggregate-take-gain Inv-loop μ-loop
-slice-aggregate-take-gain c = 
+slice-aggregate-take-gain c =
     let f = c .before .before .first-gain in
     let q = c .before .before .before .before .before .before .before .before .before .still-allowed in
     let l = c .before .before .before .before .before .before .before .before .before .before .loop in
@@ -99,7 +91,7 @@ slice-aggregate-take-gain c =
     sym (f .ensures .places)
 
 take-gain-requires : tie.Need-take-gain-requires Inv-loop μ-loop
-take-gain-requires c κs = 
+take-gain-requires c κs =
     let f = c .before .before .before .before .before .first-gain in
     let q = c .before .before .before .before .before .before .before .before .before .before .before .before .still-allowed in
     let l = c .before .before .before .before .before .before .before .before .before .before .before .before .before .loop in
@@ -113,7 +105,7 @@ take-gain-requires c κs =
     }
 
 add-examined : tie.Need-add-examined Inv-loop μ-loop
-add-examined c = 
+add-examined c =
     let f = c .before .before .before .before .before .before .before .before .first-gain in
     let q = c .before .before .before .before .before .before .before .before .before .before .before .before .before .before .before .still-allowed in
     let l = c .before .before .before .before .before .before .before .before .before .before .before .before .before .before .before .before .loop in
@@ -121,7 +113,7 @@ add-examined c =
     omega (arith, c .before .before .before .before .before .before .before .if1 .taken, q .ensures, s .pre .patterns .few)
 
 add-examined-2 : tie.Need-add-examined-2 Inv-loop μ-loop
-add-examined-2 c = 
+add-examined-2 c =
     let f = c .before .before .before .before .before .before .before .before .first-gain in
     let q = c .before .before .before .before .before .before .before .before .before .before .before .before .before .before .before .still-allowed in
     let l = c .before .before .before .before .before .before .before .before .before .before .before .before .before .before .before .before .loop in
@@ -129,7 +121,7 @@ add-examined-2 c =
     omega (arith, c .before .before .before .before .before .before .before .if1 .taken, q .ensures, below (s .args .k) (s .args .locations) (s .args .legs .now) (s .args .latest .now) (s .args .depot) (s .args .orders .now) (s .args .masks .now) (s .args .rows .now) (s .args .route .now) (s .args .allowance) (s .pre) (take (s .args .k) (l .cut)) (l .examined) (l .accepted) (l .route) (l .inv .1))
 
 add-accepted : tie.Need-add-accepted Inv-loop μ-loop
-add-accepted c = 
+add-accepted c =
     let f = c .before .before .before .before .before .before .before .before .first-gain in
     let q = c .before .before .before .before .before .before .before .before .before .before .before .before .before .before .before .still-allowed in
     let l = c .before .before .before .before .before .before .before .before .before .before .before .before .before .before .before .before .loop in
@@ -137,7 +129,7 @@ add-accepted c =
     omega (arith, c .before .before .before .before .before .before .before .if1 .taken, q .ensures, below (s .args .k) (s .args .locations) (s .args .legs .now) (s .args .latest .now) (s .args .depot) (s .args .orders .now) (s .args .masks .now) (s .args .rows .now) (s .args .route .now) (s .args .allowance) (s .pre) (take (s .args .k) (l .cut)) (l .examined) (l .accepted) (l .route) (l .inv .1), l .inv .1 .counted)
 
 loop-less : tie.Need-loop-less Inv-loop μ-loop
-loop-less c = 
+loop-less c =
     let f = c .before .before .before .before .before .before .before .before .first-gain in
     let q = c .before .before .before .before .before .before .before .before .before .before .before .before .before .before .before .still-allowed in
     let l = c .before .before .before .before .before .before .before .before .before .before .before .before .before .before .before .before .loop in
@@ -145,7 +137,7 @@ loop-less c =
     omega (arith, c .before .before .before .before .before .before .before .if1 .taken, q .ensures, below (s .args .k) (s .args .locations) (s .args .legs .now) (s .args .latest .now) (s .args .depot) (s .args .orders .now) (s .args .masks .now) (s .args .rows .now) (s .args .route .now) (s .args .allowance) (s .pre) (take (s .args .k) (l .cut)) (l .examined) (l .accepted) (l .route) (l .inv .1))
 
 loop-again : tie.Need-loop-again Inv-loop μ-loop
-loop-again c = 
+loop-again c =
     let f = c .before .before .before .before .before .before .before .before .first-gain in
     let q = c .before .before .before .before .before .before .before .before .before .before .before .before .before .before .before .still-allowed in
     let l = c .before .before .before .before .before .before .before .before .before .before .before .before .before .before .before .before .loop in
@@ -154,7 +146,7 @@ loop-again c =
     (refl, gains (s .args .k) (s .args .locations) (s .args .legs .now) (s .args .latest .now) (s .args .depot) (s .args .orders .now) (s .args .masks .now) (s .args .rows .now) (s .args .route .now) (s .args .allowance) (s .pre) (take (s .args .k) (l .cut)) (l .examined) (l .accepted) (l .route) (l .inv .1) (q .result) (f .result) (q .ensures) (f .ensures .first .within) (f .ensures .first .passed) (c .before .before .before .before .before .before .before .if1 .taken) (f .ensures .first .gains (c .before .before .before .before .before .before .before .if1 .taken)) _ (t .route-is ∙ f .ensures .built (c .before .before .before .before .before .before .before .if1 .taken)), t .forwards, t .backwards, f .ensures .padded, f .ensures .places)
 
 add-examined-3 : tie.Need-add-examined-3 Inv-loop μ-loop
-add-examined-3 c = 
+add-examined-3 c =
     let f = c .before .first-gain in
     let q = c .before .before .before .before .before .before .before .before .still-allowed in
     let l = c .before .before .before .before .before .before .before .before .before .loop in
@@ -162,7 +154,7 @@ add-examined-3 c =
     omega (arith, q .ensures, below (s .args .k) (s .args .locations) (s .args .legs .now) (s .args .latest .now) (s .args .depot) (s .args .orders .now) (s .args .masks .now) (s .args .rows .now) (s .args .route .now) (s .args .allowance) (s .pre) (take (s .args .k) (l .cut)) (l .examined) (l .accepted) (l .route) (l .inv .1))
 
 same-length : tie.Need-same-length Inv-loop μ-loop
-same-length c = 
+same-length c =
     let f = c .before .before .first-gain in
     let q = c .before .before .before .before .before .before .before .before .before .still-allowed in
     let l = c .before .before .before .before .before .before .before .before .before .before .loop in
@@ -170,7 +162,7 @@ same-length c =
     same-size (s .args .k) (s .args .locations) (s .args .legs .now) (s .args .latest .now) (s .args .depot) (s .args .orders .now) (s .args .masks .now) (s .args .rows .now) (s .args .route .now) (s .args .allowance) (s .pre) (take (s .args .k) (l .cut)) (l .examined) (l .accepted) (l .route) (l .inv .1)
 
 returns : tie.Need-returns Inv-loop μ-loop
-returns c = 
+returns c =
     let f = c .before .before .first-gain in
     let q = c .before .before .before .before .before .before .before .before .before .still-allowed in
     let l = c .before .before .before .before .before .before .before .before .before .before .loop in
@@ -178,7 +170,7 @@ returns c =
     record { scan = stops-here (s .args .k) (s .args .locations) (s .args .legs .now) (s .args .latest .now) (s .args .depot) (s .args .orders .now) (s .args .masks .now) (s .args .rows .now) (s .args .route .now) (s .args .allowance) (s .pre) (take (s .args .k) (l .cut)) (l .examined) (l .accepted) (l .route) (l .inv .1) (q .result) (f .result) (q .ensures) (f .ensures .first .within) (f .ensures .first .passed) (omega (arith, f .ensures .first .within, c .before .if1 .left)) (c .if2 .taken) }
 
 array-borrow-prefix-cut : tie.Need-array-borrow-prefix-cut Inv-loop μ-loop
-array-borrow-prefix-cut c = 
+array-borrow-prefix-cut c =
     let f = c .before .before .first-gain in
     let q = c .before .before .before .before .before .before .before .before .before .still-allowed in
     let l = c .before .before .before .before .before .before .before .before .before .before .loop in
@@ -186,7 +178,7 @@ array-borrow-prefix-cut c =
     omega (arith, l .inv .0, s .pre .most)
 
 slice-aggregate-next-cut-set : tie.Need-slice-aggregate-next-cut-set Inv-loop μ-loop
-slice-aggregate-next-cut-set c = 
+slice-aggregate-next-cut-set c =
     let f = c .before .before .before .first-gain in
     let q = c .before .before .before .before .before .before .before .before .before .before .still-allowed in
     let l = c .before .before .before .before .before .before .before .before .before .before .before .loop in
@@ -194,7 +186,7 @@ slice-aggregate-next-cut-set c =
     sym (l .inv .1 .cut-set .many)
 
 next-cut-set-requires : tie.Need-next-cut-set-requires Inv-loop μ-loop
-next-cut-set-requires c κs = 
+next-cut-set-requires c κs =
     let f = c .before .before .before .first-gain in
     let q = c .before .before .before .before .before .before .before .before .before .before .still-allowed in
     let l = c .before .before .before .before .before .before .before .before .before .before .before .loop in
@@ -202,7 +194,7 @@ next-cut-set-requires c κs =
     own-cuts (s .args .k) (s .args .locations) (s .args .legs .now) (s .args .latest .now) (s .args .depot) (s .args .orders .now) (s .args .masks .now) (s .args .rows .now) (s .args .route .now) (s .args .allowance) (s .pre) (take (s .args .k) (l .cut)) (l .examined) (l .accepted) (l .route) (l .inv .1)
 
 same-length-2 : tie.Need-same-length-2 Inv-loop μ-loop
-same-length-2 c = 
+same-length-2 c =
     let f = c .before .before .before .before .before .before .first-gain in
     let q = c .before .before .before .before .before .before .before .before .before .before .before .before .before .still-allowed in
     let l = c .before .before .before .before .before .before .before .before .before .before .before .before .before .before .loop in
@@ -210,7 +202,7 @@ same-length-2 c =
     same-size (s .args .k) (s .args .locations) (s .args .legs .now) (s .args .latest .now) (s .args .depot) (s .args .orders .now) (s .args .masks .now) (s .args .rows .now) (s .args .route .now) (s .args .allowance) (s .pre) (take (s .args .k) (l .cut)) (l .examined) (l .accepted) (l .route) (l .inv .1)
 
 returns-2 : tie.Need-returns-2 Inv-loop μ-loop
-returns-2 c = 
+returns-2 c =
     let f = c .before .before .before .before .before .before .first-gain in
     let q = c .before .before .before .before .before .before .before .before .before .before .before .before .before .still-allowed in
     let l = c .before .before .before .before .before .before .before .before .before .before .before .before .before .before .loop in
@@ -219,7 +211,7 @@ returns-2 c =
     record { scan = ends (s .args .k) (s .args .locations) (s .args .legs .now) (s .args .latest .now) (s .args .depot) (s .args .orders .now) (s .args .masks .now) (s .args .rows .now) (s .args .route .now) (s .args .allowance) (s .pre) (take (s .args .k) (l .cut)) (l .examined) (l .accepted) (l .route) (l .inv .1) (q .result) (f .result) (q .ensures) (f .ensures .first .within) (f .ensures .first .passed) (omega (arith, f .ensures .first .within, c .before .before .before .before .before .if1 .left)) (c .before .before .before .before .if2 .left) _ (rw (not-true (n .result) (c .if3 .taken)) at (c .before .before .next-cut-set .ensures)) }
 
 loop-less-2 : tie.Need-loop-less-2 Inv-loop μ-loop
-loop-less-2 c = 
+loop-less-2 c =
     let f = c .before .before .before .before .before .before .first-gain in
     let q = c .before .before .before .before .before .before .before .before .before .before .before .before .before .still-allowed in
     let l = c .before .before .before .before .before .before .before .before .before .before .before .before .before .before .loop in
@@ -227,7 +219,7 @@ loop-less-2 c =
     omega (arith, c .before .before .before .before .if2 .left, q .ensures, below (s .args .k) (s .args .locations) (s .args .legs .now) (s .args .latest .now) (s .args .depot) (s .args .orders .now) (s .args .masks .now) (s .args .rows .now) (s .args .route .now) (s .args .allowance) (s .pre) (take (s .args .k) (l .cut)) (l .examined) (l .accepted) (l .route) (l .inv .1), s .pre .some)
 
 loop-again-2 : tie.Need-loop-again-2 Inv-loop μ-loop
-loop-again-2 c = 
+loop-again-2 c =
     let f = c .before .before .before .before .before .before .first-gain in
     let q = c .before .before .before .before .before .before .before .before .before .before .before .before .before .still-allowed in
     let l = c .before .before .before .before .before .before .before .before .before .before .before .before .before .before .loop in
