@@ -5,3 +5,4 @@ pub mod ReconnectionReply
 pub mod ReconnectReply
 pub mod DeltaReply
 pub mod FeasibleReply
+pub mod PolishReply

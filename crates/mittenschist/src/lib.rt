@@ -212,3 +212,26 @@ fn polish_refusal(
     let bad_room = refusals::check_room(5, lent);
     refusals::first(bad_k, refusals::first(bad_problem, bad_room))
 }
+
+// Polishes a route. Refuses 1, 2, 3, 4, 5, 21. The result receives 0 finished or 1 spent, examined, accepted, length before, length after.
+#[no_mangle]
+pub extern "C" fn mittenschist_polish_route(
+    k: usize,
+    allowance: u64,
+    locations: usize,
+    legs: &[u32],
+    latest: &[u32],
+    depot: u32,
+    route: &mut [u32],
+    result: &mut [u64],
+) -> u32
+    ensures { λ r. ⌜ PolishReply k allowance locations (now (legs .entry)) (now (latest .entry)) depot (now (route .entry)) (now (result .entry)) r (now (route .exit)) (now (result .exit)) ⌝ }
+{
+    let refused = polish_refusal(k, locations, legs, latest, depot, &route[..], result.len());
+    if refused != 0 {
+        return refused;
+    }
+    let answer = polishing::polish_route(k, allowance, locations, legs, latest, depot, route);
+    polishing::put_polished(answer, result);
+    0
+}
