@@ -25,9 +25,9 @@ listed [] = []
 listed (x ∷ xs) = digits x ++ further xs
 
 -- A line: its key with the equals sign, its numbers; "each line ends in LF".
-unfoldable pub line : String → List ℕ → List ℕ
+unfoldable pub line : List ℕ → List ℕ → List ℕ
 unfolding listed
-line key xs = ascii key ++ (listed xs ++ (10 ∷ []))
+line key xs = key ++ (listed xs ++ (10 ∷ []))
 
 pub record Room (text out : List ℕ) (at : ℕ) : Type 0 where
   pub room : at + length text ≤ length out

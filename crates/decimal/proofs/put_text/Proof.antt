@@ -1,6 +1,6 @@
 -- `decimal::put_text` meets its contract: the loop is the library's `paste`. Assumes nothing.
-use Prim.Native.Nat.{_≤_, _-_, _+_, _<_}
-use mathlib.Core.Path.{_≡_, refl, sym, ap, _∙_}
+use Prim.Native.Nat.{_≤_, _-_}
+use mathlib.Core.Path.{_≡_, refl}
 use lib.ListN.{length, length-set}
 use lib.Seq.{paste, paste-suc, paste-zero}
 use native.Mathlib.Numerals.{add-one}
@@ -9,8 +9,6 @@ use native.Mathlib.Omega.{arith}
 use borrow.Author.Needs.{needs}
 use Rattle.decimal.proofs.put_text.Statement.{statement}
 use Rattle.decimal.proofs.put_text.Tie as tie
-use Rattle.decimal.proofs.put_text.Reads as reads
-use Rattle.decimal.proofs.put_text.Lts as lts
 
 abbrev Inv-loop : tie.InvT-loop
 Inv-loop text out₀ at i₀ i-end out i = (i ≤ length text) × (length out ≡ length out₀) × (out ≡ paste out₀ at text i)
@@ -18,31 +16,24 @@ Inv-loop text out₀ at i₀ i-end out i = (i ≤ length text) × (length out �
 abbrev μ-loop : tie.MeasureT-loop
 μ-loop text out₀ at i₀ i-end out i = length text - i
 
--- src/lib.rt:13:5
 loop-holds : tie.Need-loop-holds Inv-loop μ-loop
 loop-holds c = (omega arith, refl, paste-zero (c .args .out .now) (c .args .at) (c .args .text .now))
 
--- src/lib.rt:14:23
 shared-slice-read-out : tie.Need-shared-slice-read-out Inv-loop μ-loop
 shared-slice-read-out c = search needs
 
--- src/lib.rt:14:13
 add-out : tie.Need-add-out Inv-loop μ-loop
 add-out c = search needs
 
--- src/lib.rt:14:9
 slice-write-out : tie.Need-slice-write-out Inv-loop μ-loop
 slice-write-out c = search needs
 
--- src/lib.rt:13:9
 add-i : tie.Need-add-i Inv-loop μ-loop
 add-i c = search needs
 
--- src/lib.rt:13:5
 loop-less : tie.Need-loop-less Inv-loop μ-loop
 loop-less c = search needs
 
--- src/lib.rt:13:5
 loop-again : tie.Need-loop-again Inv-loop μ-loop
 loop-again c =
     let s = c .before .before .before in
@@ -52,15 +43,12 @@ loop-again c =
       rw (add-one, l .inv .2) (paste-suc (s .args .out .now) (s .args .at) (s .args .text .now) (l .i) 0 (omega arith) (omega arith)),
     )
 
--- src/lib.rt:16:5
 add-result : tie.Need-add-result Inv-loop μ-loop
 add-result c = search needs
 
--- src/lib.rt:9:1
 same-length : tie.Need-same-length Inv-loop μ-loop
 same-length c = search needs
 
--- src/lib.rt:9:1
 returns : tie.Need-returns Inv-loop μ-loop
 returns c =
     let s = c .before .before in

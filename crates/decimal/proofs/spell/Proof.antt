@@ -1,18 +1,14 @@
 -- `decimal::spell` meets its contract. Assumes nothing.
-use Prim.Native.Nat.{_≤_, _-_, _+_, _<_}
-use mathlib.Core.Path.{_≡_, refl, sym, ap, _∙_}
-use mathlib.Core.List.{_++_, append-assoc}
-use lib.ListN.{length, drop, length-set}
-use native.Mathlib.Numerals.{add-one}
+use Prim.Native.Nat.{_≤_, _<_}
+use mathlib.Core.Path.{_≡_}
+use mathlib.Core.List.{_++_}
+use lib.ListN.{length, drop}
 use Rattle.decimal.specs.Decimal.{leading, digits}
 use Rattle.decimal.proofs.Digits.{spell-last, spell-more, spell-room, spell-whole}
 use native.Mathlib.Omega.{arith}
 use borrow.Author.Needs.{needs}
 use Rattle.decimal.proofs.spell.Statement.{statement}
 use Rattle.decimal.proofs.spell.Tie as tie
-use Rattle.decimal.proofs.spell.Reads as reads
-use Rattle.decimal.proofs.spell.Lts as lts
-use Rattle.decimal.proofs.last_digit.Reads as last-digit-reads
 
 abbrev Inv-loop : tie.InvT-loop
 Inv-loop value places₀ start₀ rest₀ places start rest = (length places ≡ 20) × (start ≤ 20) × (leading rest ++ drop start places ≡ digits value)
@@ -20,21 +16,17 @@ Inv-loop value places₀ start₀ rest₀ places start rest = (length places ≡
 abbrev μ-loop : tie.MeasureT-loop
 μ-loop value places₀ start₀ rest₀ places start rest = rest
 
--- src/lib.rt:32:21
 last-digit-requires : tie.Need-last-digit-requires Inv-loop μ-loop
 last-digit-requires c κs = search needs
 
--- src/lib.rt:32:5
 element-write-places : tie.Need-element-write-places Inv-loop μ-loop
 element-write-places c = search needs
 
--- src/lib.rt:34:5
 loop-holds : tie.Need-loop-holds Inv-loop μ-loop
 loop-holds c =
     let s = c .before in
     (search needs, search needs, spell-last (s .args .value) (c .last-digit .result) (s .args .places .now) (s .pre) (c .last-digit .ensures))
 
--- src/lib.rt:35:9
 -- A place is left while digits are.
 place-left : (c : tie.In-loop Inv-loop μ-loop) → 0 < c .before .loop .start
 place-left c =
@@ -45,19 +37,15 @@ place-left c =
 sub-start : tie.Need-sub-start Inv-loop μ-loop
 sub-start c = place-left c
 
--- src/lib.rt:36:25
 last-digit-requires-2 : tie.Need-last-digit-requires-2 Inv-loop μ-loop
 last-digit-requires-2 c κs = search needs
 
--- src/lib.rt:36:9
 element-write-places-2 : tie.Need-element-write-places-2 Inv-loop μ-loop
 element-write-places-2 c = search needs
 
--- src/lib.rt:34:5
 loop-less : tie.Need-loop-less Inv-loop μ-loop
 loop-less c = search needs
 
--- src/lib.rt:34:5
 loop-again : tie.Need-loop-again Inv-loop μ-loop
 loop-again c =
     let s = c .before .before .before .before in
@@ -67,7 +55,6 @@ loop-again c =
       spell-more (s .args .value) (l .rest) (l .start) (c .last-digit2 .result) (l .places) (omega arith) (omega arith) (place-left (c .before)) (c .last-digit2 .ensures) (l .inv .2),
     )
 
--- src/lib.rt:27:1
 returns : tie.Need-returns Inv-loop μ-loop
 returns c =
     let s = c .before .before .before in
