@@ -1,0 +1,2 @@
+// The text program's question, read from bytes. No entry: the program above calls it.
+fn nothing() {}
