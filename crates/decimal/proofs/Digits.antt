@@ -51,13 +51,16 @@ leading-length (suc k) (suc f) (suc n) h =
     let e : 10 ^ suc k ≡ 10 ^ k * 10 = pow-suc 10 k in
     omega (arith, length-append (leading-within f (suc n / 10)) (last-digit (suc n) ∷ []), leading-length k f (suc n / 10) (omega arith))
 
+pub digits-some : (n : ℕ) → 1 ≤ length (digits n)
+unfolding digits
+digits-some n = omega (arith, length-append (leading (n / 10)) (last-digit n ∷ []))
+
 -- "Numbers have 1 to 10 digits"; those of 64 bits at most 20.
-pub digits-length : (k n : ℕ) → n < 10 ^ suc k → (1 ≤ length (digits n)) × (length (digits n) ≤ suc k)
+pub digits-length : (k n : ℕ) → n < 10 ^ suc k → length (digits n) ≤ suc k
 unfolding digits
 digits-length k n h =
     let e : 10 ^ suc k ≡ 10 ^ k * 10 = pow-suc 10 k in
-    let l = length-append (leading (n / 10)) (last-digit n ∷ []) in
-    (omega (arith, l), omega (arith, l, leading-length k (n / 10) (n / 10) (omega arith)))
+    omega (arith, length-append (leading (n / 10)) (last-digit n ∷ []), leading-length k (n / 10) (n / 10) (omega arith))
 
 drop-set : (l : List ℕ) (i b : ℕ) → i < length l → drop i (set l i b) ≡ b ∷ drop (suc i) l
 drop-set l i b h = rw (set-split l i b h) (drop-at (take i l) (b ∷ drop (suc i) l) i (simp length-take (omega arith)))

@@ -1,11 +1,11 @@
 -- Document 01's example read and written, and texts that are refused, by computation.
 use mathlib.Core.Path.{_≡_, refl}
-use mathlib.Core.List.{List, [], _∷_, map}
-use mathlib.Core.Option.{none, some}
+use mathlib.Core.List.{List, [], _∷_}
+use mathlib.Core.Option.{some}
 use Prim.Native.Nat.{ℕ}
 use Prim.Native.String.{String}
-use Rattle.decimal.specs.Lines.{ascii}
-use Rattle.reading.specs.Question.{Question, written}
+use Rattle.decimal.specs.Lines.{ascii, line}
+use Rattle.reading.specs.Question.{Question, legs-lines, written}
 use Rattle.reading.specs.Reading.{read}
 
 abbrev far : ℕ
@@ -27,7 +27,7 @@ abbrev pub T-text : List ℕ
 T-text = ascii "k=3\nallowance=100\nlocations=3\ndepot=0\nlegs=0,5,1\nlegs=1,0,5\nlegs=5,1,0\nlatest=4294967295,4294967295,4294967295\nround=1,2\n"
 
 pub T-written : written T ≡ T-text
-unfolding written
+unfolding written legs-lines line
 T-written = refl
 
 pub T-read : read T-text ≡ some T

@@ -1,2 +1,4 @@
 pub mod Examples
+pub mod Lines
 pub mod Numbers
+pub mod Texts

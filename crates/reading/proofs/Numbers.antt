@@ -1,17 +1,17 @@
 -- A number is read exactly where its digits stand. Assumes nothing.
 use mathlib.Core.Path.{_≡_, refl, sym, ap, _∙_}
-use mathlib.Core.Bool.{Bool, true, false, _&&_, cond}
-use mathlib.Core.List.{List, [], _∷_, _++_, append-assoc, append-nil}
-use mathlib.Core.Option.{Option, none, some, Option·none-ne-some, Option·some-injective}
-use Prim.Native.Nat.{ℕ, zero, suc, _+_, _-_, _*_, _/_, _%_, _≤_, _<_}
+use mathlib.Core.Bool.{Bool, true, false}
+use mathlib.Core.List.{List, [], _∷_, _++_}
+use mathlib.Core.Option.{Option, some, Option·none-ne-some, Option·some-injective}
+use Prim.Native.Nat.{ℕ, zero, suc, _+_, _*_, _/_, _%_, _≤_, _<_}
 use native.Mathlib.Omega.{arith}
 use lib.Dec.{ltb, leb, eqb}
-use lib.ListN.{length, getD, drop}
-use borrow.Author.Tests.{ltb-true, ltb-false, leb-true, leb-false, eqb-true, eqb-false, lt-ltb, le-ltb, le-leb, lt-leb, eq-eqb, ne-eqb}
+use lib.ListN.{drop}
+use borrow.Author.Tests.{ltb-true, ltb-false, leb-true, leb-false, eqb-true, eqb-false, lt-ltb, le-ltb, le-leb, lt-leb, ne-eqb}
 use lib.Seq.{append-snoc}
-use Rattle.decimal.specs.Decimal.{digits, leading-within, leading}
+use Rattle.decimal.specs.Decimal.{digits, leading-within}
 use Rattle.decimal.proofs.Digits.{digits-one, digits-more, leading-digits}
-use Rattle.reading.specs.Reading.{choose, front, digit, digits-after, number}
+use Rattle.reading.specs.Reading.{front, digit, digits-after, number}
 
 -- The byte in front is the digit's, where the digit is one.
 pub digit-front : (t : List ℕ) → digit t < 10 → front t ≡ 48 + digit t
@@ -88,6 +88,16 @@ leading-none : (f : ℕ) → leading-within f 0 ≡ []
 unfolding leading-within
 leading-none zero = refl
 leading-none (suc f) = refl
+
+-- A number begins with a digit.
+pub number-front : (t : List ℕ) (w : ℕ) (r : List ℕ) → number t ≡ some (w, r) → 48 ≤ front t
+unfolding number
+number-front t w r e = go (eqb (digit t) 0) (ltb (digit t) 10) refl refl
+  where
+    go : (x y : Bool) → eqb (digit t) 0 ≡ x → ltb (digit t) 10 ≡ y → 48 ≤ front t
+    go true y i j = let z : digit t ≡ 0 = eqb-true (digit t) 0 i in omega (arith, digit-front t (omega arith))
+    go false true i j = omega (arith, digit-front t (ltb-true (digit t) 10 j))
+    go false false i j = absurd (Option·none-ne-some (w, r) (rw (i, j) at e))
 
 -- Digits are read up to the last one, and on.
 number-on : (f w : ℕ) (t : List ℕ) → 0 < w → w ≤ f → w ≤ 4294967295 → number (leading-within f w ++ t) ≡ digits-after w t

@@ -16,13 +16,11 @@ pub record Question : Type 0 where
 
 -- The legs row by row: so many lines, so many entries in each.
 unfoldable pub legs-lines : ℕ → ℕ → List ℕ → List ℕ
-unfolding line
 legs-lines zero width legs = []
 legs-lines (suc rows) width legs = line (ascii "legs=") (take width legs) ++ legs-lines rows width (drop width legs)
 
 -- The lines in the order of document 01's example. "An empty round is `round=`."
 unfoldable pub written : Question → List ℕ
-unfolding line legs-lines
 written q =
     line (ascii "k=") (q .k ∷ [])
     ++ (line (ascii "allowance=") (q .allowance ∷ [])

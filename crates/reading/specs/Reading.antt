@@ -49,8 +49,8 @@ unfolding number bind before
 entries zero t = none
 entries (suc room) t =
     bind (number t) (λ r.
-      let later = before (r .0 ∷ []) (entries room (drop 1 (r .1))) in
-      choose (eqb (front (r .1)) 10) (some (r .0 ∷ [], drop 1 (r .1))) (eqb (front (r .1)) 44) later none)
+    let later = before (r .0 ∷ []) (entries room (drop 1 (r .1))) in
+    choose (eqb (front (r .1)) 10) (some (r .0 ∷ [], drop 1 (r .1))) (eqb (front (r .1)) 44) later none)
 
 -- The same or none.
 unfoldable pub entries-or-none : ℕ → List ℕ → Option (List ℕ × List ℕ)
@@ -95,13 +95,13 @@ unfoldable pub header : List ℕ → Option (Header × List ℕ)
 unfolding value bind
 header t =
     bind (value (ascii "k=") t) (λ k.
-      bind (value (ascii "allowance=") (k .1)) (λ allowance.
-        bind (value (ascii "locations=") (allowance .1)) (λ locations.
-          bind (value (ascii "depot=") (locations .1)) (λ depot.
-            cond
-            (leb 1 (locations .0) && leb (locations .0) 96)
-            (some (record { k = k .0; allowance = allowance .0; locations = locations .0; depot = depot .0 }, depot .1))
-            none))))
+    bind (value (ascii "allowance=") (k .1)) (λ allowance.
+    bind (value (ascii "locations=") (allowance .1)) (λ locations.
+    bind (value (ascii "depot=") (locations .1)) (λ depot.
+    cond
+    (leb 1 (locations .0) && leb (locations .0) 96)
+    (some (record { k = k .0; allowance = allowance .0; locations = locations .0; depot = depot .0 }, depot .1))
+    none))))
 
 -- The rest must be nothing.
 abbrev pub ended : {A : Type 0} → A → List ℕ → Option A
@@ -113,20 +113,20 @@ unfoldable pub question : List ℕ → Option Question
 unfolding header rows row line-of bind
 question t =
     bind (header t) (λ h.
-      bind (rows (h .0 .locations) (h .0 .locations) (h .1)) (λ legs.
-        bind (row (ascii "latest=") (h .0 .locations) (legs .1)) (λ latest.
-          bind (line-of (ascii "round=") 30000 (latest .1)) (λ stops.
-            ended
-            (record {
-              k = h .0 .k;
-              allowance = h .0 .allowance;
-              locations = h .0 .locations;
-              depot = h .0 .depot;
-              legs = legs .0;
-              latest = latest .0;
-              stops = stops .0;
-            })
-            (stops .1)))))
+    bind (rows (h .0 .locations) (h .0 .locations) (h .1)) (λ legs.
+    bind (row (ascii "latest=") (h .0 .locations) (legs .1)) (λ latest.
+    bind (line-of (ascii "round=") 30000 (latest .1)) (λ stops.
+    ended
+    (record {
+      k = h .0 .k;
+      allowance = h .0 .allowance;
+      locations = h .0 .locations;
+      depot = h .0 .depot;
+      legs = legs .0;
+      latest = latest .0;
+      stops = stops .0;
+    })
+    (stops .1)))))
 
 unfoldable pub read : List ℕ → Option Question
 unfolding question
