@@ -1,4 +1,5 @@
 pub mod Examples
 pub mod Lines
 pub mod Numbers
+pub mod Places
 pub mod Texts

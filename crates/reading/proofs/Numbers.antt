@@ -121,7 +121,7 @@ number-on (suc f) (suc m) t p q h =
         ih (omega arith) (omega arith) (omega arith) ∙ after-step (suc m / 10) (suc m % 10) t (omega arith) (omega arith) ∙ ap (λ (n : ℕ). digits-after n t) v
 
 -- No digit follows.
-after-none : (w : ℕ) (t : List ℕ) → 10 ≤ digit t → digits-after w t ≡ some (w, t)
+pub after-none : (w : ℕ) (t : List ℕ) → 10 ≤ digit t → digits-after w t ≡ some (w, t)
 unfolding digits-after
 after-none w [] h = refl
 after-none w (b ∷ t) h = rw (le-leb 10 (digit (b ∷ t)) h)
