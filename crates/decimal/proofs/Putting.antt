@@ -5,7 +5,7 @@ use Prim.Native.Nat.{ℕ, _+_, _≤_}
 use native.Mathlib.Omega.{arith}
 use lib.ListN.{length, take, drop, length-append, length-take, length-drop, take-append-drop}
 use lib.Seq.{take-at, drop-at, drop-drop, take-length, paste}
-use Rattle.decimal.specs.Lines.{Room, Put}
+use Rattle.decimal.specs.Text.{Room, Put}
 
 pub pasted : (text out : List ℕ) (at : ℕ) → Put text out at (paste out at text (length text)) (at + length text)
 pasted text out at = record { ends = refl; contents = rw (take-length text) (append-assoc (take at out) text (drop (at + length text) out)) }

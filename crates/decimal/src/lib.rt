@@ -3,7 +3,7 @@ ghost use mathlib.Core.Path.{_≡_};
 ghost use Prim.Native.Nat.{_≤_};
 ghost use lib.ListN.{length, drop};
 ghost use Rattle.decimal.specs.Decimal.{last-digit, digits, Spelled};
-ghost use Rattle.decimal.specs.Lines.{Room, Put};
+ghost use Rattle.decimal.specs.Text.{Room, Put};
 
 // text into out from `at` on; the place after it.
 pub fn put_text(text: &[u8], out: &mut [u8], at: usize) -> usize

@@ -4,7 +4,7 @@ use mathlib.Core.Bool.{Bool}
 use mathlib.Core.List.{List, [], _∷_, _++_}
 use Prim.Native.Nat.{ℕ}
 use native.Mathlib.Omega.{arith}
-use Rattle.decimal.specs.Lines.{ascii, line, Room, Put}
+use Rattle.decimal.specs.Text.{ascii, line, Room, Put}
 use Rattle.printing.specs.Answer.{outcome, answer-text, Fits, Printed}
 
 abbrev pub from-after : ℕ → List ℕ → List ℕ

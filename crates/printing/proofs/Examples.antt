@@ -2,7 +2,7 @@
 use mathlib.Core.Path.{_≡_, refl}
 use mathlib.Core.Bool.{true, false}
 use mathlib.Core.List.{[], _∷_}
-use Rattle.decimal.specs.Lines.{ascii, line}
+use Rattle.decimal.specs.Text.{ascii, line}
 use Rattle.printing.specs.Answer.{answer-text, refusal-text}
 
 pub polished : answer-text true 11 1 15 3 (2 ∷ 1 ∷ []) ≡ ascii "answer=finished\nexamined=11\naccepted=1\nbefore=15\nafter=3\nround=2,1\n"

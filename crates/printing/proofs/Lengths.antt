@@ -6,7 +6,7 @@ use Prim.Native.Nat.{ℕ, suc, _+_, _*_, _^_, _≤_, _<_}
 use native.Mathlib.Omega.{arith}
 use lib.ListN.{length, getD, length-append}
 use Rattle.decimal.specs.Decimal.{digits}
-use Rattle.decimal.specs.Lines.{ascii, further, listed, line}
+use Rattle.decimal.specs.Text.{ascii, further, listed, line}
 use Rattle.decimal.proofs.Digits.{digits-length}
 use Rattle.printing.specs.Answer.{outcome, answer-text, refusal-text}
 

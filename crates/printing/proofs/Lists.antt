@@ -7,7 +7,7 @@ use native.Mathlib.Numerals.{add-one}
 use lib.ListN.{length, getD, take, drop, drop-of-length-le}
 use lib.Seq.{drop-cons, take-all}
 use Rattle.decimal.specs.Decimal.{digits}
-use Rattle.decimal.specs.Lines.{further, listed, line}
+use Rattle.decimal.specs.Text.{further, listed, line}
 
 -- One number more.
 pub further-next : (values : List ℕ) (i : ℕ) → i < length values → further (drop i values) ≡ (44 ∷ []) ++ (digits (getD values i 0) ++ further (drop (i + 1) values))

@@ -4,7 +4,7 @@ use mathlib.Core.Bool.{Bool, true, false}
 use mathlib.Core.List.{List, [], _∷_, _++_}
 use Prim.Native.Nat.{ℕ, _≤_}
 use lib.ListN.{length, drop}
-use Rattle.decimal.specs.Lines.{ascii, line}
+use Rattle.decimal.specs.Text.{ascii, line}
 
 -- "Answers: finished or spent .."
 abbrev pub outcome : Bool → List ℕ

@@ -2,7 +2,7 @@
 use decimal::put_number;
 use decimal::put_text;
 ghost use mathlib.Core.List.{[], _∷_};
-ghost use Rattle.decimal.specs.Lines.{further, listed, line, ascii, Room, Put};
+ghost use Rattle.decimal.specs.Text.{further, listed, line, ascii, Room, Put};
 ghost use Rattle.printing.specs.Answer.{outcome, answer-text, refusal-text, Fits, Printed};
 
 // Each number after a comma.

@@ -4,7 +4,7 @@ use mathlib.Core.List.{List, [], _∷_}
 use mathlib.Core.Option.{some}
 use Prim.Native.Nat.{ℕ}
 use Prim.Native.String.{String}
-use Rattle.decimal.specs.Lines.{ascii, line}
+use Rattle.decimal.specs.Text.{ascii, line}
 use Rattle.reading.specs.Question.{Question, legs-lines, written}
 use Rattle.reading.specs.Reading.{read}
 

@@ -1,5 +1,4 @@
 pub mod Examples
-pub mod Lines
-pub mod Numbers
-pub mod Places
+pub mod Heading
+pub mod Tables
 pub mod Texts

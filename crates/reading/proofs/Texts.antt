@@ -10,65 +10,14 @@ use lib.Dec.{leb}
 use lib.ListN.{length, length-append}
 use borrow.Author.Tests.{leb-true, le-leb}
 use Rattle.decimal.specs.Decimal.{digits}
-use Rattle.decimal.specs.Lines.{ascii, further, listed, line}
+use Rattle.decimal.specs.Text.{ascii, further, listed, line, Small}
 use Rattle.decimal.proofs.Digits.{digits-some}
-use Rattle.reading.specs.Question.{Question, Small, legs-lines, written, Held}
-use Rattle.reading.specs.Reading.{line-of, row, value, rows, Header, header, ended, question, read}
-use Rattle.reading.proofs.Lines.{first-read, line-sound, line-complete, row-sound, row-complete, value-sound, value-complete, rows-sound, rows-complete}
-
--- The lines before the legs, and then the rest.
-abbrev headed : Header → List ℕ → List ℕ
-headed h r =
-    line (ascii "k=") (h .k ∷ [])
-    ++ (line (ascii "allowance=") (h .allowance ∷ []) ++ (line (ascii "locations=") (h .locations ∷ []) ++ (line (ascii "depot=") (h .depot ∷ []) ++ r)))
-
-record Headed (h : Header) (t r : List ℕ) : Type 0 where
-  text : t ≡ headed h r
-  some-location : 1 ≤ h .locations
-  few-locations : h .locations ≤ 96
-  small : Small (h .k ∷ h .allowance ∷ h .depot ∷ [])
-
-in-range : (n : ℕ) {A : Type 0} (a b : A) → cond (leb 1 n && leb n 96) (some a) none ≡ some b → (1 ≤ n) × (n ≤ 96) × (a ≡ b)
-in-range n {A} a b e = go (leb 1 n) (leb n 96) refl refl
-  where
-    go : (x y : Bool) → leb 1 n ≡ x → leb n 96 ≡ y → (1 ≤ n) × (n ≤ 96) × (a ≡ b)
-    go true true i j = (leb-true 1 n i, leb-true n 96 j, Option·some-injective a b (rw (i, j) at e))
-    go true false i j = absurd (Option·none-ne-some b (rw (i, j) at e))
-    go false y i j = absurd (Option·none-ne-some b (rw i at e))
-
-header-sound : (t : List ℕ) (h : Header) (r : List ℕ) → header t ≡ some (h, r) → Headed h t r
-unfolding header
-header-sound t h r e =
-    first-read (value (ascii "k=") t) _ (h, r) e λ k k-read e₁.
-    first-read (value (ascii "allowance=") (k .1)) _ (h, r) e₁ λ a a-read e₂.
-    first-read (value (ascii "locations=") (a .1)) _ (h, r) e₂ λ l l-read e₃.
-    first-read (value (ascii "depot=") (l .1)) _ (h, r) e₃ λ d d-read e₄.
-    let i = in-range (l .0) (record { k = k .0; allowance = a .0; locations = l .0; depot = d .0 }, d .1) (h, r) e₄ in
-    let k-is = value-sound (ascii "k=") t (k .0) (k .1) k-read in
-    let a-is = value-sound (ascii "allowance=") (k .1) (a .0) (a .1) a-read in
-    let l-is = value-sound (ascii "locations=") (a .1) (l .0) (l .1) l-read in
-    let d-is = value-sound (ascii "depot=") (l .1) (d .0) (d .1) d-read in
-    let x : k .1 ≡ line (ascii "allowance=") (a .0 ∷ []) ++ (line (ascii "locations=") (l .0 ∷ []) ++ (line (ascii "depot=") (d .0 ∷ []) ++ d .1)) = a-is .0 ∙ rw (l-is .0) (rw (d-is .0)) in
-    subst (λ (p : Header × List ℕ). Headed (p .0) t (p .1)) (i .2) (record {
-      text = k-is .0 ∙ ap (λ (z : List ℕ). line (ascii "k=") (k .0 ∷ []) ++ z) x;
-      some-location = i .0;
-      few-locations = i .1;
-      small = (k-is .1, (a-is .1, (d-is .1, tt)));
-    })
-
-header-complete : (h : Header) (r : List ℕ) → 1 ≤ h .locations → h .locations ≤ 96 → Small (h .k ∷ h .allowance ∷ h .depot ∷ []) → header (headed h r) ≡ some (h, r)
-unfolding header bind
-header-complete h r p q s =
-    let depot-rest = line (ascii "depot=") (h .depot ∷ []) ++ r in
-    let locations-rest = line (ascii "locations=") (h .locations ∷ []) ++ depot-rest in
-    rw (
-      value-complete (ascii "k=") (h .k) (line (ascii "allowance=") (h .allowance ∷ []) ++ locations-rest) (s .0),
-      value-complete (ascii "allowance=") (h .allowance) locations-rest (s .1 .0),
-      value-complete (ascii "locations=") (h .locations) depot-rest (omega arith),
-      value-complete (ascii "depot=") (h .depot) r (s .1 .1 .0),
-      le-leb 1 (h .locations) p,
-      le-leb (h .locations) 96 q,
-    )
+use Rattle.reading.specs.Question.{Question, legs-lines, written, Held}
+use Rattle.reading.specs.Reading.{Heading, header, tables, ended, question, read}
+use Rattle.lines.specs.Reading.{line-of, row, value}
+use Rattle.lines.proofs.Lines.{first-read, line-sound, line-complete, row-sound, row-complete, value-sound, value-complete}
+use Rattle.reading.proofs.Heading.{headed, header-sound, header-complete}
+use Rattle.reading.proofs.Tables.{tables-sound, tables-complete}
 
 -- All of `Held` but the length of the text.
 record Readable (q : Question) (t : List ℕ) : Type 0 where
@@ -90,25 +39,22 @@ question-sound : (t : List ℕ) (q : Question) → question t ≡ some q → Rea
 unfolding question written
 question-sound t q e =
     first-read (header t) _ q e λ h h-read e₁.
-    first-read (rows (h .0 .locations) (h .0 .locations) (h .1)) _ q e₁ λ g g-read e₂.
-    first-read (row (ascii "latest=") (h .0 .locations) (g .1)) _ q e₂ λ l l-read e₃.
-    first-read (line-of (ascii "round=") 30000 (l .1)) _ q e₃ λ s s-read e₄.
-    let n = nothing-left _ q (s .1) e₄ in
+    first-read (tables (h .0 .locations) (h .1)) _ q e₁ λ g g-read e₂.
+    first-read (line-of (ascii "round=") 30000 (g .1)) _ q e₂ λ s s-read e₃.
+    let n = nothing-left _ q (s .1) e₃ in
     let h-is = header-sound t (h .0) (h .1) h-read in
-    let g-is = rows-sound (h .0 .locations) (h .0 .locations) (h .1) (g .0) (g .1) g-read in
-    let l-is = row-sound (ascii "latest=") (h .0 .locations) (g .1) (l .0) (l .1) l-read in
-    let s-is = line-sound (ascii "round=") 30000 (l .1) (s .0) (s .1) s-read in
-    let x : l .1 ≡ line (ascii "round=") (s .0) = s-is .0 ∙ rw (n .0) (append-nil (line (ascii "round=") (s .0))) in
-    let y : h .1 ≡ legs-lines (h .0 .locations) (h .0 .locations) (g .0) ++ (line (ascii "latest=") (l .0) ++ line (ascii "round=") (s .0)) = g-is .0 ∙ rw (l-is .0) (rw x) in
+    let g-is = tables-sound (h .0 .locations) (h .1) (g .0 .0) (g .0 .1) (g .1) g-read in
+    let s-is = line-sound (ascii "round=") 30000 (g .1) (s .0) (s .1) s-read in
+    let x : g .1 ≡ line (ascii "round=") (s .0) = s-is .0 ∙ rw (n .0) (append-nil (line (ascii "round=") (s .0))) in
     subst (λ (p : Question). Readable p t) (n .1) (record {
-      text = h-is .text ∙ ap (headed (h .0)) y;
+      text = h-is .text ∙ ap (headed (h .0)) (g-is .text ∙ rw x);
       some-location = h-is .some-location;
       few-locations = h-is .few-locations;
-      square = g-is .2;
-      deadlines = l-is .2;
+      square = g-is .square;
+      deadlines = g-is .deadlines;
       small-header = h-is .small;
-      small-legs = g-is .1;
-      small-latest = l-is .1;
+      small-legs = g-is .small-legs;
+      small-latest = g-is .small-latest;
       small-stops = s-is .1;
     })
 
@@ -138,13 +84,11 @@ question-complete : (q : Question) → Held q → question (written q) ≡ some 
 unfolding question bind written
 question-complete q h =
     let round = line (ascii "round=") (q .stops) in
-    let latest = line (ascii "latest=") (q .latest) ++ round in
-    let legs = legs-lines (q .locations) (q .locations) (q .legs) ++ latest in
-    let start : Header = record { k = q .k; allowance = q .allowance; locations = q .locations; depot = q .depot } in
+    let legs = legs-lines (q .locations) (q .locations) (q .legs) ++ (line (ascii "latest=") (q .latest) ++ round) in
+    let start : Heading = record { k = q .k; allowance = q .allowance; locations = q .locations; depot = q .depot } in
     rw (
       header-complete start legs (h .some-location) (h .few-locations) (h .small-header),
-      rows-complete (q .locations) (q .locations) (q .legs) latest (h .small-legs) (h .square),
-      row-complete (ascii "latest=") (q .locations) (q .latest) round (h .small-latest) (h .deadlines),
+      tables-complete (q .locations) (q .legs) (q .latest) round (h .small-legs) (h .square) (h .small-latest) (h .deadlines),
       last-line (ascii "round=") 30000 (q .stops) (h .small-stops) (few-stops q (h .short)),
     )
 

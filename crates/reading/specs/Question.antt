@@ -3,7 +3,7 @@ use mathlib.Core.Path.{_≡_}
 use mathlib.Core.List.{List, [], _∷_, _++_}
 use Prim.Native.Nat.{ℕ, zero, suc, _*_, _≤_}
 use lib.ListN.{length, take, drop}
-use Rattle.decimal.specs.Lines.{ascii, line}
+use Rattle.decimal.specs.Text.{ascii, line, Small}
 
 pub record Question : Type 0 where
   pub k : ℕ
@@ -27,11 +27,6 @@ written q =
     ++ (line (ascii "locations=") (q .locations ∷ [])
     ++ (line (ascii "depot=") (q .depot ∷ [])
     ++ (legs-lines (q .locations) (q .locations) (q .legs) ++ (line (ascii "latest=") (q .latest) ++ line (ascii "round=") (q .stops))))))
-
--- "Numbers .. at most 4294967295".
-abbrev pub Small : List ℕ → Type 0
-Small [] = Unit
-Small (x ∷ xs) = (x ≤ 4294967295) × Small xs
 
 -- What a text can hold: "at most 60,000 bytes, 96 locations", as many lines and entries "as `locations=` says".
 pub record Held (q : Question) : Type 0 where

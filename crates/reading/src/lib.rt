@@ -1,36 +1,19 @@
 // The text program's question, read from bytes. No entry: the program above calls it.
+use lines::Entries;
+use lines::Number;
+use lines::Place;
 ghost use mathlib.Core.Path.{_≡_};
-ghost use Prim.Native.Nat.{_*_, _≤_};
 ghost use lib.ListN.{length, drop};
-ghost use Rattle.decimal.specs.Lines.{ascii};
-ghost use Rattle.reading.specs.Reading.{front, digit, digits-after, number, entries, entries-or-none, after, line-of, row, value, rows, header};
-ghost use Rattle.reading.specs.Told.{number-told, place-told, row-told, start-told, Listed, Lent, Answered};
+ghost use Rattle.lines.specs.Told.{row-told};
+ghost use Rattle.reading.specs.Reading.{rows, header, tables};
+ghost use Rattle.reading.specs.Told.{start-told, tables-told, Square, Lent, Answered};
 
-// A number and the place after it.
-enum Number {
-    Read(u32, usize),
-    Missing,
-}
-
-// A place of the text.
-enum Place {
-    At(usize),
-    Nowhere,
-}
-
-// How many entries a line has, and the place after it.
-enum Entries {
-    Read(usize, usize),
-    Malformed,
-}
-
-// The numbers of a question, and how many stops it has.
+// The numbers of a question.
 pub struct Header {
-    k: u32,
-    allowance: u32,
-    locations: usize,
-    depot: u32,
-    stops: usize,
+    pub k: u32,
+    pub allowance: u32,
+    pub locations: usize,
+    pub depot: u32,
 }
 
 // The lines before the legs, and the place after them.
@@ -39,151 +22,88 @@ enum Start {
     Malformed,
 }
 
+// A question and how many stops it has; its tables and stops are in lent places.
 pub enum Reading {
-    Question(Header),
+    Question(Header, usize),
     Malformed,
 }
 
-// The byte at a place; 0 past the end.
-fn byte_at(text: &[u8], at: usize) -> u8
-    ensures { λ r. ⌜ r ≡ front (drop at (now (text .entry))) ⌝ }
+// The lines before the legs.
+fn read_header(text: &[u8]) -> Start
+    ensures { λ r. ⌜ header (now (text .entry)) ≡ start-told (now (text .entry)) r ⌝ }
 {
-    if at < text.len() {
-        return text[at];
+    let Number::Read(k, after_k) = lines::read_value(text, 0, b"k=") else {
+        return Start::Malformed;
+    };
+    let Number::Read(allowance, after_allowance) = lines::read_value(text, after_k, b"allowance=") else {
+        return Start::Malformed;
+    };
+    let Number::Read(locations, after_locations) = lines::read_value(text, after_allowance, b"locations=") else {
+        return Start::Malformed;
+    };
+    let Number::Read(depot, rest) = lines::read_value(text, after_locations, b"depot=") else {
+        return Start::Malformed;
+    };
+    if locations < 1 {
+        return Start::Malformed;
     }
-    0
+    if locations > 96 {
+        return Start::Malformed;
+    }
+    Start::Read(Header { k: k, allowance: allowance, locations: locations as usize, depot: depot }, rest)
 }
 
-// The digit at a place; 10 where none stands.
-fn digit_at(text: &[u8], at: usize) -> u64
-    ensures { λ r. ⌜ r ≡ digit (drop at (now (text .entry))) ⌝ }
-{
-    let byte = byte_at(text, at);
-    if byte < 48 {
-        return 10;
-    }
-    if byte > 57 {
-        return 10;
-    }
-    (byte - 48) as u64
-}
-
-// The number that begins with `first`, whose further digits stand at `at`.
-fn read_digits(text: &[u8], at: usize, first: u64) -> Number
-    requires { ⌜ first ≤ 9 ⌝ }
-    ensures { λ r. ⌜ digits-after first (drop at (now (text .entry))) ≡ number-told (now (text .entry)) r ⌝ }
-{
-    let mut value = first;
-    let mut at = at;
-    let mut digit = digit_at(text, at);
-    while digit < 10 {
-        value = value * 10 + digit;
-        if value > 4294967295 {
-            return Number::Missing;
-        }
-        at += 1;
-        digit = digit_at(text, at);
-    }
-    Number::Read(value as u32, at)
-}
-
-// The number at a place.
-fn read_number(text: &[u8], at: usize) -> Number
-    ensures { λ r. ⌜ number (drop at (now (text .entry))) ≡ number-told (now (text .entry)) r ⌝ }
-{
-    let first = digit_at(text, at);
-    if first == 0 {
-        return Number::Read(0, at + 1);
-    }
-    if first < 10 {
-        return read_digits(text, at + 1, first);
-    }
-    Number::Missing
-}
-
-// Numbers with commas between, up to the line's end, into out.
-fn read_entries(text: &[u8], at: usize, out: &mut [u32]) -> Entries
-    ensures { λ r. ⌜ Listed (entries (length (now (out .entry))) (drop at (now (text .entry)))) (now (text .entry)) (now (out .exit)) r ⌝ }
+// The lines of the legs, row after row.
+fn read_rows(text: &[u8], at: usize, locations: usize, legs: &mut [u32]) -> Place
+    requires { ⌜ Square locations (now legs) ⌝ }
+    ensures { λ r. ⌜ rows locations locations (drop at (now (text .entry))) ≡ row-told (now (text .entry)) (now (legs .exit)) r ⌝ }
 {
     let mut at = at;
-    let mut count = 0;
-    while count < out.len() {
-        let Number::Read(value, next) = read_number(text, at) else {
-            return Entries::Malformed;
+    let mut row = 0;
+    while row < locations {
+        let start = row * locations;
+        let end = start + locations;
+        let Place::At(next) = lines::read_row(text, at, b"legs=", &mut legs[start..end]) else {
+            return Place::Nowhere;
         };
-        out[count] = value;
-        count += 1;
-        let end = byte_at(text, next);
-        if end == 10 {
-            return Entries::Read(count, next + 1);
-        }
-        if end != 44 {
-            return Entries::Malformed;
-        }
-        at = next + 1;
-    }
-    Entries::Malformed
-}
-
-// The same, or no number.
-fn read_list(text: &[u8], at: usize, out: &mut [u32]) -> Entries
-    ensures { λ r. ⌜ Listed (entries-or-none (length (now (out .entry))) (drop at (now (text .entry)))) (now (text .entry)) (now (out .exit)) r ⌝ }
-{
-    if byte_at(text, at) == 10 {
-        return Entries::Read(0, at + 1);
-    }
-    read_entries(text, at, out)
-}
-
-// The place after a key.
-fn skip_key(text: &[u8], at: usize, key: &[u8]) -> Place
-    ensures { λ r. ⌜ after (now (key .entry)) (drop at (now (text .entry))) ≡ place-told (now (text .entry)) r ⌝ }
-{
-    let mut at = at;
-    let mut i = 0;
-    while i < key.len() {
-        if at >= text.len() {
-            return Place::Nowhere;
-        }
-        if text[at] != key[i] {
-            return Place::Nowhere;
-        }
-        at += 1;
-        i += 1;
+        at = next;
+        row += 1;
     }
     Place::At(at)
 }
 
-// A line of numbers into out.
-fn read_line(text: &[u8], at: usize, key: &[u8], out: &mut [u32]) -> Entries
-    ensures { λ r. ⌜ Listed (line-of (now (key .entry)) (length (now (out .entry))) (drop at (now (text .entry)))) (now (text .entry)) (now (out .exit)) r ⌝ }
+// The legs and the deadlines.
+fn read_tables(text: &[u8], at: usize, locations: usize, legs: &mut [u32], latest: &mut [u32]) -> Place
+    requires { ⌜ Square locations (now legs) ⌝ }
+    ensures { λ r. ⌜ tables locations (drop at (now (text .entry))) ≡ tables-told (now (text .entry)) (now (legs .exit)) (now (latest .exit)) r ⌝ }
 {
-    let Place::At(list) = skip_key(text, at, key) else {
-        return Entries::Malformed;
+    let Place::At(next) = read_rows(text, at, locations, legs) else {
+        return Place::Nowhere;
     };
-    read_list(text, list, out)
+    lines::read_row(text, next, b"latest=", latest)
 }
 
-// A line of as many numbers as out has places.
-fn read_row(text: &[u8], at: usize, key: &[u8], out: &mut [u32]) -> Place
-    ensures { λ r. ⌜ row (now (key .entry)) (length (now (out .entry))) (drop at (now (text .entry))) ≡ row-told (now (text .entry)) (now (out .exit)) r ⌝ }
+// The whole text.
+pub fn read_question(text: &[u8], legs: &mut [u32], latest: &mut [u32], stops: &mut [u32]) -> Reading
+    requires { ⌜ Lent (now legs) (now latest) (now stops) ⌝ }
+    ensures { λ r. ⌜ Answered (now (text .entry)) (now (legs .exit)) (now (latest .exit)) (now (stops .exit)) r ⌝ }
 {
-    let Entries::Read(count, next) = read_line(text, at, key, out) else {
-        return Place::Nowhere;
-    };
-    if count != out.len() {
-        return Place::Nowhere;
+    if text.len() > 60000 {
+        return Reading::Malformed;
     }
-    Place::At(next)
-}
-
-// A line of one number.
-fn read_value(text: &[u8], at: usize, key: &[u8]) -> Number
-    ensures { λ r. ⌜ value (now (key .entry)) (drop at (now (text .entry))) ≡ number-told (now (text .entry)) r ⌝ }
-{
-    let mut one = [0u32; 1];
-    let Place::At(next) = read_row(text, at, key, &mut one) else {
-        return Number::Missing;
+    let Start::Read(header, at) = read_header(text) else {
+        return Reading::Malformed;
     };
-    Number::Read(one[0], next)
+    let locations = header.locations;
+    let cells = locations * locations;
+    let Place::At(round) = read_tables(text, at, locations, &mut legs[..cells], &mut latest[..locations]) else {
+        return Reading::Malformed;
+    };
+    let Entries::Read(count, end) = lines::read_line(text, round, b"round=", stops) else {
+        return Reading::Malformed;
+    };
+    if end < text.len() {
+        return Reading::Malformed;
+    }
+    Reading::Question(header, count)
 }

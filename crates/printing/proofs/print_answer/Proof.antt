@@ -2,7 +2,7 @@
 use mathlib.Core.Path.{_≡_, refl, sym}
 use mathlib.Core.List.{List, [], _++_, append-nil}
 use Prim.Native.Nat.{ℕ}
-use Rattle.decimal.specs.Lines.{ascii, line}
+use Rattle.decimal.specs.Text.{ascii, line}
 use Rattle.decimal.proofs.Putting.{Partway, put-none, put-room, put-more, put-rest}
 use Rattle.printing.specs.Answer.{outcome, answer-text}
 use Rattle.printing.proofs.Answer.{from-examined, from-accepted, from-before, from-after, answer-lines, from-start, printed}

@@ -3,7 +3,7 @@ use Prim.Native.Nat.{_≤_, _-_, _+_}
 use mathlib.Core.Path.{_≡_, refl}
 use mathlib.Core.List.{[], _∷_, _++_}
 use lib.ListN.{length, drop, getD}
-use Rattle.decimal.specs.Lines.{further}
+use Rattle.decimal.specs.Text.{further}
 use Rattle.decimal.specs.Decimal.{digits}
 use Rattle.decimal.proofs.Putting.{Partway, put-room, put-more, put-all}
 use Rattle.printing.proofs.Lists.{further-next, further-none}

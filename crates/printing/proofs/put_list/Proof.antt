@@ -4,7 +4,7 @@ use mathlib.Core.Path.{_≡_, sym}
 use mathlib.Core.List.{[], _++_, append-nil}
 use lib.ListN.{length, take, drop, getD}
 use Rattle.decimal.specs.Decimal.{digits}
-use Rattle.decimal.specs.Lines.{further, listed}
+use Rattle.decimal.specs.Text.{further, listed}
 use Rattle.decimal.proofs.Putting.{Partway, put-none, put-room, put-more, put-rest, put-empty}
 use Rattle.printing.proofs.Lists.{listed-none, listed-first}
 use native.Mathlib.Omega.{arith}

@@ -1,7 +1,7 @@
 -- `printing::put_route` meets its contract. Assumes nothing.
 use mathlib.Core.Path.{refl}
 use mathlib.Core.List.{[], _∷_, _++_}
-use Rattle.decimal.specs.Lines.{ascii, listed, line}
+use Rattle.decimal.specs.Text.{ascii, listed, line}
 use Rattle.decimal.proofs.Putting.{Partway, put-none, put-room, put-more, put-rest}
 use Rattle.printing.proofs.Lists.{line-many}
 use borrow.Author.Needs.{needs}

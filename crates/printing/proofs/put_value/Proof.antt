@@ -2,7 +2,7 @@
 use mathlib.Core.Path.{refl}
 use mathlib.Core.List.{[], _∷_, _++_}
 use Rattle.decimal.specs.Decimal.{digits}
-use Rattle.decimal.specs.Lines.{line}
+use Rattle.decimal.specs.Text.{line}
 use Rattle.decimal.proofs.Putting.{Partway, put-none, put-room, put-more, put-rest}
 use Rattle.printing.proofs.Lists.{line-one}
 use borrow.Author.Needs.{needs}

@@ -11,10 +11,9 @@ use lib.ListN.{length, getD, take, drop, length-append, length-take, length-drop
 use lib.Seq.{take-at, drop-at}
 use borrow.Author.Tests.{eqb-true, eq-eqb, ne-eqb}
 use Rattle.decimal.specs.Decimal.{digits}
-use Rattle.decimal.specs.Lines.{ascii, further, listed, line}
-use Rattle.reading.specs.Question.{Small, legs-lines}
-use Rattle.reading.specs.Reading.{choose, front, digit, number, before, entries, entries-or-none, after, line-of, row, value, rows}
-use Rattle.reading.proofs.Numbers.{same-read, number-sound, number-complete, number-front}
+use Rattle.decimal.specs.Text.{further, listed, line, Small}
+use Rattle.lines.specs.Reading.{choose, front, digit, number, before, entries, entries-or-none, after, line-of, row, value}
+use Rattle.lines.proofs.Numbers.{same-read, number-sound, number-complete, number-front}
 
 front-cons : (b : ℕ) (t : List ℕ) → 0 < b → front t ≡ b → t ≡ b ∷ drop 1 t
 front-cons b [] p e = absurd (omega arith)
@@ -36,7 +35,7 @@ unfolding entries bind
 entries-missing zero t n = refl
 entries-missing (suc room) t n = rw n
 
-before-sound : (xs : List ℕ) (o : Option (List ℕ × List ℕ)) (zs r : List ℕ) → before xs o ≡ some (zs, r) → (ys : List ℕ) × (o ≡ some (ys, r)) × (zs ≡ xs ++ ys)
+pub before-sound : (xs : List ℕ) (o : Option (List ℕ × List ℕ)) (zs r : List ℕ) → before xs o ≡ some (zs, r) → (ys : List ℕ) × (o ≡ some (ys, r)) × (zs ≡ xs ++ ys)
 unfolding before
 before-sound xs none zs r e = absurd (Option·none-ne-some (zs, r) e)
 before-sound xs (some (ys, s)) zs r e = let i = same-read e in (ys, rw (i .1), sym (i .0))
@@ -180,40 +179,3 @@ value-sound key t x r e =
 pub value-complete : (key : List ℕ) (x : ℕ) (r : List ℕ) → x ≤ 4294967295 → value key (line key (x ∷ []) ++ r) ≡ some (x, r)
 unfolding value bind
 value-complete key x r h = rw (row-complete key 1 (x ∷ []) r (h, tt) refl)
-
-small-append : (xs ys : List ℕ) → Small xs → Small ys → Small (xs ++ ys)
-small-append [] ys h k = k
-small-append (x ∷ xs) ys h k = (h .0, small-append xs ys (h .1) k)
-
-small-split : (n : ℕ) (xs : List ℕ) → Small xs → Small (take n xs) × Small (drop n xs)
-small-split zero xs h = (tt, h)
-small-split (suc n) [] h = (tt, tt)
-small-split (suc n) (x ∷ xs) h = let s = small-split n xs (h .1) in ((h .0, s .0), s .1)
-
-pub rows-sound : (m n : ℕ) (t xs r : List ℕ) → rows m n t ≡ some (xs, r) → (t ≡ legs-lines m n xs ++ r) × Small xs × (length xs ≡ m * n)
-unfolding rows legs-lines
-rows-sound zero n t xs r e = let k = same-read e in rw (← k .0, ← k .1) (refl, tt, omega arith)
-rows-sound (suc m) n t xs r e =
-    let b = bind-some (row (ascii "legs=") n t) (λ a. before (a .0) (rows m n (a .1))) (xs, r) e in
-    let y = b .0 .0 in
-    let f = before-sound y (rows m n (b .0 .1)) xs r (b .2) in
-    let l = row-sound (ascii "legs=") n t y (b .0 .1) (b .1) in
-    let g = rows-sound m n (b .0 .1) (f .0) r (f .1) in
-    rw (f .2) (
-      l .0 ∙ rw (take-at y (f .0) n (l .2), drop-at y (f .0) n (l .2)) (ap (λ (z : List ℕ). line (ascii "legs=") y ++ z) (g .0) ∙ sym (append-assoc (line (ascii "legs=") y) (legs-lines m n (f .0)) r)),
-      small-append y (f .0) (l .1) (g .1),
-      length-append y (f .0) ∙ omega (arith, l .2, g .2, suc-mul m n),
-    )
-
-pub rows-complete : (m n : ℕ) (xs r : List ℕ) → Small xs → length xs ≡ m * n → rows m n (legs-lines m n xs ++ r) ≡ some (xs, r)
-unfolding rows legs-lines bind before
-rows-complete zero n [] r h l = refl
-rows-complete zero n (x ∷ xs) r h l = absurd (omega arith)
-rows-complete (suc m) n xs r h l =
-    let q = suc-mul m n in
-    let w = small-split n xs h in
-    rw (
-      append-assoc (line (ascii "legs=") (take n xs)) (legs-lines m n (drop n xs)) r,
-      row-complete (ascii "legs=") n (take n xs) (legs-lines m n (drop n xs) ++ r) (w .0) (simp length-take (omega arith)),
-    )
-    (rw (rows-complete m n (drop n xs) r (w .1) (simp length-drop (omega arith)), take-append-drop n xs))

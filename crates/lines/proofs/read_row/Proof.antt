@@ -1,14 +1,14 @@
--- `reading::read_row` meets its contract. Assumes nothing.
+-- `lines::read_row` meets its contract. Assumes nothing.
 use mathlib.Core.Path.{_≡_}
 use lib.ListN.{length, drop}
-use Rattle.reading.proofs.Places.{row-whole, row-other, row-none}
+use Rattle.lines.proofs.Places.{row-whole, row-other, row-none}
 use native.Mathlib.Omega.{arith}
 use borrow.Author.Needs.{needs}
-use Rattle.reading.proofs.read_row.Statement.{statement}
-use Rattle.reading.proofs.read_row.Tie as tie
-use Rattle.reading.proofs.read_row.Reads as reads
-use Rattle.reading.proofs.read_row.Lts as lts
-use Rattle.reading.proofs.read_line.Reads as read-line-reads
+use Rattle.lines.proofs.read_row.Statement.{statement}
+use Rattle.lines.proofs.read_row.Tie as tie
+use Rattle.lines.proofs.read_row.Reads as reads
+use Rattle.lines.proofs.read_row.Lts as lts
+use Rattle.lines.proofs.read_line.Reads as read-line-reads
 
 -- src/lib.rt:171:38
 read-line-requires : tie.Need-read-line-requires

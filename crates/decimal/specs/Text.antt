@@ -29,6 +29,11 @@ unfoldable pub line : List ℕ → List ℕ → List ℕ
 unfolding listed
 line key xs = key ++ (listed xs ++ (10 ∷ []))
 
+-- "Numbers .. at most 4294967295", each of them.
+abbrev pub Small : List ℕ → Type 0
+Small [] = Unit
+Small (x ∷ xs) = (x ≤ 4294967295) × Small xs
+
 pub record Room (text out : List ℕ) (at : ℕ) : Type 0 where
   pub room : at + length text ≤ length out
 

@@ -10,9 +10,9 @@ use lib.Dec.{ltb, leb, eqb}
 use lib.ListN.{length, getD, take, drop, set, length-set, drop-of-length-le}
 use lib.Seq.{drop-cons, drop-drop, take-suc-set, take-all, length-take-le}
 use borrow.Author.Tests.{lt-ltb, le-ltb, le-leb, lt-leb, eq-eqb, ne-eqb}
-use Rattle.reading.proofs.Numbers.{digit-front}
-use Rattle.reading.proofs.Lines.{entries-on, entries-missing}
-use Rattle.reading.specs.Reading.{choose, front, digit, digits-after, number, before, entries, entries-or-none, after, line-of, row, value, rows}
+use Rattle.lines.proofs.Numbers.{digit-front}
+use Rattle.lines.proofs.Lines.{entries-on, entries-missing}
+use Rattle.lines.specs.Reading.{choose, front, digit, digits-after, number, before, entries, entries-or-none, after, line-of, row, value}
 
 pub front-place : (t : List ℕ) (at : ℕ) → front (drop at t) ≡ getD t at 0
 front-place [] zero = refl

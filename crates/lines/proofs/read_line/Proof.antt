@@ -1,15 +1,15 @@
--- `reading::read_line` meets its contract. Assumes nothing.
+-- `lines::read_line` meets its contract. Assumes nothing.
 use mathlib.Core.Path.{_≡_}
 use lib.ListN.{length, drop}
-use Rattle.reading.proofs.Places.{line-after, line-none}
+use Rattle.lines.proofs.Places.{line-after, line-none}
 use native.Mathlib.Omega.{arith}
 use borrow.Author.Needs.{needs}
-use Rattle.reading.proofs.read_line.Statement.{statement}
-use Rattle.reading.proofs.read_line.Tie as tie
-use Rattle.reading.proofs.read_line.Reads as reads
-use Rattle.reading.proofs.read_line.Lts as lts
-use Rattle.reading.proofs.read_list.Reads as read-list-reads
-use Rattle.reading.proofs.skip_key.Reads as skip-key-reads
+use Rattle.lines.proofs.read_line.Statement.{statement}
+use Rattle.lines.proofs.read_line.Tie as tie
+use Rattle.lines.proofs.read_line.Reads as reads
+use Rattle.lines.proofs.read_line.Lts as lts
+use Rattle.lines.proofs.read_list.Reads as read-list-reads
+use Rattle.lines.proofs.skip_key.Reads as skip-key-reads
 
 -- src/lib.rt:161:27
 skip-key-requires : tie.Need-skip-key-requires

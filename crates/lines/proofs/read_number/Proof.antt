@@ -1,15 +1,15 @@
--- `reading::read_number` meets its contract. Assumes nothing.
+-- `lines::read_number` meets its contract. Assumes nothing.
 use mathlib.Core.Path.{_≡_, sym, _∙_}
 use lib.ListN.{drop}
-use Rattle.reading.proofs.Places.{digit-within, number-zero-at, number-longer, number-none}
+use Rattle.lines.proofs.Places.{digit-within, number-zero-at, number-longer, number-none}
 use native.Mathlib.Omega.{arith}
 use borrow.Author.Needs.{needs}
-use Rattle.reading.proofs.read_number.Statement.{statement}
-use Rattle.reading.proofs.read_number.Tie as tie
-use Rattle.reading.proofs.read_number.Reads as reads
-use Rattle.reading.proofs.read_number.Lts as lts
-use Rattle.reading.proofs.digit_at.Reads as digit-at-reads
-use Rattle.reading.proofs.read_digits.Reads as read-digits-reads
+use Rattle.lines.proofs.read_number.Statement.{statement}
+use Rattle.lines.proofs.read_number.Tie as tie
+use Rattle.lines.proofs.read_number.Reads as reads
+use Rattle.lines.proofs.read_number.Lts as lts
+use Rattle.lines.proofs.digit_at.Reads as digit-at-reads
+use Rattle.lines.proofs.read_digits.Reads as read-digits-reads
 
 -- src/lib.rt:94:9
 digit-at-requires : tie.Need-digit-at-requires

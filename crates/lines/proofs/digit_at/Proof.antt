@@ -1,15 +1,15 @@
--- `reading::digit_at` meets its contract. Assumes nothing.
+-- `lines::digit_at` meets its contract. Assumes nothing.
 use mathlib.Core.Path.{sym, ap, _∙_}
 use lib.ListN.{drop}
 use Prim.Native.Nat.{ℕ, _-_}
-use Rattle.reading.proofs.Places.{digit-low, digit-high, digit-between}
+use Rattle.lines.proofs.Places.{digit-low, digit-high, digit-between}
 use native.Mathlib.Omega.{arith}
 use borrow.Author.Needs.{needs}
-use Rattle.reading.proofs.digit_at.Statement.{statement}
-use Rattle.reading.proofs.digit_at.Tie as tie
-use Rattle.reading.proofs.digit_at.Reads as reads
-use Rattle.reading.proofs.digit_at.Lts as lts
-use Rattle.reading.proofs.byte_at.Reads as byte-at-reads
+use Rattle.lines.proofs.digit_at.Statement.{statement}
+use Rattle.lines.proofs.digit_at.Tie as tie
+use Rattle.lines.proofs.digit_at.Reads as reads
+use Rattle.lines.proofs.digit_at.Lts as lts
+use Rattle.lines.proofs.byte_at.Reads as byte-at-reads
 
 -- src/lib.rt:61:9
 byte-at-requires : tie.Need-byte-at-requires

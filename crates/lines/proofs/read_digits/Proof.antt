@@ -1,17 +1,17 @@
--- `reading::read_digits` meets its contract: what is left is read to the same number. Assumes nothing.
+-- `lines::read_digits` meets its contract: what is left is read to the same number. Assumes nothing.
 use Prim.Native.Nat.{ℕ, _≤_, _<_, _-_, _+_, _*_}
 use mathlib.Core.Path.{_≡_, refl, sym, ap, _∙_}
 use lib.ListN.{length, drop}
-use Rattle.reading.specs.Reading.{digit, digits-after}
-use Rattle.reading.proofs.Numbers.{after-none}
-use Rattle.reading.proofs.Places.{digit-within, after-longer, after-too-large}
+use Rattle.lines.specs.Reading.{digit, digits-after}
+use Rattle.lines.proofs.Numbers.{after-none}
+use Rattle.lines.proofs.Places.{digit-within, after-longer, after-too-large}
 use native.Mathlib.Omega.{arith}
 use borrow.Author.Needs.{needs}
-use Rattle.reading.proofs.read_digits.Statement.{statement}
-use Rattle.reading.proofs.read_digits.Tie as tie
-use Rattle.reading.proofs.read_digits.Reads as reads
-use Rattle.reading.proofs.read_digits.Lts as lts
-use Rattle.reading.proofs.digit_at.Reads as digit-at-reads
+use Rattle.lines.proofs.read_digits.Statement.{statement}
+use Rattle.lines.proofs.read_digits.Tie as tie
+use Rattle.lines.proofs.read_digits.Reads as reads
+use Rattle.lines.proofs.read_digits.Lts as lts
+use Rattle.lines.proofs.digit_at.Reads as digit-at-reads
 
 abbrev Inv-loop : tie.InvT-loop
 Inv-loop text at first value₀ at₀ digit₀ value at' d =

@@ -1,14 +1,14 @@
--- `reading::read_value` meets its contract. Assumes nothing.
+-- `lines::read_value` meets its contract. Assumes nothing.
 use mathlib.Core.Path.{_≡_}
 use lib.ListN.{drop}
-use Rattle.reading.proofs.Places.{value-of, value-none}
+use Rattle.lines.proofs.Places.{value-of, value-none}
 use native.Mathlib.Omega.{arith}
 use borrow.Author.Needs.{needs}
-use Rattle.reading.proofs.read_value.Statement.{statement}
-use Rattle.reading.proofs.read_value.Tie as tie
-use Rattle.reading.proofs.read_value.Reads as reads
-use Rattle.reading.proofs.read_value.Lts as lts
-use Rattle.reading.proofs.read_row.Reads as read-row-reads
+use Rattle.lines.proofs.read_value.Statement.{statement}
+use Rattle.lines.proofs.read_value.Tie as tie
+use Rattle.lines.proofs.read_value.Reads as reads
+use Rattle.lines.proofs.read_value.Lts as lts
+use Rattle.lines.proofs.read_row.Reads as read-row-reads
 
 -- src/lib.rt:185:51
 slice-aggregate-read-row : tie.Need-slice-aggregate-read-row

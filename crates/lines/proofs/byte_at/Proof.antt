@@ -1,13 +1,13 @@
--- `reading::byte_at` meets its contract. Assumes nothing.
+-- `lines::byte_at` meets its contract. Assumes nothing.
 use mathlib.Core.Path.{sym, _∙_}
 use lib.ListN.{List·getD-eq-default}
-use Rattle.reading.proofs.Places.{front-place}
+use Rattle.lines.proofs.Places.{front-place}
 use native.Mathlib.Omega.{arith}
 use borrow.Author.Needs.{needs}
-use Rattle.reading.proofs.byte_at.Statement.{statement}
-use Rattle.reading.proofs.byte_at.Tie as tie
-use Rattle.reading.proofs.byte_at.Reads as reads
-use Rattle.reading.proofs.byte_at.Lts as lts
+use Rattle.lines.proofs.byte_at.Statement.{statement}
+use Rattle.lines.proofs.byte_at.Tie as tie
+use Rattle.lines.proofs.byte_at.Reads as reads
+use Rattle.lines.proofs.byte_at.Lts as lts
 
 -- src/lib.rt:52:16
 shared-slice-read-result : tie.Need-shared-slice-read-result

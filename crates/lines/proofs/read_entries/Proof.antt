@@ -1,18 +1,18 @@
--- `reading::read_entries` meets its contract: the entries that stand in out come before those still to be read. Assumes nothing.
+-- `lines::read_entries` meets its contract: the entries that stand in out come before those still to be read. Assumes nothing.
 use Prim.Native.Nat.{_≤_, _<_, _-_, _+_}
 use mathlib.Core.Path.{_≡_, refl, sym, ap, _∙_}
 use mathlib.Core.Option.{some}
 use lib.ListN.{length, drop, length-set}
-use Rattle.reading.specs.Reading.{number, entries}
-use Rattle.reading.proofs.Places.{front-within, to-come, entries-begin, entries-full, entries-break, entry-last, entry-more, entry-breaks}
+use Rattle.lines.specs.Reading.{number, entries}
+use Rattle.lines.proofs.Places.{front-within, to-come, entries-begin, entries-full, entries-break, entry-last, entry-more, entry-breaks}
 use native.Mathlib.Omega.{arith}
 use borrow.Author.Needs.{needs}
-use Rattle.reading.proofs.read_entries.Statement.{statement}
-use Rattle.reading.proofs.read_entries.Tie as tie
-use Rattle.reading.proofs.read_entries.Reads as reads
-use Rattle.reading.proofs.read_entries.Lts as lts
-use Rattle.reading.proofs.byte_at.Reads as byte-at-reads
-use Rattle.reading.proofs.read_number.Reads as read-number-reads
+use Rattle.lines.proofs.read_entries.Statement.{statement}
+use Rattle.lines.proofs.read_entries.Tie as tie
+use Rattle.lines.proofs.read_entries.Reads as reads
+use Rattle.lines.proofs.read_entries.Lts as lts
+use Rattle.lines.proofs.byte_at.Reads as byte-at-reads
+use Rattle.lines.proofs.read_number.Reads as read-number-reads
 
 abbrev Inv-loop : tie.InvT-loop
 Inv-loop text at out₀ at₀ count₀ out at' count =

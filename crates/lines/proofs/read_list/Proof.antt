@@ -1,15 +1,15 @@
--- `reading::read_list` meets its contract. Assumes nothing.
+-- `lines::read_list` meets its contract. Assumes nothing.
 use mathlib.Core.Path.{_≡_, sym, _∙_}
 use lib.ListN.{length, drop}
-use Rattle.reading.proofs.Places.{front-within, list-empty, list-entries}
+use Rattle.lines.proofs.Places.{front-within, list-empty, list-entries}
 use native.Mathlib.Omega.{arith}
 use borrow.Author.Needs.{needs}
-use Rattle.reading.proofs.read_list.Statement.{statement}
-use Rattle.reading.proofs.read_list.Tie as tie
-use Rattle.reading.proofs.read_list.Reads as reads
-use Rattle.reading.proofs.read_list.Lts as lts
-use Rattle.reading.proofs.byte_at.Reads as byte-at-reads
-use Rattle.reading.proofs.read_entries.Reads as read-entries-reads
+use Rattle.lines.proofs.read_list.Statement.{statement}
+use Rattle.lines.proofs.read_list.Tie as tie
+use Rattle.lines.proofs.read_list.Reads as reads
+use Rattle.lines.proofs.read_list.Lts as lts
+use Rattle.lines.proofs.byte_at.Reads as byte-at-reads
+use Rattle.lines.proofs.read_entries.Reads as read-entries-reads
 
 -- src/lib.rt:132:8
 byte-at-requires : tie.Need-byte-at-requires

@@ -1,0 +1,132 @@
+use native.Mathlib.Omega.{arith}
+use borrow.Author.Needs.{needs}
+use Rattle.reading.proofs.read_header.Statement.{statement}
+use Rattle.reading.proofs.read_header.Tie as tie
+use Rattle.reading.proofs.read_header.Reads as reads
+use Rattle.reading.proofs.read_header.Lts as lts
+use Rattle.lines.proofs.read_value.Reads as read-value-reads
+
+-- src/lib.rt:35:63
+slice-aggregate-read-value : tie.Need-slice-aggregate-read-value
+slice-aggregate-read-value c = search needs
+
+-- src/lib.rt:35:36
+read-value-requires : tie.Need-read-value-requires
+read-value-requires c κs = search needs
+
+-- src/lib.rt:35:22
+enum-known-k : tie.Need-enum-known-k
+enum-known-k c = search needs
+
+-- src/lib.rt:36:9
+enum-told : tie.Need-enum-told
+enum-told c = search needs
+
+-- src/lib.rt:36:9
+returns : tie.Need-returns
+returns c = search needs
+
+-- src/lib.rt:38:85
+slice-aggregate-read-value-2 : tie.Need-slice-aggregate-read-value-2
+slice-aggregate-read-value-2 c = search needs
+
+-- src/lib.rt:38:52
+read-value-requires-2 : tie.Need-read-value-requires-2
+read-value-requires-2 c κs = search needs
+
+-- src/lib.rt:38:22
+enum-known-allowance : tie.Need-enum-known-allowance
+enum-known-allowance c = search needs
+
+-- src/lib.rt:39:9
+enum-told-2 : tie.Need-enum-told-2
+enum-told-2 c = search needs
+
+-- src/lib.rt:39:9
+returns-2 : tie.Need-returns-2
+returns-2 c = search needs
+
+-- src/lib.rt:41:93
+slice-aggregate-read-value-3 : tie.Need-slice-aggregate-read-value-3
+slice-aggregate-read-value-3 c = search needs
+
+-- src/lib.rt:41:52
+read-value-requires-3 : tie.Need-read-value-requires-3
+read-value-requires-3 c κs = search needs
+
+-- src/lib.rt:41:22
+enum-known-locations : tie.Need-enum-known-locations
+enum-known-locations c = search needs
+
+-- src/lib.rt:42:9
+enum-told-3 : tie.Need-enum-told-3
+enum-told-3 c = search needs
+
+-- src/lib.rt:42:9
+returns-3 : tie.Need-returns-3
+returns-3 c = search needs
+
+-- src/lib.rt:44:78
+slice-aggregate-read-value-4 : tie.Need-slice-aggregate-read-value-4
+slice-aggregate-read-value-4 c = search needs
+
+-- src/lib.rt:44:37
+read-value-requires-4 : tie.Need-read-value-requires-4
+read-value-requires-4 c κs = search needs
+
+-- src/lib.rt:44:22
+enum-known-depot : tie.Need-enum-known-depot
+enum-known-depot c = search needs
+
+-- src/lib.rt:45:9
+enum-told-4 : tie.Need-enum-told-4
+enum-told-4 c = search needs
+
+-- src/lib.rt:45:9
+returns-4 : tie.Need-returns-4
+returns-4 c = search needs
+
+-- src/lib.rt:48:9
+returns-5 : tie.Need-returns-5
+returns-5 c = search needs
+
+-- src/lib.rt:51:9
+returns-6 : tie.Need-returns-6
+returns-6 c = search needs
+
+-- src/lib.rt:53:65
+cast-t27 : tie.Need-cast-t27
+cast-t27 c = search needs
+
+-- src/lib.rt:32:1
+returns-7 : tie.Need-returns-7
+returns-7 c = search needs
+
+pub read-header-spec : {M : Type 1} → statement M
+read-header-spec =
+    tie.close
+    (tie.spec
+    slice-aggregate-read-value
+    read-value-requires
+    enum-known-k
+    enum-told
+    returns
+    slice-aggregate-read-value-2
+    read-value-requires-2
+    enum-known-allowance
+    enum-told-2
+    returns-2
+    slice-aggregate-read-value-3
+    read-value-requires-3
+    enum-known-locations
+    enum-told-3
+    returns-3
+    slice-aggregate-read-value-4
+    read-value-requires-4
+    enum-known-depot
+    enum-told-4
+    returns-4
+    returns-5
+    returns-6
+    cast-t27
+    returns-7)
