@@ -90,7 +90,7 @@ pub number-none : (t : List ℕ) → 10 ≤ digit t → number t ≡ none
 unfolding number
 number-none t h = rw (ne-eqb (digit t) 0 (omega arith), le-ltb (digit t) 10 h)
 
-before-before : (xs ys : List ℕ) (o : Option (List ℕ × List ℕ)) → before xs (before ys o) ≡ before (xs ++ ys) o
+pub before-before : (xs ys : List ℕ) (o : Option (List ℕ × List ℕ)) → before xs (before ys o) ≡ before (xs ++ ys) o
 unfolding before
 before-before xs ys none = refl
 before-before xs ys (some (zs, r)) = rw (append-assoc xs ys zs)
@@ -99,7 +99,7 @@ before-before xs ys (some (zs, r)) = rw (append-assoc xs ys zs)
 abbrev pub to-come : List ℕ → ℕ → List ℕ → Option (List ℕ × List ℕ)
 to-come out count t = before (take count out) (entries (length out - count) t)
 
-before-none : (o : Option (List ℕ × List ℕ)) → before [] o ≡ o
+pub before-none : (o : Option (List ℕ × List ℕ)) → before [] o ≡ o
 unfolding before
 before-none none = refl
 before-none (some r) = refl

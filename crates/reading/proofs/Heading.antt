@@ -3,10 +3,10 @@ use mathlib.Core.Path.{_≡_, refl, ap, _∙_, subst}
 use mathlib.Core.Bool.{Bool, true, false, _&&_, cond}
 use mathlib.Core.List.{List, [], _∷_, _++_}
 use mathlib.Core.Option.{Option, none, some, bind, Option·none-ne-some, Option·some-injective}
-use Prim.Native.Nat.{ℕ, _≤_}
+use Prim.Native.Nat.{ℕ, _≤_, _<_}
 use native.Mathlib.Omega.{arith}
 use lib.Dec.{leb}
-use borrow.Author.Tests.{leb-true, le-leb}
+use borrow.Author.Tests.{leb-true, le-leb, lt-leb}
 use Rattle.decimal.specs.Text.{ascii, line, Small}
 use Rattle.lines.specs.Reading.{value}
 use Rattle.lines.proofs.Lines.{first-read, value-sound, value-complete}
@@ -65,3 +65,36 @@ header-complete h r p q s =
       le-leb 1 (h .locations) p,
       le-leb (h .locations) 96 q,
     )
+
+-- The lines one after the other, as far as they are read.
+pub k-missing : (t : List ℕ) → value (ascii "k=") t ≡ none → header t ≡ none
+unfolding header bind
+k-missing t e = rw e
+
+module _ (t : List ℕ) {r : List ℕ} {k : ℕ} (k-read : value (ascii "k=") t ≡ some (k, r)) where
+  pub allowance-missing : value (ascii "allowance=") r ≡ none → header t ≡ none
+  unfolding header bind
+  allowance-missing e = rw (k-read, e)
+
+  module _ {s : List ℕ} {allowance : ℕ} (allowance-read : value (ascii "allowance=") r ≡ some (allowance, s)) where
+    pub locations-missing : value (ascii "locations=") s ≡ none → header t ≡ none
+    unfolding header bind
+    locations-missing e = rw (k-read, allowance-read, e)
+
+    module _ {u : List ℕ} {locations : ℕ} (locations-read : value (ascii "locations=") s ≡ some (locations, u)) where
+      pub depot-missing : value (ascii "depot=") u ≡ none → header t ≡ none
+      unfolding header bind
+      depot-missing e = rw (k-read, allowance-read, locations-read, e)
+
+      module _ {v : List ℕ} {depot : ℕ} (depot-read : value (ascii "depot=") u ≡ some (depot, v)) where
+        pub no-location : locations < 1 → header t ≡ none
+        unfolding header bind
+        no-location h = rw (k-read, allowance-read, locations-read, depot-read, lt-leb 1 locations h)
+
+        pub many-locations : 96 < locations → header t ≡ none
+        unfolding header bind
+        many-locations h = rw (k-read, allowance-read, locations-read, depot-read, le-leb 1 locations (omega arith), lt-leb locations 96 h)
+
+        pub header-read : 1 ≤ locations → locations ≤ 96 → header t ≡ some (record { k = k; allowance = allowance; locations = locations; depot = depot }, v)
+        unfolding header bind
+        header-read h m = rw (k-read, allowance-read, locations-read, depot-read, le-leb 1 locations h, le-leb locations 96 m)
