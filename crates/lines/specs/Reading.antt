@@ -5,7 +5,6 @@ use mathlib.Core.Option.{Option, none, some, bind}
 use Prim.Native.Nat.{ℕ, zero, suc, _+_, _-_, _*_}
 use lib.Dec.{ltb, leb, eqb}
 use lib.ListN.{length, getD, drop}
-use Rattle.decimal.specs.Text.{ascii}
 
 -- The first of two tests that holds, or else the last.
 abbrev pub choose : {A : Type 0} → Bool → A → Bool → A → A → A

@@ -14,7 +14,11 @@ use Rattle.lines.proofs.Numbers.{same-read}
 use Rattle.lines.proofs.Lines.{before-sound, bind-some, first-read, row-sound, row-complete}
 use Rattle.lines.proofs.Places.{before-none, before-before}
 use Rattle.reading.specs.Question.{legs-lines}
+use Rattle.lines.specs.Told.{row-told}
+use Rattle.lines.specs.declared.Place.{Place}
+use Rattle.lines.specs.declared.Place.the-variants as P
 use Rattle.reading.specs.Reading.{rows, tables}
+use Rattle.reading.specs.Told.{tables-told}
 
 small-append : (xs ys : List ℕ) → Small xs → Small ys → Small (xs ++ ys)
 small-append [] ys h k = k
@@ -119,3 +123,21 @@ rows-whole legs t n i h m l =
 
 pub part-length : (s n : ℕ) (l : List ℕ) → s + n ≤ length l → length (take (s + n - s) (drop s l)) ≡ n
 part-length s n l h = simp (length-take, length-drop) (omega arith)
+
+-- The tables line by line.
+pub legs-missing : (n : ℕ) (t : List ℕ) → rows n n t ≡ none → tables n t ≡ none
+unfolding tables bind
+legs-missing n t e = rw e
+
+module _ (n : ℕ) (t : List ℕ) {legs r : List ℕ} (legs-read : rows n n t ≡ some (legs, r)) where
+  pub latest-missing : row (ascii "latest=") n r ≡ none → tables n t ≡ none
+  unfolding tables bind
+  latest-missing e = rw (legs-read, e)
+
+  pub tables-read : {latest s : List ℕ} → row (ascii "latest=") n r ≡ some (latest, s) → tables n t ≡ some ((legs, latest), s)
+  unfolding tables bind
+  tables-read e = rw (legs-read, e)
+
+  pub latest-told : (text latest : List ℕ) (answer : Place) → row (ascii "latest=") n r ≡ row-told text latest answer → tables n t ≡ tables-told text legs latest answer
+  latest-told text latest P.Nowhere e = latest-missing e
+  latest-told text latest (P.At next) e = tables-read e

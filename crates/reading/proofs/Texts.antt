@@ -1,6 +1,6 @@
 -- A text is read exactly where it is a question's, and no two questions share one. Assumes nothing.
 use mathlib.Core.Path.{_≡_, refl, sym, ap, _∙_, subst}
-use mathlib.Core.Bool.{Bool, true, false, _&&_, cond}
+use mathlib.Core.Bool.{Bool, true, false, cond}
 use mathlib.Core.Logic.{_↔_}
 use mathlib.Core.List.{List, [], _∷_, _++_, append-nil}
 use mathlib.Core.Option.{none, some, bind, Option·none-ne-some, Option·some-injective}
@@ -14,8 +14,8 @@ use Rattle.decimal.specs.Text.{ascii, further, listed, line, Small}
 use Rattle.decimal.proofs.Digits.{digits-some}
 use Rattle.reading.specs.Question.{Question, legs-lines, written, Held}
 use Rattle.reading.specs.Reading.{Heading, header, tables, ended, question, read}
-use Rattle.lines.specs.Reading.{line-of, row, value}
-use Rattle.lines.proofs.Lines.{first-read, line-sound, line-complete, row-sound, row-complete, value-sound, value-complete}
+use Rattle.lines.specs.Reading.{line-of}
+use Rattle.lines.proofs.Lines.{first-read, line-sound, line-complete}
 use Rattle.reading.proofs.Heading.{headed, header-sound, header-complete}
 use Rattle.reading.proofs.Tables.{tables-sound, tables-complete}
 

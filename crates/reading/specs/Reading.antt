@@ -50,19 +50,19 @@ unfoldable pub question : List ℕ → Option Question
 unfolding header tables line-of bind
 question t =
     bind (header t) (λ h.
-      bind (tables (h .0 .locations) (h .1)) (λ g.
-        bind (line-of (ascii "round=") 30000 (g .1)) (λ stops.
-          ended
-          (record {
-            k = h .0 .k;
-            allowance = h .0 .allowance;
-            locations = h .0 .locations;
-            depot = h .0 .depot;
-            legs = g .0 .0;
-            latest = g .0 .1;
-            stops = stops .0;
-          })
-          (stops .1))))
+    bind (tables (h .0 .locations) (h .1)) (λ g.
+    bind (line-of (ascii "round=") 30000 (g .1)) (λ stops.
+    ended
+    (record {
+      k = h .0 .k;
+      allowance = h .0 .allowance;
+      locations = h .0 .locations;
+      depot = h .0 .depot;
+      legs = g .0 .0;
+      latest = g .0 .1;
+      stops = stops .0;
+    })
+    (stops .1))))
 
 unfoldable pub read : List ℕ → Option Question
 unfolding question

@@ -40,9 +40,13 @@ abbrev pub stop-count : Reading → ℕ
 stop-count R.Malformed = 0
 stop-count (R.Question h count) = count
 
--- Lent places for the tables of a question.
+-- Lent places for the legs, and for both tables, of a question.
 pub record Square (locations : ℕ) (legs : List ℕ) : Type 0 where
   pub square : length legs ≡ locations * locations
+
+pub record Tables (locations : ℕ) (legs latest : List ℕ) : Type 0 where
+  pub square : Square locations legs
+  pub deadlines : length latest ≡ locations
 
 -- Lent places for the largest question: 96 rows of 96 legs, and as many stops as 60,000 bytes can hold.
 pub record Lent (legs latest stops : List ℕ) : Type 0 where

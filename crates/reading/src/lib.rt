@@ -6,7 +6,7 @@ ghost use mathlib.Core.Path.{_≡_};
 ghost use lib.ListN.{length, drop};
 ghost use Rattle.lines.specs.Told.{row-told};
 ghost use Rattle.reading.specs.Reading.{rows, header, tables};
-ghost use Rattle.reading.specs.Told.{start-told, tables-told, Square, Lent, Answered};
+ghost use Rattle.reading.specs.Told.{start-told, tables-told, Square, Tables, Lent, Answered};
 
 // The numbers of a question.
 pub struct Header {
@@ -35,10 +35,15 @@ fn read_header(text: &[u8]) -> Start
     let Number::Read(k, after_k) = lines::read_value(text, 0, b"k=") else {
         return Start::Malformed;
     };
-    let Number::Read(allowance, after_allowance) = lines::read_value(text, after_k, b"allowance=") else {
+    let Number::Read(allowance, after_allowance) = lines::read_value(text, after_k, b"allowance=")
+    else {
         return Start::Malformed;
     };
-    let Number::Read(locations, after_locations) = lines::read_value(text, after_allowance, b"locations=") else {
+    let Number::Read(locations, after_locations) = lines::read_value(
+        text,
+        after_allowance,
+        b"locations=",
+    ) else {
         return Start::Malformed;
     };
     let Number::Read(depot, rest) = lines::read_value(text, after_locations, b"depot=") else {
@@ -50,7 +55,15 @@ fn read_header(text: &[u8]) -> Start
     if locations > 96 {
         return Start::Malformed;
     }
-    Start::Read(Header { k: k, allowance: allowance, locations: locations as usize, depot: depot }, rest)
+    Start::Read(
+        Header {
+            k: k,
+            allowance: allowance,
+            locations: locations as usize,
+            depot: depot,
+        },
+        rest,
+    )
 }
 
 // The lines of the legs, row after row.
@@ -73,8 +86,14 @@ fn read_rows(text: &[u8], at: usize, locations: usize, legs: &mut [u32]) -> Plac
 }
 
 // The legs and the deadlines.
-fn read_tables(text: &[u8], at: usize, locations: usize, legs: &mut [u32], latest: &mut [u32]) -> Place
-    requires { ⌜ Square locations (now legs) ⌝ }
+fn read_tables(
+    text: &[u8],
+    at: usize,
+    locations: usize,
+    legs: &mut [u32],
+    latest: &mut [u32],
+) -> Place
+    requires { ⌜ Tables locations (now legs) (now latest) ⌝ }
     ensures { λ r. ⌜ tables locations (drop at (now (text .entry))) ≡ tables-told (now (text .entry)) (now (legs .exit)) (now (latest .exit)) r ⌝ }
 {
     let Place::At(next) = read_rows(text, at, locations, legs) else {
@@ -84,7 +103,12 @@ fn read_tables(text: &[u8], at: usize, locations: usize, legs: &mut [u32], lates
 }
 
 // The whole text.
-pub fn read_question(text: &[u8], legs: &mut [u32], latest: &mut [u32], stops: &mut [u32]) -> Reading
+pub fn read_question(
+    text: &[u8],
+    legs: &mut [u32],
+    latest: &mut [u32],
+    stops: &mut [u32],
+) -> Reading
     requires { ⌜ Lent (now legs) (now latest) (now stops) ⌝ }
     ensures { λ r. ⌜ Answered (now (text .entry)) (now (legs .exit)) (now (latest .exit)) (now (stops .exit)) r ⌝ }
 {
@@ -96,7 +120,13 @@ pub fn read_question(text: &[u8], legs: &mut [u32], latest: &mut [u32], stops: &
     };
     let locations = header.locations;
     let cells = locations * locations;
-    let Place::At(round) = read_tables(text, at, locations, &mut legs[..cells], &mut latest[..locations]) else {
+    let Place::At(round) = read_tables(
+        text,
+        at,
+        locations,
+        &mut legs[..cells],
+        &mut latest[..locations],
+    ) else {
         return Reading::Malformed;
     };
     let Entries::Read(count, end) = lines::read_line(text, round, b"round=", stops) else {

@@ -2,22 +2,16 @@
 use mathlib.Core.Path.{sym, _∙_}
 use lib.ListN.{List·getD-eq-default}
 use Rattle.lines.proofs.Places.{front-place}
-use native.Mathlib.Omega.{arith}
 use borrow.Author.Needs.{needs}
 use Rattle.lines.proofs.byte_at.Statement.{statement}
 use Rattle.lines.proofs.byte_at.Tie as tie
-use Rattle.lines.proofs.byte_at.Reads as reads
-use Rattle.lines.proofs.byte_at.Lts as lts
 
--- src/lib.rt:52:16
 shared-slice-read-result : tie.Need-shared-slice-read-result
 shared-slice-read-result c = search needs
 
--- src/lib.rt:52:9
 returns : tie.Need-returns
 returns c = sym (front-place (c .before .before .args .text .now) (c .before .before .args .at))
 
--- src/lib.rt:48:1
 returns-2 : tie.Need-returns-2
 returns-2 c = sym (front-place (c .before .args .text .now) (c .before .args .at) ∙ List·getD-eq-default (c .before .args .text .now) 0 (c .if1 .left))
 

@@ -7,27 +7,19 @@ use native.Mathlib.Omega.{arith}
 use borrow.Author.Needs.{needs}
 use Rattle.lines.proofs.digit_at.Statement.{statement}
 use Rattle.lines.proofs.digit_at.Tie as tie
-use Rattle.lines.proofs.digit_at.Reads as reads
-use Rattle.lines.proofs.digit_at.Lts as lts
-use Rattle.lines.proofs.byte_at.Reads as byte-at-reads
 
--- src/lib.rt:61:9
 byte-at-requires : tie.Need-byte-at-requires
 byte-at-requires c κs = search needs
 
--- src/lib.rt:63:9
 returns : tie.Need-returns
 returns c = sym (digit-low (drop (c .before .before .before .args .at) (c .before .before .before .args .text .now)) (omega (arith, c .before .byte-at .ensures)))
 
--- src/lib.rt:66:9
 returns-2 : tie.Need-returns-2
 returns-2 c = sym (digit-high (drop (c .before .before .before .before .args .at) (c .before .before .before .before .args .text .now)) (omega (arith, c .before .before .byte-at .ensures)))
 
--- src/lib.rt:68:5
 cast-result : tie.Need-cast-result
 cast-result c = search needs
 
--- src/lib.rt:58:1
 returns-3 : tie.Need-returns-3
 returns-3 c = ap (λ (b : ℕ). b - 48) (c .before .before .byte-at .ensures) ∙ sym (digit-between (drop (c .before .before .before .before .args .at) (c .before .before .before .before .args .text .now)) (omega (arith, c .before .before .byte-at .ensures)) (omega (arith, c .before .before .byte-at .ensures)))
 

@@ -1,6 +1,6 @@
 -- `lines::read_digits` meets its contract: what is left is read to the same number. Assumes nothing.
-use Prim.Native.Nat.{ℕ, _≤_, _<_, _-_, _+_, _*_}
-use mathlib.Core.Path.{_≡_, refl, sym, ap, _∙_}
+use Prim.Native.Nat.{_≤_, _-_}
+use mathlib.Core.Path.{_≡_, refl, _∙_}
 use lib.ListN.{length, drop}
 use Rattle.lines.specs.Reading.{digit, digits-after}
 use Rattle.lines.proofs.Numbers.{after-none}
@@ -9,9 +9,6 @@ use native.Mathlib.Omega.{arith}
 use borrow.Author.Needs.{needs}
 use Rattle.lines.proofs.read_digits.Statement.{statement}
 use Rattle.lines.proofs.read_digits.Tie as tie
-use Rattle.lines.proofs.read_digits.Reads as reads
-use Rattle.lines.proofs.read_digits.Lts as lts
-use Rattle.lines.proofs.digit_at.Reads as digit-at-reads
 
 abbrev Inv-loop : tie.InvT-loop
 Inv-loop text at first value₀ at₀ digit₀ value at' d =
@@ -20,53 +17,42 @@ Inv-loop text at first value₀ at₀ digit₀ value at' d =
 abbrev μ-loop : tie.MeasureT-loop
 μ-loop text at first value₀ at₀ digit₀ value at' d = length text - at'
 
--- src/lib.rt:78:9
 digit-at-requires : tie.Need-digit-at-requires Inv-loop μ-loop
 digit-at-requires c κs = search needs
 
--- src/lib.rt:79:5
 loop-holds : tie.Need-loop-holds Inv-loop μ-loop
 loop-holds c = (refl, omega arith, c .digit-at .ensures)
 
--- src/lib.rt:80:17
 mul-value : tie.Need-mul-value Inv-loop μ-loop
 mul-value c = omega arith
 
--- src/lib.rt:80:17
 add-value : tie.Need-add-value Inv-loop μ-loop
 add-value c = omega arith
 
--- src/lib.rt:82:13
 returns : tie.Need-returns Inv-loop μ-loop
 returns c =
     let l = c .before .before .loop in
     let t = c .before .before .before .before .before .args .text .now in
     l .inv .0 ∙ after-too-large (l .value) (drop (l .at) t) (omega arith) (omega arith)
 
--- src/lib.rt:84:9
 add-at : tie.Need-add-at Inv-loop μ-loop
 add-at c = omega (arith, digit-within (c .before .before .before .before .before .args .text .now) (c .before .before .loop .at) (omega arith))
 
--- src/lib.rt:85:9
 digit-at-requires-2 : tie.Need-digit-at-requires-2 Inv-loop μ-loop
 digit-at-requires-2 c κs = search needs
 
--- src/lib.rt:79:5
 loop-less : tie.Need-loop-less Inv-loop μ-loop
 loop-less c = omega (arith, digit-within (c .before .before .before .before .before .before .args .text .now) (c .before .before .before .loop .at) (omega arith))
 
--- src/lib.rt:79:5
 loop-again : tie.Need-loop-again Inv-loop μ-loop
 loop-again c =
     let l = c .before .before .before .loop in
     let t = c .before .before .before .before .before .before .args .text .now in
     (l .inv .0 ∙ after-longer (l .value) (l .digit) (l .at) t (l .inv .2) (omega arith) (omega arith), omega arith, c .digit-at2 .ensures)
 
--- src/lib.rt:87:18
 cast-t9 : tie.Need-cast-t9 Inv-loop μ-loop
 cast-t9 c = omega arith
 
--- src/lib.rt:72:1
 returns-2 : tie.Need-returns-2 Inv-loop μ-loop
 returns-2 c =
     let l = c .before .loop in

@@ -1,6 +1,6 @@
 -- `lines::read_entries` meets its contract: the entries that stand in out come before those still to be read. Assumes nothing.
-use Prim.Native.Nat.{_≤_, _<_, _-_, _+_}
-use mathlib.Core.Path.{_≡_, refl, sym, ap, _∙_}
+use Prim.Native.Nat.{_≤_, _-_}
+use mathlib.Core.Path.{_≡_, refl, sym, _∙_}
 use mathlib.Core.Option.{some}
 use lib.ListN.{length, drop, length-set}
 use Rattle.lines.specs.Reading.{number, entries}
@@ -9,10 +9,6 @@ use native.Mathlib.Omega.{arith}
 use borrow.Author.Needs.{needs}
 use Rattle.lines.proofs.read_entries.Statement.{statement}
 use Rattle.lines.proofs.read_entries.Tie as tie
-use Rattle.lines.proofs.read_entries.Reads as reads
-use Rattle.lines.proofs.read_entries.Lts as lts
-use Rattle.lines.proofs.byte_at.Reads as byte-at-reads
-use Rattle.lines.proofs.read_number.Reads as read-number-reads
 
 abbrev Inv-loop : tie.InvT-loop
 Inv-loop text at out₀ at₀ count₀ out at' count =
@@ -26,57 +22,44 @@ number-read : (c : tie.After-value Inv-loop μ-loop) →
     number (drop (c .before .before .before .before .loop .at) (c .before .before .before .before .before .before .before .args .text .now)) ≡ some (c .value .given .0 .0, drop (c .value .given .0 .1 .0) (c .before .before .before .before .before .before .before .args .text .now))
 number-read c = rw (c .value .given .1) at (c .before .before .read-number .ensures)
 
--- src/lib.rt:110:5
 loop-holds : tie.Need-loop-holds Inv-loop μ-loop
 loop-holds c = (omega arith, refl, entries-begin (c .before .before .args .out .now) (drop (c .before .before .args .at) (c .before .before .args .text .now)))
 
--- src/lib.rt:111:41
 read-number-requires : tie.Need-read-number-requires Inv-loop μ-loop
 read-number-requires c κs = search needs
 
--- src/lib.rt:111:26
 enum-known-value : tie.Need-enum-known-value Inv-loop μ-loop
 enum-known-value c = search needs
 
--- src/lib.rt:112:13
 enum-told : tie.Need-enum-told Inv-loop μ-loop
 enum-told c = search needs
 
--- src/lib.rt:112:13
 same-length : tie.Need-same-length Inv-loop μ-loop
 same-length c = search needs
 
--- src/lib.rt:112:13
 returns : tie.Need-returns Inv-loop μ-loop
 returns c =
     let l = c .before .before .before .before .loop in
     record { reads = l .inv .2 ∙ entries-break (l .out) (drop (l .at) (c .before .before .before .before .before .before .before .args .text .now)) (l .count) (rw (c .enum-told .given .1) at (c .before .before .read-number .ensures)); within = omega arith }
 
--- src/lib.rt:114:9
 mul-out : tie.Need-mul-out Inv-loop μ-loop
 mul-out c = search needs
 
--- src/lib.rt:114:9
 slice-write-out : tie.Need-slice-write-out Inv-loop μ-loop
 slice-write-out c = search needs
 
--- src/lib.rt:115:9
 add-count : tie.Need-add-count Inv-loop μ-loop
 add-count c = search needs
 
--- src/lib.rt:116:13
 byte-at-requires : tie.Need-byte-at-requires Inv-loop μ-loop
 byte-at-requires c κs = search needs
 
--- src/lib.rt:118:41
 add-t13 : tie.Need-add-t13 Inv-loop μ-loop
 add-t13 c = omega (arith, front-within (c .before .before .before .before .before .before .before .before .before .before .args .text .now) (c .before .before .before .value .given .0 .1 .0) (omega (arith, c .before .byte-at .ensures)))
 
--- src/lib.rt:118:13
 same-length-2 : tie.Need-same-length-2 Inv-loop μ-loop
 same-length-2 c = search needs
 
--- src/lib.rt:118:13
 returns-2 : tie.Need-returns-2 Inv-loop μ-loop
 returns-2 c =
     let l = c .before .before .before .before .before .before .before .loop in
@@ -87,11 +70,9 @@ returns-2 c =
       within = rw (length-set (l .out) (l .count) (v .given .0 .0)) (omega arith);
     }
 
--- src/lib.rt:121:13
 same-length-3 : tie.Need-same-length-3 Inv-loop μ-loop
 same-length-3 c = search needs
 
--- src/lib.rt:121:13
 returns-3 : tie.Need-returns-3 Inv-loop μ-loop
 returns-3 c =
     let l = c .before .before .before .before .before .before .before .before .loop in
@@ -102,15 +83,12 @@ returns-3 c =
       within = omega arith;
     }
 
--- src/lib.rt:123:14
 add-at : tie.Need-add-at Inv-loop μ-loop
 add-at c = omega (arith, front-within (c .before .before .before .before .before .before .before .before .before .before .before .args .text .now) (c .before .before .before .before .value .given .0 .1 .0) (omega (arith, c .before .before .byte-at .ensures)))
 
--- src/lib.rt:110:5
 loop-less : tie.Need-loop-less Inv-loop μ-loop
 loop-less c = rw (length-set (c .before .before .before .before .before .before .before .before .loop .out) (c .before .before .before .before .before .before .before .before .loop .count) (c .before .before .before .before .value .given .0 .0)) (omega arith)
 
--- src/lib.rt:110:5
 loop-again : tie.Need-loop-again Inv-loop μ-loop
 loop-again c =
     let l = c .before .before .before .before .before .before .before .before .loop in
@@ -122,11 +100,9 @@ loop-again c =
       l .inv .2 ∙ entry-more (l .out) t (l .at) (l .count) (v .given .0 .0) (v .given .0 .1 .0) (c .before .before .before .before .before .before .before .loop-test .taken) (number-read (c .before .before .before .before)) (sym (c .before .before .byte-at .ensures) ∙ c .if2 .left),
     )
 
--- src/lib.rt:105:1
 same-length-4 : tie.Need-same-length-4 Inv-loop μ-loop
 same-length-4 c = search needs
 
--- src/lib.rt:105:1
 returns-4 : tie.Need-returns-4 Inv-loop μ-loop
 returns-4 c =
     let l = c .before .loop in

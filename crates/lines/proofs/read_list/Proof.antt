@@ -1,39 +1,29 @@
 -- `lines::read_list` meets its contract. Assumes nothing.
-use mathlib.Core.Path.{_≡_, sym, _∙_}
+use mathlib.Core.Path.{sym, _∙_}
 use lib.ListN.{length, drop}
 use Rattle.lines.proofs.Places.{front-within, list-empty, list-entries}
 use native.Mathlib.Omega.{arith}
 use borrow.Author.Needs.{needs}
 use Rattle.lines.proofs.read_list.Statement.{statement}
 use Rattle.lines.proofs.read_list.Tie as tie
-use Rattle.lines.proofs.read_list.Reads as reads
-use Rattle.lines.proofs.read_list.Lts as lts
-use Rattle.lines.proofs.byte_at.Reads as byte-at-reads
-use Rattle.lines.proofs.read_entries.Reads as read-entries-reads
 
--- src/lib.rt:132:8
 byte-at-requires : tie.Need-byte-at-requires
 byte-at-requires c κs = search needs
 
--- src/lib.rt:133:33
 add-t6 : tie.Need-add-t6
 add-t6 c = omega (arith, front-within (c .before .before .before .before .args .text .now) (c .before .before .before .before .args .at) (omega (arith, c .before .byte-at .ensures)))
 
--- src/lib.rt:133:9
 returns : tie.Need-returns
 returns c =
     let s = c .before .before .before .before in
     record { reads = list-empty (length (s .args .out .now)) (s .args .at) (s .args .text .now) (sym (c .before .byte-at .ensures) ∙ c .if1 .taken); within = omega arith }
 
--- src/lib.rt:135:5
 read-entries-requires : tie.Need-read-entries-requires
 read-entries-requires c κs = search needs
 
--- src/lib.rt:129:1
 same-length : tie.Need-same-length
 same-length c = search needs
 
--- src/lib.rt:129:1
 returns-2 : tie.Need-returns-2
 returns-2 c =
     let s = c .before .before .before .before .before .before .before .before in

@@ -1,44 +1,33 @@
 -- `lines::read_number` meets its contract. Assumes nothing.
-use mathlib.Core.Path.{_≡_, sym, _∙_}
+use mathlib.Core.Path.{sym, _∙_}
 use lib.ListN.{drop}
 use Rattle.lines.proofs.Places.{digit-within, number-zero-at, number-longer, number-none}
 use native.Mathlib.Omega.{arith}
 use borrow.Author.Needs.{needs}
 use Rattle.lines.proofs.read_number.Statement.{statement}
 use Rattle.lines.proofs.read_number.Tie as tie
-use Rattle.lines.proofs.read_number.Reads as reads
-use Rattle.lines.proofs.read_number.Lts as lts
-use Rattle.lines.proofs.digit_at.Reads as digit-at-reads
-use Rattle.lines.proofs.read_digits.Reads as read-digits-reads
 
--- src/lib.rt:94:9
 digit-at-requires : tie.Need-digit-at-requires
 digit-at-requires c κs = search needs
 
--- src/lib.rt:96:32
 add-t5 : tie.Need-add-t5
 add-t5 c = omega (arith, c .before .digit-at .ensures, digit-within (c .before .before .before .args .text .now) (c .before .before .before .args .at) (omega (arith, c .before .digit-at .ensures)))
 
--- src/lib.rt:96:9
 returns : tie.Need-returns
 returns c = number-zero-at (c .before .before .before .args .text .now) (c .before .before .before .args .at) (sym (c .before .digit-at .ensures) ∙ c .if1 .taken)
 
--- src/lib.rt:99:34
 add-read-digits : tie.Need-add-read-digits
 add-read-digits c = omega (arith, digit-within (c .before .before .before .before .args .text .now) (c .before .before .before .before .args .at) (omega (arith, c .before .before .digit-at .ensures)))
 
--- src/lib.rt:99:9
 read-digits-requires : tie.Need-read-digits-requires
 read-digits-requires c κs = search needs
 
--- src/lib.rt:99:9
 returns-2 : tie.Need-returns-2
 returns-2 c =
     let s = c .before .before .before .before .before in
     let d = c .before .before .before .digit-at in
     number-longer (s .args .text .now) (s .args .at) (d .result) (d .ensures) (c .before .before .if1 .left) (c .before .if2 .taken) ∙ c .read-digits .ensures
 
--- src/lib.rt:91:1
 returns-3 : tie.Need-returns-3
 returns-3 c = number-none (drop (c .before .before .before .before .args .at) (c .before .before .before .before .args .text .now)) (omega (arith, c .before .before .digit-at .ensures))
 

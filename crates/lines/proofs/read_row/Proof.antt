@@ -1,42 +1,30 @@
 -- `lines::read_row` meets its contract. Assumes nothing.
-use mathlib.Core.Path.{_≡_}
 use lib.ListN.{length, drop}
 use Rattle.lines.proofs.Places.{row-whole, row-other, row-none}
-use native.Mathlib.Omega.{arith}
 use borrow.Author.Needs.{needs}
 use Rattle.lines.proofs.read_row.Statement.{statement}
 use Rattle.lines.proofs.read_row.Tie as tie
-use Rattle.lines.proofs.read_row.Reads as reads
-use Rattle.lines.proofs.read_row.Lts as lts
-use Rattle.lines.proofs.read_line.Reads as read-line-reads
 
--- src/lib.rt:171:38
 read-line-requires : tie.Need-read-line-requires
 read-line-requires c κs = search needs
 
--- src/lib.rt:171:23
 enum-known-count : tie.Need-enum-known-count
 enum-known-count c = search needs
 
--- src/lib.rt:172:9
 enum-told : tie.Need-enum-told
 enum-told c = search needs
 
--- src/lib.rt:172:9
 same-length : tie.Need-same-length
 same-length c = search needs
 
--- src/lib.rt:172:9
 returns : tie.Need-returns
 returns c =
     let s = c .before .before .before .before .before .before .before .before .before in
     row-none (s .args .key .now) (length (s .args .out .now)) (drop (s .args .at) (s .args .text .now)) (rw (c .enum-told .given .1) at (c .before .before .before .before .read-line .ensures .reads))
 
--- src/lib.rt:175:9
 same-length-2 : tie.Need-same-length-2
 same-length-2 c = search needs
 
--- src/lib.rt:175:9
 returns-2 : tie.Need-returns-2
 returns-2 c =
     let s = c .before .before .before .before .before .before .before .before .before .before .before in
@@ -46,11 +34,9 @@ returns-2 c =
     let w = rw (found .1) at (line .ensures .within) in
     row-other (s .args .key .now) (line .last .1 .1 .1 .0) (drop (s .args .at) (s .args .text .now)) (drop (found .0 .1 .0) (s .args .text .now)) (length (s .args .out .now)) (found .0 .0) (line .kept .1 .1 .1 .0) e w (c .if1 .taken)
 
--- src/lib.rt:168:1
 same-length-3 : tie.Need-same-length-3
 same-length-3 c = search needs
 
--- src/lib.rt:168:1
 returns-3 : tie.Need-returns-3
 returns-3 c =
     let s = c .before .before .before .before .before .before .before .before .before .before .before in

@@ -1,42 +1,30 @@
 -- `lines::read_value` meets its contract. Assumes nothing.
-use mathlib.Core.Path.{_≡_}
 use lib.ListN.{drop}
 use Rattle.lines.proofs.Places.{value-of, value-none}
-use native.Mathlib.Omega.{arith}
 use borrow.Author.Needs.{needs}
 use Rattle.lines.proofs.read_value.Statement.{statement}
 use Rattle.lines.proofs.read_value.Tie as tie
-use Rattle.lines.proofs.read_value.Reads as reads
-use Rattle.lines.proofs.read_value.Lts as lts
-use Rattle.lines.proofs.read_row.Reads as read-row-reads
 
--- src/lib.rt:185:51
 slice-aggregate-read-row : tie.Need-slice-aggregate-read-row
 slice-aggregate-read-row c = search needs
 
--- src/lib.rt:185:27
 read-row-requires : tie.Need-read-row-requires
 read-row-requires c κs = search needs
 
--- src/lib.rt:185:19
 enum-known-next : tie.Need-enum-known-next
 enum-known-next c = search needs
 
--- src/lib.rt:186:9
 enum-told : tie.Need-enum-told
 enum-told c = search needs
 
--- src/lib.rt:186:9
 returns : tie.Need-returns
 returns c =
     let s = c .before .before .before .before .before .before .before in
     value-none (s .args .key .now) (drop (s .args .at) (s .args .text .now)) (rw (c .enum-told .given .1) at (c .before .before .before .read-row .ensures))
 
--- src/lib.rt:188:18
 array-read-t11 : tie.Need-array-read-t11
 array-read-t11 c = search needs
 
--- src/lib.rt:181:1
 returns-2 : tie.Need-returns-2
 returns-2 c =
     let s = c .before .before .before .before .before .before .before .before in

@@ -5,13 +5,9 @@ use lib.ListN.{drop}
 use Rattle.decimal.specs.Text.{ascii}
 use Rattle.lines.specs.Reading.{value}
 use Rattle.reading.proofs.Heading.{k-missing, allowance-missing, locations-missing, depot-missing, no-location, many-locations, header-read}
-use native.Mathlib.Omega.{arith}
 use borrow.Author.Needs.{needs}
 use Rattle.reading.proofs.read_header.Statement.{statement}
 use Rattle.reading.proofs.read_header.Tie as tie
-use Rattle.reading.proofs.read_header.Reads as reads
-use Rattle.reading.proofs.read_header.Lts as lts
-use Rattle.lines.proofs.read_value.Reads as read-value-reads
 
 k-read : (c : tie.After-k) → value (ascii "k=") (c .before .before .before .before .before .args .text .now) ≡ some (c .k .given .0 .0, drop (c .k .given .0 .1 .0) (c .before .before .before .before .before .args .text .now))
 k-read c = rw (c .k .given .1) at (c .before .before .read-value .ensures)
@@ -25,99 +21,75 @@ locations-read c = rw (c .locations .given .1) at (c .before .before .read-value
 depot-read : (c : tie.After-depot) → value (ascii "depot=") (drop (c .before .before .before .before .before .locations .given .0 .1 .0) (c .before .before .before .before .before .before .before .before .before .before .before .before .before .before .before .before .before .before .before .before .args .text .now)) ≡ some (c .depot .given .0 .0, drop (c .depot .given .0 .1 .0) (c .before .before .before .before .before .before .before .before .before .before .before .before .before .before .before .before .before .before .before .before .args .text .now))
 depot-read c = rw (c .depot .given .1) at (c .before .before .read-value4 .ensures)
 
--- src/lib.rt:35:63
 slice-aggregate-read-value : tie.Need-slice-aggregate-read-value
 slice-aggregate-read-value c = search needs
 
--- src/lib.rt:35:36
 read-value-requires : tie.Need-read-value-requires
 read-value-requires c κs = search needs
 
--- src/lib.rt:35:22
 enum-known-k : tie.Need-enum-known-k
 enum-known-k c = search needs
 
--- src/lib.rt:36:9
 enum-told : tie.Need-enum-told
 enum-told c = search needs
 
--- src/lib.rt:36:9
 returns : tie.Need-returns
 returns c = k-missing (c .before .before .before .before .before .args .text .now) (rw (c .enum-told .given .1) at (c .before .before .read-value .ensures))
 
--- src/lib.rt:38:85
 slice-aggregate-read-value-2 : tie.Need-slice-aggregate-read-value-2
 slice-aggregate-read-value-2 c = search needs
 
--- src/lib.rt:38:52
 read-value-requires-2 : tie.Need-read-value-requires-2
 read-value-requires-2 c κs = search needs
 
--- src/lib.rt:38:22
 enum-known-allowance : tie.Need-enum-known-allowance
 enum-known-allowance c = search needs
 
--- src/lib.rt:39:9
 enum-told-2 : tie.Need-enum-told-2
 enum-told-2 c = search needs
 
--- src/lib.rt:39:9
 returns-2 : tie.Need-returns-2
 returns-2 c = allowance-missing (c .before .before .before .before .before .before .before .before .before .before .args .text .now) (k-read (c .before .before .before .before .before)) (rw (c .enum-told2 .given .1) at (c .before .before .read-value2 .ensures))
 
--- src/lib.rt:41:93
 slice-aggregate-read-value-3 : tie.Need-slice-aggregate-read-value-3
 slice-aggregate-read-value-3 c = search needs
 
--- src/lib.rt:41:52
 read-value-requires-3 : tie.Need-read-value-requires-3
 read-value-requires-3 c κs = search needs
 
--- src/lib.rt:41:22
 enum-known-locations : tie.Need-enum-known-locations
 enum-known-locations c = search needs
 
--- src/lib.rt:42:9
 enum-told-3 : tie.Need-enum-told-3
 enum-told-3 c = search needs
 
--- src/lib.rt:42:9
 returns-3 : tie.Need-returns-3
 returns-3 c = locations-missing (c .before .before .before .before .before .before .before .before .before .before .before .before .before .before .before .args .text .now) (k-read (c .before .before .before .before .before .before .before .before .before .before)) (allowance-read (c .before .before .before .before .before)) (rw (c .enum-told3 .given .1) at (c .before .before .read-value3 .ensures))
 
--- src/lib.rt:44:78
 slice-aggregate-read-value-4 : tie.Need-slice-aggregate-read-value-4
 slice-aggregate-read-value-4 c = search needs
 
--- src/lib.rt:44:37
 read-value-requires-4 : tie.Need-read-value-requires-4
 read-value-requires-4 c κs = search needs
 
--- src/lib.rt:44:22
 enum-known-depot : tie.Need-enum-known-depot
 enum-known-depot c = search needs
 
--- src/lib.rt:45:9
 enum-told-4 : tie.Need-enum-told-4
 enum-told-4 c = search needs
 
--- src/lib.rt:45:9
 returns-4 : tie.Need-returns-4
 returns-4 c = depot-missing (c .before .before .before .before .before .before .before .before .before .before .before .before .before .before .before .before .before .before .before .before .args .text .now) (k-read (c .before .before .before .before .before .before .before .before .before .before .before .before .before .before .before)) (allowance-read (c .before .before .before .before .before .before .before .before .before .before)) (locations-read (c .before .before .before .before .before)) (rw (c .enum-told4 .given .1) at (c .before .before .read-value4 .ensures))
 
--- src/lib.rt:48:9
 returns-5 : tie.Need-returns-5
 returns-5 c = no-location (c .before .before .before .before .before .before .before .before .before .before .before .before .before .before .before .before .before .before .before .before .before .before .args .text .now) (k-read (c .before .before .before .before .before .before .before .before .before .before .before .before .before .before .before .before .before)) (allowance-read (c .before .before .before .before .before .before .before .before .before .before .before .before)) (locations-read (c .before .before .before .before .before .before .before)) (depot-read (c .before .before)) (c .if1 .taken)
 
--- src/lib.rt:51:9
 returns-6 : tie.Need-returns-6
 returns-6 c = many-locations (c .before .before .before .before .before .before .before .before .before .before .before .before .before .before .before .before .before .before .before .before .before .before .before .args .text .now) (k-read (c .before .before .before .before .before .before .before .before .before .before .before .before .before .before .before .before .before .before)) (allowance-read (c .before .before .before .before .before .before .before .before .before .before .before .before .before)) (locations-read (c .before .before .before .before .before .before .before .before)) (depot-read (c .before .before .before)) (c .if2 .taken)
 
--- src/lib.rt:53:65
 cast-t27 : tie.Need-cast-t27
 cast-t27 c = search needs
 
--- src/lib.rt:32:1
 returns-7 : tie.Need-returns-7
 returns-7 c = header-read (c .before .before .before .before .before .before .before .before .before .before .before .before .before .before .before .before .before .before .before .before .before .before .before .args .text .now) (k-read (c .before .before .before .before .before .before .before .before .before .before .before .before .before .before .before .before .before .before)) (allowance-read (c .before .before .before .before .before .before .before .before .before .before .before .before .before)) (locations-read (c .before .before .before .before .before .before .before .before)) (depot-read (c .before .before .before)) (c .before .if1 .left) (c .if2 .left)
 

@@ -1,9 +1,7 @@
 -- `reading::read_rows` meets its contract: the rows that stand in legs come before those still to be read. Assumes nothing.
-use Prim.Native.Nat.{_≤_, _<_, _-_, _+_, _*_}
-use mathlib.Core.Path.{_≡_, refl, sym, ap, _∙_}
-use mathlib.Core.Option.{some}
+use Prim.Native.Nat.{_≤_, _-_, _+_, _*_}
+use mathlib.Core.Path.{_≡_, refl, _∙_}
 use lib.ListN.{length, take, drop}
-use Rattle.decimal.specs.Text.{ascii}
 use Rattle.lines.specs.Reading.{row}
 use Rattle.reading.specs.Reading.{rows}
 use Rattle.reading.proofs.Tables.{rows-to-come, row-within, rows-begin, rows-break, rows-more, rows-whole, part-length}
@@ -11,9 +9,6 @@ use native.Mathlib.Omega.{arith}
 use borrow.Author.Needs.{needs}
 use Rattle.reading.proofs.read_rows.Statement.{statement}
 use Rattle.reading.proofs.read_rows.Tie as tie
-use Rattle.reading.proofs.read_rows.Reads as reads
-use Rattle.reading.proofs.read_rows.Lts as lts
-use Rattle.lines.proofs.read_row.Reads as read-row-reads
 
 abbrev Inv-loop : tie.InvT-loop
 Inv-loop text at locations legs₀ at₀ row₀ t10 legs at' i =
@@ -32,35 +27,27 @@ part-long c =
     let l = c .before .before .before .before .loop in
     part-length (l .row * s .args .locations) (s .args .locations) (l .legs) (omega (arith, row-within (s .args .locations) (l .row) (c .before .before .before .loop-test .taken)))
 
--- src/lib.rt:63:5
 loop-holds : tie.Need-loop-holds Inv-loop μ-loop
 loop-holds c = (omega arith, refl, rows-begin (c .before .before .args .legs .now) (drop (c .before .before .args .at) (c .before .before .args .text .now)) (c .before .before .args .locations))
 
--- src/lib.rt:64:21
 mul-start : tie.Need-mul-start Inv-loop μ-loop
 mul-start c = omega (arith, row-within (c .before .before .before .before .args .locations) (c .before .loop .row) (c .loop-test .taken))
 
--- src/lib.rt:65:19
 add-end : tie.Need-add-end Inv-loop μ-loop
 add-end c = omega (arith, row-within (c .before .before .before .before .args .locations) (c .before .loop .row) (c .loop-test .taken))
 
--- src/lib.rt:66:57
 slice-aggregate-read-row : tie.Need-slice-aggregate-read-row Inv-loop μ-loop
 slice-aggregate-read-row c = search needs
 
--- src/lib.rt:66:67
 mul-read-row : tie.Need-mul-read-row Inv-loop μ-loop
 mul-read-row c = omega (arith, row-within (c .before .before .before .before .before .args .locations) (c .before .before .loop .row) (c .before .loop-test .taken))
 
--- src/lib.rt:66:67
 sub-read-row : tie.Need-sub-read-row Inv-loop μ-loop
 sub-read-row c = search needs
 
--- src/lib.rt:66:67
 part-read-row-start : tie.Need-part-read-row-start Inv-loop μ-loop
 part-read-row-start c = search needs
 
--- src/lib.rt:66:67
 part-read-row-end : tie.Need-part-read-row-end Inv-loop μ-loop
 part-read-row-end c =
     let s = c .before .before .before .before .before in
@@ -68,38 +55,30 @@ part-read-row-end c =
     let g : l .row * s .args .locations + s .args .locations ≤ length (l .legs) = omega (arith, row-within (s .args .locations) (l .row) (c .before .loop-test .taken)) in
     g
 
--- src/lib.rt:66:31
 read-row-requires : tie.Need-read-row-requires Inv-loop μ-loop
 read-row-requires c κs = search needs
 
--- src/lib.rt:66:23
 enum-known-next : tie.Need-enum-known-next Inv-loop μ-loop
 enum-known-next c = search needs
 
--- src/lib.rt:67:13
 enum-told : tie.Need-enum-told Inv-loop μ-loop
 enum-told c = search needs
 
--- src/lib.rt:67:13
 same-length : tie.Need-same-length Inv-loop μ-loop
 same-length c = search needs
 
--- src/lib.rt:67:13
 returns : tie.Need-returns Inv-loop μ-loop
 returns c =
     let s = c .before .before .before .before .before .before .before .before .before .before .before in
     let l = c .before .before .before .before .before .before .before .before .loop in
     l .inv .2 ∙ rows-break (l .legs) (drop (l .at) (s .args .text .now)) (s .args .locations) (l .row) (c .before .before .before .before .before .before .before .loop-test .taken) (rw (part-long (c .before .before .before .before), c .enum-told .given .1) at (c .before .before .before .before .read-row .ensures))
 
--- src/lib.rt:70:9
 add-row : tie.Need-add-row Inv-loop μ-loop
 add-row c = search needs
 
--- src/lib.rt:63:5
 loop-less : tie.Need-loop-less Inv-loop μ-loop
 loop-less c = omega arith
 
--- src/lib.rt:63:5
 loop-again : tie.Need-loop-again Inv-loop μ-loop
 loop-again c =
     let s = c .before .before .before .before .before .before .before .before .before .before .before .before in
@@ -111,15 +90,13 @@ loop-again c =
       omega arith,
       search needs,
       l .inv .2
-      ∙ rows-more (l .legs) (drop (l .at) (s .args .text .now)) (row .last .1 .1 .1 .0) (drop (found .0 .0) (s .args .text .now)) (s .args .locations) (l .row)
-      (l .row * s .args .locations + s .args .locations - l .row * s .args .locations) (c .before .before .before .before .before .before .before .before .loop-test .taken) (l .inv .1 ∙ s .pre .square) n e,
+          ∙ rows-more (l .legs) (drop (l .at) (s .args .text .now)) (row .last .1 .1 .1 .0) (drop (found .0 .0) (s .args .text .now)) (s .args .locations) (l .row)
+          (l .row * s .args .locations + s .args .locations - l .row * s .args .locations) (c .before .before .before .before .before .before .before .before .loop-test .taken) (l .inv .1 ∙ s .pre .square) n e,
     )
 
--- src/lib.rt:57:1
 same-length-2 : tie.Need-same-length-2 Inv-loop μ-loop
 same-length-2 c = search needs
 
--- src/lib.rt:57:1
 returns-2 : tie.Need-returns-2 Inv-loop μ-loop
 returns-2 c =
     let s = c .before .before .before .before in
