@@ -18,6 +18,11 @@ enough (suc f) zero (suc n) p q = absurd (omega arith)
 enough (suc f) (suc g) zero p q = refl
 enough (suc f) (suc g) (suc n) p q = rw (enough f g (suc n / 10) (omega arith) (omega arith))
 
+pub leading-none : (f : ℕ) → leading-within f 0 ≡ []
+unfolding leading-within
+leading-none zero = refl
+leading-none (suc f) = refl
+
 pub leading-last : (n : ℕ) → 0 < n → leading n ≡ leading (n / 10) ++ (last-digit n ∷ [])
 unfolding leading-within
 leading-last zero h = absurd (omega arith)

@@ -44,7 +44,7 @@ pub fn put_number(value: u64, out: &mut [u8], at: usize) -> usize
     requires { ⌜ Room (digits value) (now out) at ⌝ }
     ensures { λ r. ⌜ Put (digits value) (now (out .entry)) at (now (out .exit)) r ⌝ }
 {
-    let mut places = [48u8; 20];
+    let mut places = [b'0'; 20];
     let start = spell(value, &mut places);
     put_text(&places[start..20], out, at)
 }

@@ -10,7 +10,7 @@ use lib.ListN.{drop}
 use borrow.Author.Tests.{ltb-true, ltb-false, leb-true, leb-false, eqb-true, eqb-false, lt-ltb, le-ltb, le-leb, lt-leb, ne-eqb}
 use lib.Seq.{append-snoc}
 use Rattle.decimal.specs.Decimal.{digits, leading-within}
-use Rattle.decimal.proofs.Digits.{digits-one, digits-more, leading-digits}
+use Rattle.decimal.proofs.Digits.{leading-none, digits-one, digits-more, leading-digits}
 use Rattle.lines.specs.Reading.{front, digit, digits-after, number}
 
 -- The byte in front is the digit's, where the digit is one.
@@ -83,11 +83,6 @@ after-step v d t h k = rw (digit-of d t h, lt-leb 10 d h, le-ltb 4294967295 (v *
 number-one : (d : ℕ) (t : List ℕ) → 0 < d → d < 10 → number ((48 + d) ∷ t) ≡ digits-after d t
 unfolding number
 number-one d t p h = rw (digit-of d t h, ne-eqb d 0 (omega arith), lt-ltb d 10 h)
-
-leading-none : (f : ℕ) → leading-within f 0 ≡ []
-unfolding leading-within
-leading-none zero = refl
-leading-none (suc f) = refl
 
 -- A number begins with a digit.
 pub number-front : (t : List ℕ) (w : ℕ) (r : List ℕ) → number t ≡ some (w, r) → 48 ≤ front t

@@ -38,13 +38,13 @@ fn digit_at(text: &[u8], at: usize) -> u64
     ensures { λ r. ⌜ r ≡ digit (drop at (now (text .entry))) ⌝ }
 {
     let byte = byte_at(text, at);
-    if byte < 48 {
+    if byte < b'0' {
         return 10;
     }
-    if byte > 57 {
+    if byte > b'9' {
         return 10;
     }
-    (byte - 48) as u64
+    (byte - b'0') as u64
 }
 
 // The number that begins with `first`, whose further digits stand at `at`.
@@ -93,10 +93,10 @@ fn read_entries(text: &[u8], at: usize, out: &mut [u32]) -> Entries
         out[count] = value;
         count += 1;
         let end = byte_at(text, next);
-        if end == 10 {
+        if end == b'\n' {
             return Entries::Read(count, next + 1);
         }
-        if end != 44 {
+        if end != b',' {
             return Entries::Malformed;
         }
         at = next + 1;
@@ -108,7 +108,7 @@ fn read_entries(text: &[u8], at: usize, out: &mut [u32]) -> Entries
 fn read_list(text: &[u8], at: usize, out: &mut [u32]) -> Entries
     ensures { λ r. ⌜ Listed (entries-or-none (length (now (out .entry))) (drop at (now (text .entry)))) (now (text .entry)) (now (out .exit)) r ⌝ }
 {
-    if byte_at(text, at) == 10 {
+    if byte_at(text, at) == b'\n' {
         return Entries::Read(0, at + 1);
     }
     read_entries(text, at, out)

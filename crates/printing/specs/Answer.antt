@@ -13,7 +13,6 @@ outcome false = ascii "answer=spent\n"
 
 -- ".. examined, accepted, length before, length after"; then the round handed back. "An empty round is `round=`."
 unfoldable pub answer-text : Bool → (examined accepted before after : ℕ) → List ℕ → List ℕ
-unfolding line
 answer-text finished examined accepted before after route =
     outcome finished
     ++ (line (ascii "examined=") (examined ∷ [])

@@ -2,13 +2,16 @@
 use lines::Entries;
 use lines::Number;
 use lines::Place;
+use lines::read_line;
+use lines::read_row;
+use lines::read_value;
 ghost use mathlib.Core.Path.{_≡_};
 ghost use lib.ListN.{length, drop};
 ghost use Rattle.lines.specs.Told.{row-told};
 ghost use Rattle.reading.specs.Reading.{rows, header, tables};
 ghost use Rattle.reading.specs.Told.{start-told, tables-told, Square, Tables, Lent, Answered};
 
-// The numbers of a question.
+// The numbers of a question: the values of its first four lines.
 pub struct Header {
     pub k: u32,
     pub allowance: u32,
@@ -32,21 +35,17 @@ pub enum Reading {
 fn read_header(text: &[u8]) -> Start
     ensures { λ r. ⌜ header (now (text .entry)) ≡ start-told (now (text .entry)) r ⌝ }
 {
-    let Number::Read(k, after_k) = lines::read_value(text, 0, b"k=") else {
+    let Number::Read(k, after_k) = read_value(text, 0, b"k=") else {
         return Start::Malformed;
     };
-    let Number::Read(allowance, after_allowance) = lines::read_value(text, after_k, b"allowance=")
+    let Number::Read(allowance, after_allowance) = read_value(text, after_k, b"allowance=") else {
+        return Start::Malformed;
+    };
+    let Number::Read(locations, after_locations) = read_value(text, after_allowance, b"locations=")
     else {
         return Start::Malformed;
     };
-    let Number::Read(locations, after_locations) = lines::read_value(
-        text,
-        after_allowance,
-        b"locations=",
-    ) else {
-        return Start::Malformed;
-    };
-    let Number::Read(depot, rest) = lines::read_value(text, after_locations, b"depot=") else {
+    let Number::Read(depot, rest) = read_value(text, after_locations, b"depot=") else {
         return Start::Malformed;
     };
     if locations < 1 {
@@ -55,12 +54,13 @@ fn read_header(text: &[u8]) -> Start
     if locations > 96 {
         return Start::Malformed;
     }
+    let locations = locations as usize;
     Start::Read(
         Header {
-            k: k,
-            allowance: allowance,
-            locations: locations as usize,
-            depot: depot,
+            k,
+            allowance,
+            locations,
+            depot,
         },
         rest,
     )
@@ -76,7 +76,7 @@ fn read_rows(text: &[u8], at: usize, locations: usize, legs: &mut [u32]) -> Plac
     while row < locations {
         let start = row * locations;
         let end = start + locations;
-        let Place::At(next) = lines::read_row(text, at, b"legs=", &mut legs[start..end]) else {
+        let Place::At(next) = read_row(text, at, b"legs=", &mut legs[start..end]) else {
             return Place::Nowhere;
         };
         at = next;
@@ -99,10 +99,10 @@ fn read_tables(
     let Place::At(next) = read_rows(text, at, locations, legs) else {
         return Place::Nowhere;
     };
-    lines::read_row(text, next, b"latest=", latest)
+    read_row(text, next, b"latest=", latest)
 }
 
-// The whole text.
+// The whole text: its tables and stops into the lent places, its numbers as the answer.
 pub fn read_question(
     text: &[u8],
     legs: &mut [u32],
@@ -129,7 +129,7 @@ pub fn read_question(
     ) else {
         return Reading::Malformed;
     };
-    let Entries::Read(count, end) = lines::read_line(text, round, b"round=", stops) else {
+    let Entries::Read(count, end) = read_line(text, round, b"round=", stops) else {
         return Reading::Malformed;
     };
     if end < text.len() {

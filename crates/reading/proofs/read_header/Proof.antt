@@ -87,8 +87,8 @@ returns-5 c = no-location (c .before .before .before .before .before .before .be
 returns-6 : tie.Need-returns-6
 returns-6 c = many-locations (c .before .before .before .before .before .before .before .before .before .before .before .before .before .before .before .before .before .before .before .before .before .before .before .args .text .now) (k-read (c .before .before .before .before .before .before .before .before .before .before .before .before .before .before .before .before .before .before)) (allowance-read (c .before .before .before .before .before .before .before .before .before .before .before .before .before)) (locations-read (c .before .before .before .before .before .before .before .before)) (depot-read (c .before .before .before)) (c .if2 .taken)
 
-cast-t27 : tie.Need-cast-t27
-cast-t27 c = search needs
+cast-locations : tie.Need-cast-locations
+cast-locations c = search needs
 
 returns-7 : tie.Need-returns-7
 returns-7 c = header-read (c .before .before .before .before .before .before .before .before .before .before .before .before .before .before .before .before .before .before .before .before .before .before .before .args .text .now) (k-read (c .before .before .before .before .before .before .before .before .before .before .before .before .before .before .before .before .before .before)) (allowance-read (c .before .before .before .before .before .before .before .before .before .before .before .before .before)) (locations-read (c .before .before .before .before .before .before .before .before)) (depot-read (c .before .before .before)) (c .before .if1 .left) (c .if2 .left)
@@ -119,5 +119,5 @@ read-header-spec =
     returns-4
     returns-5
     returns-6
-    cast-t27
+    cast-locations
     returns-7)
