@@ -6,42 +6,12 @@ use Prim.Native.Nat.{ℕ, zero, suc}
 use native.Mathlib.Omega.{arith}
 use lib.Dec.{eqb}
 use borrow.Author.Tests.{ne-eqb, eq-eqb}
-use Rattle.theory.specs.Refusals.{Rule, number, either, refusal, cut-count}
+use Rattle.theory.specs.Refusals.{Rule, number, refusal, cut-count}
 use Rattle.theory.specs.Answers.{Answer, reply, refused}
 use Rattle.theory.proofs.Refusals.{Passes, known, accepted}
 use Rattle.theory.proofs.Judged.{cut-count-fine}
 use Rattle.patterns.specs.Enumeration.{CutCount}
 use Rattle.mittenschist.specs.Promises.{if-taken}
-
-pub either-zero : (n : ℕ) → either n 0 ≡ n
-unfolding either
-either-zero zero = refl
-either-zero (suc n) = refl
-
-either-assoc : (a b c : ℕ) → either (either a b) c ≡ either a (either b c)
-unfolding either
-either-assoc zero b c = refl
-either-assoc (suc a) b c = refl
-
--- Checks that are judged together, and then the others.
-pub four-then : (a b c d rest : ℕ) → either (either a (either b (either c (either d 0)))) rest ≡ either a (either b (either c (either d rest)))
-unfolding either
-four-then a b c d rest = simp either-assoc
-
-pub five-then : (a b c d e rest : ℕ) → either (either a (either b (either c (either d (either e 0))))) rest ≡ either a (either b (either c (either d (either e rest))))
-unfolding either
-five-then a b c d e rest = simp either-assoc
-
--- A check that applies is given, and one that does not is passed.
-pub given : (a n rest : ℕ) → a ≡ n → (a ≡ 0 → ⊥) → a ≡ either n rest
-unfolding either
-given a zero rest e h = absurd (h e)
-given a (suc n) rest e h = e
-
-pub passed-over : (a n rest : ℕ) → a ≡ n → a ≡ 0 → rest ≡ either n rest
-unfolding either
-passed-over a zero rest e h = refl
-passed-over a (suc n) rest e h = absurd (omega arith)
 
 -- k is judged before what is counted by it.
 pub counted : (k a : ℕ) → a ≡ number (cut-count k) → a ≡ 0 → CutCount k

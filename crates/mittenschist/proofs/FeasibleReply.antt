@@ -5,30 +5,22 @@ use mathlib.Core.List.{List, [], _∷_}
 use Prim.Native.Nat.{ℕ}
 use lib.ListN.{length}
 use Rattle.theory.specs.Tables.{problem, Timed}
-use Rattle.theory.specs.Refusals.{number, either, refusal, leg-table, deadline-list, leg-sizes, known-stops, stop-count}
+use Rattle.theory.specs.Refusals.{refusal, problem-rules}
 use Rattle.theory.specs.Answers.{Checked, Verdict, deadline-position}
 use Rattle.theory.specs.declared.Deadline.{Deadline}
 use Rattle.theory.specs.declared.Deadline.the-variants.{Kept, Late}
 use Rattle.theory.specs.declared.Feasibility.the-variants as Answer
 use Rattle.theory.proofs.Refusals.{known}
 use Rattle.theory.proofs.Judged.{measurable-fine, deadlines-fine}
-use Rattle.mittenschist.specs.Promises.{FeasibleReply, feasible-rules}
-use Rattle.mittenschist.proofs.Entries.{five-then, refused-reply, taken-reply, taken-passes}
+use Rattle.mittenschist.specs.Promises.{FeasibleReply}
+use Rattle.mittenschist.proofs.Entries.{refused-reply, taken-reply, taken-passes}
 
--- The rules of the problem, and then the others.
-pub problem-then : (locations : ℕ) (legs latest : List ℕ) (depot : ℕ) (route : List ℕ) (rest : ℕ) →
-    either (refusal (feasible-rules locations legs latest depot route)) rest
-    ≡ either (number (leg-table locations legs)) (either (number (deadline-list locations latest)) (either (number (leg-sizes legs)) (either (number (known-stops locations depot route)) (either (number (stop-count (length route))) rest))))
-unfolding refusal
-problem-then locations legs latest depot route rest =
-    five-then (number (leg-table locations legs)) (number (deadline-list locations latest)) (number (leg-sizes legs)) (number (known-stops locations depot route)) (number (stop-count (length route))) rest
-
-module _ (locations : ℕ) (legs latest : List ℕ) (depot : ℕ) (route : List ℕ) (number : ℕ) (judged : number ≡ refusal (feasible-rules locations legs latest depot route)) where
+module _ (locations : ℕ) (legs latest : List ℕ) (depot : ℕ) (route : List ℕ) (number : ℕ) (judged : number ≡ refusal (problem-rules locations legs latest depot route)) where
   pub refused : (number ≡ 0 → ⊥) → FeasibleReply locations legs latest depot route (Answer.Refused number)
   refused h =
       record {
         position = 0;
-        reply-is = refused-reply (feasible-rules locations legs latest depot route) number judged (0 ∷ []) h;
+        reply-is = refused-reply (problem-rules locations legs latest depot route) number judged (0 ∷ []) h;
         verdict = λ z. absurd (h (judged ∙ z));
       }
 
@@ -36,7 +28,7 @@ module _ (locations : ℕ) (legs latest : List ℕ) (depot : ℕ) (route : List 
     pub fine : Timed locations legs latest depot route
     unfolding known
     fine =
-        let p = taken-passes (feasible-rules locations legs latest depot route) number judged refl h in
+        let p = taken-passes (problem-rules locations legs latest depot route) number judged refl h in
         record {
           measurable = measurable-fine locations legs depot route (p .0) (p .1 .1 .0) (p .1 .1 .1 .0) (p .1 .1 .1 .1 .0);
           deadlines = deadlines-fine locations latest (p .1 .0);
@@ -46,7 +38,7 @@ module _ (locations : ℕ) (legs latest : List ℕ) (depot : ℕ) (route : List 
     checked d c =
         record {
           position = deadline-position (length route) d;
-          reply-is = taken-reply (feasible-rules locations legs latest depot route) number judged (deadline-position (length route) d ∷ []) h;
+          reply-is = taken-reply (problem-rules locations legs latest depot route) number judged (deadline-position (length route) d ∷ []) h;
           verdict = λ z. by d c;
         }
       where

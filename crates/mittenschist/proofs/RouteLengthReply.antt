@@ -8,10 +8,10 @@ use Rattle.theory.specs.Tables.{Measurable, legs-only}
 use Rattle.theory.specs.Refusals.{number, either, refusal, leg-table, leg-sizes, known-stops, stop-count}
 use Rattle.theory.specs.Answers.{reply}
 use Rattle.theory.specs.declared.RouteLength.the-variants.{Refused, Seconds}
-use Rattle.theory.proofs.Refusals.{known}
+use Rattle.theory.proofs.Refusals.{known, four-then}
 use Rattle.theory.proofs.Judged.{measurable-fine}
 use Rattle.mittenschist.specs.Promises.{RouteLengthReply, route-length-rules}
-use Rattle.mittenschist.proofs.Entries.{four-then, refused-reply, taken-reply, taken-passes}
+use Rattle.mittenschist.proofs.Entries.{refused-reply, taken-reply, taken-passes}
 
 -- The rules of the route, and then the others.
 pub route-then : (locations : ℕ) (legs : List ℕ) (depot : ℕ) (route : List ℕ) (rest : ℕ) →

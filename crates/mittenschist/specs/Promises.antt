@@ -9,7 +9,7 @@ use Rattle.theory.specs.Moves.{Pattern, Move, patterns, next-cuts}
 use Rattle.theory.specs.Route.{Problem, tour-length, reconnected}
 use Rattle.theory.specs.Polish.{move-at, polish, Demand3}
 use Rattle.theory.specs.Tables.{problem, legs-only}
-use Rattle.theory.specs.Refusals.{Rule, refusal, cut-count, leg-table, deadline-list, leg-sizes, known-stops, stop-count, pattern-index, cut-positions, room}
+use Rattle.theory.specs.Refusals.{Rule, refusal, cut-count, leg-table, deadline-list, leg-sizes, known-stops, stop-count, pattern-index, cut-positions, room, problem-rules}
 use Rattle.theory.specs.Answers.{Answer, reply, step-answer, length-answer, delta-answer, feasibility-answer, Verdict, five-numbers, handed-back}
 use Rattle.moves.specs.Moves.{length-change}
 use Rattle.cuts.specs.Step.{found, or-kept}
@@ -83,15 +83,11 @@ pub record DeltaReply (k pattern : ℕ) (cuts : List ℕ) (locations : ℕ) (leg
 
 -- ---- deadline check
 
-abbrev pub feasible-rules : ℕ → List ℕ → List ℕ → ℕ → List ℕ → List Rule
-feasible-rules locations legs latest depot route =
-    leg-table locations legs ∷ deadline-list locations latest ∷ leg-sizes legs ∷ known-stops locations depot route ∷ stop-count (length route) ∷ []
-
 -- The position is loose, and nothing else is.
 pub record FeasibleReply (locations : ℕ) (legs latest : List ℕ) (depot : ℕ) (route : List ℕ) (answer : Feasibility) : Type 0 where
   pub position : ℕ
-  pub reply-is : feasibility-answer (length route) answer ≡ reply (refusal (feasible-rules locations legs latest depot route)) (position ∷ [])
-  pub verdict : refusal (feasible-rules locations legs latest depot route) ≡ 0 → Verdict (problem locations legs latest depot) route position
+  pub reply-is : feasibility-answer (length route) answer ≡ reply (refusal (problem-rules locations legs latest depot route)) (position ∷ [])
+  pub verdict : refusal (problem-rules locations legs latest depot route) ≡ 0 → Verdict (problem locations legs latest depot) route position
 
 -- ---- polishing
 

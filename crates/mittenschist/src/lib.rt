@@ -1,7 +1,7 @@
 // The entries. Each takes whatever it is handed, judges it, and refuses it or calls the crate below that does the work.
 ghost use mathlib.Core.Path.{_≡_};
 ghost use Rattle.theory.specs.Refusals.{refusal};
-ghost use Rattle.mittenschist.specs.Promises.{NextCutSetReply, next-cut-set-rules, RouteLengthReply, route-length-rules, pattern-rules, ReconnectionReply, reconnect-rules, ReconnectReply, delta-rules, DeltaReply, feasible-rules, FeasibleReply, polish-rules, PolishReply};
+ghost use Rattle.mittenschist.specs.Promises.{NextCutSetReply, next-cut-set-rules, RouteLengthReply, route-length-rules, pattern-rules, ReconnectionReply, reconnect-rules, ReconnectReply, delta-rules, DeltaReply, FeasibleReply, polish-rules, PolishReply};
 ghost use lib.ListN.{length};
 use theory::CutStep;
 use theory::Feasibility;
@@ -160,24 +160,6 @@ pub fn delta(
     LengthDelta::Seconds(moves::delta_pattern(k, pattern, cuts, locations, legs, depot, route))
 }
 
-fn feasible_refusal(
-    locations: usize,
-    legs: &[u32],
-    latest: &[u32],
-    depot: u32,
-    route: &[u32],
-) -> u32
-    ensures { λ r. ⌜ r ≡ refusal (feasible-rules locations (now (legs .entry)) (now (latest .entry)) depot (now (route .entry))) ⌝ }
-{
-    let bad_table = refusals::check_leg_table(locations, legs);
-    let bad_latest = refusals::check_deadline_list(locations, latest);
-    let bad_legs = refusals::check_leg_sizes(legs);
-    let bad_stops = refusals::check_known_stops(locations, depot, route);
-    let bad_n = refusals::check_stop_count(route.len());
-    let bad_route = refusals::first(bad_legs, refusals::first(bad_stops, bad_n));
-    refusals::first(bad_table, refusals::first(bad_latest, bad_route))
-}
-
 // The deadline check. Refuses 2, 3, 4, 5.
 pub fn route_feasible(
     locations: usize,
@@ -188,7 +170,7 @@ pub fn route_feasible(
 ) -> Feasibility
     ensures { λ r. ⌜ FeasibleReply locations (now (legs .entry)) (now (latest .entry)) depot (now (route .entry)) r ⌝ }
 {
-    let refused = feasible_refusal(locations, legs, latest, depot, route);
+    let refused = refusals::check_problem(locations, legs, latest, depot, route);
     if refused != 0 {
         return Feasibility::Refused(refused);
     }
@@ -208,7 +190,7 @@ fn polish_refusal(
     ensures { λ r. ⌜ r ≡ refusal (polish-rules k locations (now (legs .entry)) (now (latest .entry)) depot (now (route .entry)) lent) ⌝ }
 {
     let bad_k = refusals::check_cut_count(k);
-    let bad_problem = feasible_refusal(locations, legs, latest, depot, route);
+    let bad_problem = refusals::check_problem(locations, legs, latest, depot, route);
     let bad_room = refusals::check_room(5, lent);
     refusals::first(bad_k, refusals::first(bad_problem, bad_room))
 }

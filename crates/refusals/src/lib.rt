@@ -2,7 +2,7 @@
 ghost use mathlib.Core.Path.{_≡_};
 ghost use lib.Dec.{ltb, leb};
 ghost use lib.ListN.{length};
-ghost use Rattle.theory.specs.Refusals.{some, rises, either, number, cut-count, leg-table, deadline-list, leg-sizes, known-stops, stop-count, pattern-index, cut-positions, room};
+ghost use Rattle.theory.specs.Refusals.{some, rises, either, number, cut-count, leg-table, deadline-list, leg-sizes, known-stops, stop-count, pattern-index, cut-positions, room, refusal, problem-rules};
 ghost use Rattle.patterns.specs.Enumeration.{CutCount};
 
 // The first of two numbers that is not 0.
@@ -171,4 +171,23 @@ pub fn check_room(needed: usize, lent: usize) -> u32
         return 21;
     }
     0
+}
+
+// Tables, depot and route together, in the one order.
+pub fn check_problem(
+    locations: usize,
+    legs: &[u32],
+    latest: &[u32],
+    depot: u32,
+    route: &[u32],
+) -> u32
+    ensures { λ r. ⌜ r ≡ refusal (problem-rules locations (now (legs .entry)) (now (latest .entry)) depot (now (route .entry))) ⌝ }
+{
+    let bad_table = check_leg_table(locations, legs);
+    let bad_latest = check_deadline_list(locations, latest);
+    let bad_legs = check_leg_sizes(legs);
+    let bad_stops = check_known_stops(locations, depot, route);
+    let bad_n = check_stop_count(route.len());
+    let bad_route = first(bad_legs, first(bad_stops, bad_n));
+    first(bad_table, first(bad_latest, bad_route))
 }

@@ -1,7 +1,8 @@
 -- `mittenschist::delta_refusal` meets its contract. Assumes nothing.
 use mathlib.Core.Path.{sym, ap₂, _∙_}
 use Rattle.theory.specs.Refusals.{either, refusal}
-use Rattle.mittenschist.proofs.Entries.{either-zero, given, passed-over, counted}
+use Rattle.theory.proofs.Refusals.{either-zero, applies-first, passed-over}
+use Rattle.mittenschist.proofs.Entries.{counted}
 use Rattle.mittenschist.proofs.RouteLengthReply.{route-then}
 use borrow.Author.Needs.{needs}
 use Rattle.mittenschist.proofs.delta_refusal.Statement.{statement}
@@ -12,7 +13,7 @@ check-cut-count-requires c κs = search needs
 
 returns : tie.Need-returns
 unfolding refusal
-returns c = given _ _ _ (c .before .check-cut-count .ensures) (c .if1 .taken)
+returns c = applies-first _ _ _ (c .before .check-cut-count .ensures) (c .if1 .taken)
 
 route-length-refusal-requires : tie.Need-route-length-refusal-requires
 route-length-refusal-requires c κs = search needs

@@ -1,7 +1,8 @@
 -- `mittenschist::reconnect_refusal` meets its contract. Assumes nothing.
 use mathlib.Core.Path.{sym, ap₂, _∙_}
 use Rattle.theory.specs.Refusals.{either, refusal}
-use Rattle.mittenschist.proofs.Entries.{either-zero, given, passed-over, counted}
+use Rattle.theory.proofs.Refusals.{either-zero, applies-first, passed-over}
+use Rattle.mittenschist.proofs.Entries.{counted}
 use borrow.Author.Needs.{needs}
 use Rattle.mittenschist.proofs.reconnect_refusal.Statement.{statement}
 use Rattle.mittenschist.proofs.reconnect_refusal.Tie as tie
@@ -11,7 +12,7 @@ check-cut-count-requires c κs = search needs
 
 returns : tie.Need-returns
 unfolding refusal
-returns c = given _ _ _ (c .before .check-cut-count .ensures) (c .if1 .taken)
+returns c = applies-first _ _ _ (c .before .check-cut-count .ensures) (c .if1 .taken)
 
 check-stop-count-requires : tie.Need-check-stop-count-requires
 check-stop-count-requires c κs = search needs

@@ -1,10 +1,10 @@
--- `mittenschist::feasible_refusal` meets its contract: the checks in the one order. Assumes nothing.
+-- `refusals::check_problem` meets its contract: the checks in the one order. Assumes nothing.
 use mathlib.Core.Path.{sym, ap₂, _∙_}
 use Rattle.theory.specs.Refusals.{either, refusal}
-use Rattle.mittenschist.proofs.Entries.{either-zero}
+use Rattle.theory.proofs.Refusals.{either-zero}
 use borrow.Author.Needs.{needs}
-use Rattle.mittenschist.proofs.feasible_refusal.Statement.{statement}
-use Rattle.mittenschist.proofs.feasible_refusal.Tie as tie
+use Rattle.refusals.proofs.check_problem.Statement.{statement}
+use Rattle.refusals.proofs.check_problem.Tie as tie
 
 check-leg-table-requires : tie.Need-check-leg-table-requires
 check-leg-table-requires c κs = search needs
@@ -46,8 +46,8 @@ returns : tie.Need-returns
 unfolding refusal
 returns c = c .first4 .ensures ∙ ap₂ either (c .before .before .before .before .before .before .before .before .check-leg-table .ensures) (c .before .first3 .ensures ∙ ap₂ either (c .before .before .before .before .before .before .before .check-deadline-list .ensures) (c .before .before .first2 .ensures ∙ ap₂ either (c .before .before .before .before .before .before .check-leg-sizes .ensures) (c .before .before .before .first .ensures ∙ ap₂ either (c .before .before .before .before .before .check-known-stops .ensures) (c .before .before .before .before .check-stop-count .ensures ∙ sym (either-zero _)))))
 
-pub feasible-refusal-spec : {M : Type 1} → statement M
-feasible-refusal-spec =
+pub check-problem-spec : {M : Type 1} → statement M
+check-problem-spec =
     tie.close
     (tie.spec
     check-leg-table-requires
