@@ -13,8 +13,9 @@ use Rattle.theory.specs.Answers.{Polishes, reply-of, counts-of, polish-values, 
 use Rattle.theory.specs.declared.Polished.{Polished}
 use Rattle.theory.specs.declared.Polished.the-variants.{Finished, Spent}
 use Rattle.theory.proofs.Refusals.{known}
-use Rattle.theory.proofs.Judged.{cut-count-fine, measurable-fine, deadlines-fine, room-fine}
+use Rattle.theory.proofs.Judged.{room-fine}
 use Rattle.polishing.specs.Loop.{Polishable}
+use Rattle.polishing.proofs.Judged.{polishable-fine}
 use Rattle.mittenschist.specs.Promises.{PolishReply, polish-rules}
 use Rattle.mittenschist.proofs.Entries.{refused-kept, taken-done, taken-passes}
 
@@ -51,16 +52,8 @@ module _ (k A locations : ℕ) (legs latest : List ℕ) (depot : ℕ) (route res
     unfolding known
     fine =
         let p = taken-passes (polish-rules k locations legs latest depot route (length result)) number judged refl h in
-        let c = cut-count-fine k (p .0) in
         let q = p .1 .1 .1 in
-        record {
-          least = c .0;
-          most = c .1;
-          timed = record {
-            measurable = measurable-fine locations legs depot route (p .1 .0) (q .0) (q .1 .0) (q .1 .1 .0);
-            deadlines = deadlines-fine locations latest (p .1 .1 .0);
-          };
-        }
+        polishable-fine k locations legs latest depot route (p .0) (p .1 .0) (p .1 .1 .0) (q .0) (q .1 .0) (q .1 .1 .0)
 
     pub space : 5 ≤ length result
     unfolding known

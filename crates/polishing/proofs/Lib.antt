@@ -3,3 +3,4 @@ pub mod Numbers
 pub mod Taking
 pub mod Replies
 pub mod Enumerated
+pub mod Judged

@@ -1,0 +1,76 @@
+// The text program's function from bytes to bytes: it reads a question, judges it, polishes it and prints the answer.
+use reading::Reading;
+use theory::Polished;
+ghost use mathlib.Core.Path.{_≡_};
+ghost use mathlib.Core.List.{_∷_};
+ghost use lib.ListN.{take};
+ghost use Rattle.theory.specs.Refusals.{refusal, cut-count, problem-rules};
+ghost use Rattle.printing.specs.Answer.{answer-text, Printed};
+ghost use Rattle.text.specs.Program.{program, question-text, polished-text, Room, Printable, question-of};
+
+fn question_refusal(
+    k: usize,
+    locations: usize,
+    legs: &[u32],
+    latest: &[u32],
+    depot: u32,
+    route: &[u32],
+) -> u32
+    ensures { λ r. ⌜ r ≡ refusal (cut-count k ∷ problem-rules locations (now (legs .entry)) (now (latest .entry)) depot (now (route .entry))) ⌝ }
+{
+    let bad_k = refusals::check_cut_count(k);
+    let bad_problem = refusals::check_problem(locations, legs, latest, depot, route);
+    refusals::first(bad_k, bad_problem)
+}
+
+// Any answer has room.
+fn print_numbers(
+    finished: bool,
+    examined: u64,
+    accepted: u64,
+    before: u64,
+    after: u64,
+    route: &[u32],
+    out: &mut [u8],
+) -> usize
+    requires { ⌜ Printable (now route) (now out) ⌝ }
+    ensures { λ r. ⌜ Printed (answer-text finished examined accepted before after (now (route .entry))) (now (out .entry)) (now (out .exit)) r ⌝ }
+{
+    printing::print_answer(finished, examined, accepted, before, after, route, out)
+}
+
+fn print_polished(answer: Polished, route: &[u32], out: &mut [u8]) -> usize
+    requires { ⌜ Printable (now route) (now out) ⌝ }
+    ensures { λ r. ⌜ Printed (polished-text answer (now (route .entry))) (now (out .entry)) (now (out .exit)) r ⌝ }
+{
+    match answer {
+        Polished::Finished(c) => {
+            print_numbers(true, c.examined, c.accepted, c.before, c.after, route, out)
+        }
+        Polished::Spent(c) => {
+            print_numbers(false, c.examined, c.accepted, c.before, c.after, route, out)
+        }
+    }
+}
+
+// The answer to a question that was read.
+fn answer_question(
+    k: usize,
+    allowance: u64,
+    locations: usize,
+    legs: &[u32],
+    latest: &[u32],
+    depot: u32,
+    stops: &mut [u32],
+    out: &mut [u8],
+) -> usize
+    requires { ⌜ Room (now out) ⌝ }
+    ensures { λ r. ⌜ Printed (question-text (question-of k allowance locations (now (legs .entry)) (now (latest .entry)) depot (now (stops .entry)))) (now (out .entry)) (now (out .exit)) r ⌝ }
+{
+    let refused = question_refusal(k, locations, legs, latest, depot, &stops[..]);
+    if refused != 0 {
+        return printing::print_refusal(refused, out);
+    }
+    let answer = polishing::polish_route(k, allowance, locations, legs, latest, depot, stops);
+    print_polished(answer, &stops[..], out)
+}
