@@ -2,7 +2,7 @@
 use mathlib.Core.Path.{_≡_, refl, sym, ap, _∙_, Σ-path}
 use mathlib.Core.Bool.{Bool, true, false, cond}
 use mathlib.Core.List.{List, [], _∷_, _++_, append-assoc}
-use mathlib.Core.Option.{Option, none, some, bind, Option·none-ne-some, Option·some-injective}
+use mathlib.Core.Option.{Option, none, some, bind, bind-eq-some-iff, Option·none-ne-some, Option·some-injective}
 use Prim.Native.Nat.{ℕ, zero, suc, _≤_, _<_}
 use native.Mathlib.Omega.{arith}
 use lib.Dec.{eqb}
@@ -122,19 +122,14 @@ line-append : (key xs r : List ℕ) → line key xs ++ r ≡ key ++ (listed xs +
 unfolding line
 line-append key xs r = append-assoc key (listed xs ++ (10 ∷ [])) r ∙ ap (λ (z : List ℕ). key ++ z) (append-assoc (listed xs) (10 ∷ []) r)
 
-pub bind-some : {A B : Type 0} (o : Option A) (f : A → Option B) (b : B) → bind o f ≡ some b → (a : A) × (o ≡ some a) × (f a ≡ some b)
-unfolding bind
-bind-some none f b e = absurd (Option·none-ne-some b e)
-bind-some (some a) f b e = (a, refl, e)
-
 -- What was read first, handed to the rest of the argument.
 pub first-read : {A B C : Type 0} (o : Option A) (f : A → Option B) (b : B) → bind o f ≡ some b → ((a : A) → o ≡ some a → f a ≡ some b → C) → C
-first-read o f b e k = let s = bind-some o f b e in k (s .0) (s .1) (s .2)
+first-read o f b e k = let s = bind-eq-some-iff o f .0 e in k (s .0) (s .1) (s .2)
 
 pub line-sound : (key : List ℕ) (room : ℕ) (t xs r : List ℕ) → line-of key room t ≡ some (xs, r) → (t ≡ line key xs ++ r) × Small xs × (length xs ≤ room)
 unfolding line-of
 line-sound key room t xs r e =
-    let b = bind-some (after key t) (entries-or-none room) (xs, r) e in
+    let b = bind-eq-some-iff (after key t) (entries-or-none room) .0 e in
     let l = list-sound room (b .0) xs r (b .2) in
     (key-sound key t (b .0) (b .1) ∙ ap (λ (z : List ℕ). key ++ z) (l .0) ∙ sym (line-append key xs r), l .1, l .2)
 
@@ -149,7 +144,7 @@ counted n a xs r false i e = absurd (Option·none-ne-some (xs, r) e)
 pub row-sound : (key : List ℕ) (n : ℕ) (t xs r : List ℕ) → row key n t ≡ some (xs, r) → (t ≡ line key xs ++ r) × Small xs × (length xs ≡ n)
 unfolding row
 row-sound key n t xs r e =
-    let b = bind-some (line-of key n t) (λ a. cond (eqb (length (a .0)) n) (some a) none) (xs, r) e in
+    let b = bind-eq-some-iff (line-of key n t) (λ a. cond (eqb (length (a .0)) n) (some a) none) .0 e in
     let k = counted n (b .0) xs r (eqb (length (b .0 .0)) n) refl (b .2) in
     let f : line-of key n t ≡ some (xs, r) = b .1 ∙ ap {B = Option (List ℕ × List ℕ)} some (Σ-path (k .0) (k .1)) in
     let l = line-sound key n t xs r f in
@@ -167,7 +162,7 @@ one-entry (x ∷ y ∷ xs) l = absurd (omega arith)
 pub value-sound : (key t : List ℕ) (x : ℕ) (r : List ℕ) → value key t ≡ some (x, r) → (t ≡ line key (x ∷ []) ++ r) × (x ≤ 4294967295)
 unfolding value
 value-sound key t x r e =
-    let b = bind-some (row key 1 t) (λ a. some (getD (a .0) 0 0, a .1)) (x, r) e in
+    let b = bind-eq-some-iff {B = ℕ × List ℕ} (row key 1 t) (λ a. some (getD (a .0) 0 0, a .1)) .0 e in
     let k = same-read (b .2) in
     let l = row-sound key 1 t (b .0 .0) (b .0 .1) (b .1) in
     let o : b .0 .0 ≡ x ∷ [] = one-entry (b .0 .0) (l .2) ∙ rw (k .0) in

@@ -1,7 +1,7 @@
 -- The legs and the deadlines are read exactly where they are written. Assumes nothing.
 use mathlib.Core.Path.{_≡_, refl, sym, ap, _∙_}
 use mathlib.Core.List.{List, [], _∷_, _++_, append-nil, append-assoc}
-use mathlib.Core.Option.{Option, none, some, bind}
+use mathlib.Core.Option.{Option, none, some, bind, bind-eq-some-iff}
 use Prim.Native.Nat.{ℕ, zero, suc, _+_, _-_, _*_, _≤_, _<_}
 use native.Mathlib.Nat.{suc-mul, zero-mul, mul-le-mul-right}
 use native.Mathlib.Numerals.{add-one}
@@ -11,7 +11,7 @@ use lib.Seq.{take-at, drop-at, take-all}
 use Rattle.decimal.specs.Text.{ascii, line, Small}
 use Rattle.lines.specs.Reading.{before, row}
 use Rattle.lines.proofs.Numbers.{same-read}
-use Rattle.lines.proofs.Lines.{before-sound, bind-some, first-read, row-sound, row-complete}
+use Rattle.lines.proofs.Lines.{before-sound, first-read, row-sound, row-complete}
 use Rattle.lines.proofs.Places.{before-none, before-before}
 use Rattle.reading.specs.Question.{legs-lines}
 use Rattle.lines.specs.Told.{row-told}
@@ -33,7 +33,7 @@ rows-sound : (m n : ℕ) (t xs r : List ℕ) → rows m n t ≡ some (xs, r) →
 unfolding rows legs-lines
 rows-sound zero n t xs r e = let k = same-read e in rw (← k .0, ← k .1) (refl, tt, omega arith)
 rows-sound (suc m) n t xs r e =
-    let b = bind-some (row (ascii "legs=") n t) (λ a. before (a .0) (rows m n (a .1))) (xs, r) e in
+    let b = bind-eq-some-iff (row (ascii "legs=") n t) (λ a. before (a .0) (rows m n (a .1))) .0 e in
     let y = b .0 .0 in
     let f = before-sound y (rows m n (b .0 .1)) xs r (b .2) in
     let l = row-sound (ascii "legs=") n t y (b .0 .1) (b .1) in

@@ -19,25 +19,13 @@ use Rattle.lines.proofs.Lines.{first-read, line-sound, line-complete}
 use Rattle.reading.proofs.Heading.{headed, header-sound, header-complete}
 use Rattle.reading.proofs.Tables.{tables-sound, tables-complete}
 
--- All of `Held` but the length of the text.
-record Readable (q : Question) (t : List ℕ) : Type 0 where
-  text : t ≡ written q
-  some-location : 1 ≤ q .locations
-  few-locations : q .locations ≤ 96
-  square : length (q .legs) ≡ q .locations * q .locations
-  deadlines : length (q .latest) ≡ q .locations
-  small-header : Small (q .k ∷ q .allowance ∷ q .depot ∷ [])
-  small-legs : Small (q .legs)
-  small-latest : Small (q .latest)
-  small-stops : Small (q .stops)
-
 nothing-left : {A : Type 0} (a b : A) (t : List ℕ) → ended a t ≡ some b → (t ≡ []) × (a ≡ b)
 nothing-left a b [] e = (refl, Option·some-injective a b e)
 nothing-left a b (x ∷ t) e = absurd (Option·none-ne-some b e)
 
-question-sound : (t : List ℕ) (q : Question) → question t ≡ some q → Readable q t
+question-sound : (t : List ℕ) (q : Question) → length t ≤ 60000 → question t ≡ some q → (t ≡ written q) × Held q
 unfolding question written
-question-sound t q e =
+question-sound t q l e =
     first-read (header t) _ q e λ h h-read e₁.
     first-read (tables (h .0 .locations) (h .1)) _ q e₁ λ g g-read e₂.
     first-read (line-of (ascii "round=") 30000 (g .1)) _ q e₂ λ s s-read e₃.
@@ -46,17 +34,21 @@ question-sound t q e =
     let g-is = tables-sound (h .0 .locations) (h .1) (g .0 .0) (g .0 .1) (g .1) g-read in
     let s-is = line-sound (ascii "round=") 30000 (g .1) (s .0) (s .1) s-read in
     let x : g .1 ≡ line (ascii "round=") (s .0) = s-is .0 ∙ rw (n .0) (append-nil (line (ascii "round=") (s .0))) in
-    subst (λ (p : Question). Readable p t) (n .1) (record {
-      text = h-is .text ∙ ap (headed (h .0)) (g-is .text ∙ rw x);
-      some-location = h-is .some-location;
-      few-locations = h-is .few-locations;
-      square = g-is .square;
-      deadlines = g-is .deadlines;
-      small-header = h-is .small;
-      small-legs = g-is .small-legs;
-      small-latest = g-is .small-latest;
-      small-stops = s-is .1;
-    })
+    let text = h-is .text ∙ ap (headed (h .0)) (g-is .text ∙ rw x) in
+    subst (λ (p : Question). (t ≡ written p) × Held p) (n .1) (
+      text,
+      record {
+        some-location = h-is .some-location;
+        few-locations = h-is .few-locations;
+        square = g-is .square;
+        deadlines = g-is .deadlines;
+        small-header = h-is .small;
+        small-legs = g-is .small-legs;
+        small-latest = g-is .small-latest;
+        small-stops = s-is .1;
+        short = rw (← text) l;
+      },
+    )
 
 -- A comma and a digit at least for each further number.
 further-room : (xs : List ℕ) → 2 * length xs ≤ length (further xs)
@@ -98,22 +90,7 @@ unfolding read
 read-exactly t q = (λ e. sound (leb (length t) 60000) refl e, λ h. rw (h .0, le-leb (length (written q)) 60000 (h .1 .short)) (question-complete q (h .1)))
   where
     sound : (b : Bool) → leb (length t) 60000 ≡ b → cond b (question t) none ≡ some q → (t ≡ written q) × Held q
-    sound true i e =
-        let r = question-sound t q e in
-        let s : length (written q) ≤ 60000 = rw (← r .text) (leb-true (length t) 60000 i) in (
-          r .text,
-          record {
-            some-location = r .some-location;
-            few-locations = r .few-locations;
-            square = r .square;
-            deadlines = r .deadlines;
-            small-header = r .small-header;
-            small-legs = r .small-legs;
-            small-latest = r .small-latest;
-            small-stops = r .small-stops;
-            short = s;
-          },
-        )
+    sound true i e = question-sound t q (leb-true (length t) 60000 i) e
     sound false i e = absurd (Option·none-ne-some q e)
 
 pub read-written : (q : Question) → Held q → read (written q) ≡ some q
