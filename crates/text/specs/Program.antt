@@ -2,9 +2,10 @@
 use mathlib.Core.Bool.{true, false, cond}
 use mathlib.Core.List.{List, [], _∷_}
 use mathlib.Core.Option.{Option, none, some}
+use mathlib.Core.Path.{_≡_}
 use Prim.Native.Nat.{ℕ, _≤_}
 use lib.Dec.{eqb}
-use lib.ListN.{length}
+use lib.ListN.{length, take}
 use Rattle.theory.specs.Scan.{Reply}
 use Rattle.theory.specs.Route.{Problem, tour-length}
 use Rattle.theory.specs.Polish.{polish}
@@ -12,8 +13,10 @@ use Rattle.theory.specs.Tables.{problem}
 use Rattle.theory.specs.Refusals.{Rule, refusal, cut-count, problem-rules}
 use Rattle.reading.specs.Question.{Question}
 use Rattle.reading.specs.Reading.{read}
+use Rattle.reading.specs.Told.{Lent}
 use Rattle.theory.specs.declared.Polished.{Polished}
 use Rattle.theory.specs.declared.Polished.the-variants as P
+use Rattle.text.specs.declared.Output.{Output}
 use Rattle.printing.specs.Answer.{answer-text, refusal-text}
 
 -- The rules of polishing, of the values of the text's lines; 2 cannot apply to them.
@@ -61,3 +64,13 @@ pub record Printable (route out : List ℕ) : Type 0 where
 abbrev pub question-of : (k allowance locations : ℕ) → (legs latest : List ℕ) → ℕ → List ℕ → Question
 question-of k allowance locations legs latest depot stops =
     record { k = k; allowance = allowance; locations = locations; depot = depot; legs = legs; latest = latest; stops = stops }
+
+-- Places for a question, and for the answer.
+pub record Work (legs latest stops out : List ℕ) : Type 0 where
+  pub lent : Lent legs latest stops
+  pub room : Room out
+
+-- The program's bytes are those of its definition, for every input.
+pub record Shown (text : List ℕ) (output : Output) : Type 0 where
+  pub text-is : take (output .length) (output .bytes) ≡ program text
+  pub within : output .length ≤ length (output .bytes)

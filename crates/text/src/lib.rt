@@ -3,10 +3,9 @@ use reading::Reading;
 use theory::Polished;
 ghost use mathlib.Core.Path.{_≡_};
 ghost use mathlib.Core.List.{_∷_};
-ghost use lib.ListN.{take};
 ghost use Rattle.theory.specs.Refusals.{refusal, cut-count, problem-rules};
 ghost use Rattle.printing.specs.Answer.{answer-text, Printed};
-ghost use Rattle.text.specs.Program.{program, question-text, polished-text, Room, Printable, question-of};
+ghost use Rattle.text.specs.Program.{program, question-text, polished-text, Room, Printable, question-of, Work, Shown};
 
 fn question_refusal(
     k: usize,
@@ -73,4 +72,53 @@ fn answer_question(
     }
     let answer = polishing::polish_route(k, allowance, locations, legs, latest, depot, stops);
     print_polished(answer, &stops[..], out)
+}
+
+// The answer to a text, in lent places.
+fn answer_text(
+    text: &[u8],
+    legs: &mut [u32],
+    latest: &mut [u32],
+    stops: &mut [u32],
+    out: &mut [u8],
+) -> usize
+    requires { ⌜ Work (now legs) (now latest) (now stops) (now out) ⌝ }
+    ensures { λ r. ⌜ Printed (program (now (text .entry))) (now (out .entry)) (now (out .exit)) r ⌝ }
+{
+    let answer = reading::read_question(text, legs, latest, stops);
+    let Reading::Question(header, count) = answer else {
+        return printing::print_refusal(10, out);
+    };
+    let k = header.k as usize;
+    let allowance = header.allowance as u64;
+    let locations = header.locations;
+    let cells = locations * locations;
+    answer_question(
+        k,
+        allowance,
+        locations,
+        &legs[..cells],
+        &latest[..locations],
+        header.depot,
+        &mut stops[..count],
+        out,
+    )
+}
+
+// What the program writes: the first `length` of the bytes.
+pub struct Output {
+    pub bytes: [u8; 6500],
+    pub length: usize,
+}
+
+// The program, from bytes to bytes.
+pub fn polish_text(text: &[u8]) -> Output
+    ensures { λ r. ⌜ Shown (now (text .entry)) r ⌝ }
+{
+    let mut legs = [0u32; 9216];
+    let mut latest = [0u32; 96];
+    let mut stops = [0u32; 30000];
+    let mut bytes = [0u8; 6500];
+    let length = answer_text(text, &mut legs, &mut latest, &mut stops, &mut bytes);
+    Output { bytes, length }
 }

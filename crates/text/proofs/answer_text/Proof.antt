@@ -1,0 +1,153 @@
+-- `text::answer_text` meets its contract. Assumes nothing.
+use native.Mathlib.Omega.{arith}
+use borrow.Author.Needs.{needs}
+use Rattle.printing.proofs.Lengths.{refusal-length}
+use Rattle.text.proofs.Asked.{still-lent, malformed, cells-fit, legs-room, legs-size, latest-room, latest-size, stops-room, stops-size, asked}
+use Rattle.text.proofs.answer_text.Statement.{statement}
+use Rattle.text.proofs.answer_text.Tie as tie
+
+read-question-requires : tie.Need-read-question-requires
+read-question-requires c κs = search needs
+
+enum-known-answer : tie.Need-enum-known-answer
+enum-known-answer c = search needs
+
+enum-told : tie.Need-enum-told
+enum-told c = search needs
+
+print-refusal-requires : tie.Need-print-refusal-requires
+print-refusal-requires c κs = 
+    let s = c .before .before .before .before .before .before .before .before .before .before .before .before .before .before .before .before .before .before in
+    record { room = omega (arith, refusal-length 10 (omega arith), s .pre .room .places) }
+
+same-length : tie.Need-same-length
+same-length c = search needs
+
+same-length-2 : tie.Need-same-length-2
+same-length-2 c = search needs
+
+same-length-3 : tie.Need-same-length-3
+same-length-3 c = search needs
+
+same-length-4 : tie.Need-same-length-4
+same-length-4 c = search needs
+
+returns : tie.Need-returns
+returns c = 
+    let q = c .before .before .before .before .before .before .before .before .before .before .before .before .read-question in
+    let s = c .before .before .before .before .before .before .before .before .before .before .before .before .before .before .before .before .before .before .before .before .before in
+    malformed (s .args .text .now) (q .last .1 .0) (q .last .1 .1 .0) (q .last .1 .1 .1 .0) (q .ensures) (c .before .before .before .before .enum-told .given .1) _ _ _ (c .before .before .print-refusal .ensures)
+
+cast-k : tie.Need-cast-k
+cast-k c = search needs
+
+cast-allowance : tie.Need-cast-allowance
+cast-allowance c = search needs
+
+mul-cells : tie.Need-mul-cells
+mul-cells c = 
+    let a = c .before .before .before .answer in
+    let q = c .before .before .before .before .before .before .before .before .before .before .before .read-question in
+    let s = c .before .before .before .before .before .before .before .before .before .before .before .before .before .before .before .before .before .before .before .before in
+    let lent = still-lent (s .pre .lent) (q .kept .1 .0) (q .kept .1 .1 .0) (q .kept .1 .1 .1 .0) in
+    omega (arith, cells-fit (s .args .text .now) (q .last .1 .0) (q .last .1 .1 .0) (q .last .1 .1 .1 .0) (q .ensures) (a .given .0 .0) (a .given .0 .1 .0) (a .given .1) lent)
+
+slice-reshare-prefix-answer-question : tie.Need-slice-reshare-prefix-answer-question
+slice-reshare-prefix-answer-question c = 
+    let a = c .before .before .before .answer in
+    let q = c .before .before .before .before .before .before .before .before .before .before .before .read-question in
+    let s = c .before .before .before .before .before .before .before .before .before .before .before .before .before .before .before .before .before .before .before .before in
+    let lent = still-lent (s .pre .lent) (q .kept .1 .0) (q .kept .1 .1 .0) (q .kept .1 .1 .1 .0) in
+    legs-room (s .args .text .now) (q .last .1 .0) (q .last .1 .1 .0) (q .last .1 .1 .1 .0) (q .ensures) (a .given .0 .0) (a .given .0 .1 .0) (a .given .1) lent
+
+slice-aggregate-answer-question : tie.Need-slice-aggregate-answer-question
+slice-aggregate-answer-question c = 
+    let a = c .before .before .before .before .answer in
+    let q = c .before .before .before .before .before .before .before .before .before .before .before .before .read-question in
+    let s = c .before .before .before .before .before .before .before .before .before .before .before .before .before .before .before .before .before .before .before .before .before in
+    let lent = still-lent (s .pre .lent) (q .kept .1 .0) (q .kept .1 .1 .0) (q .kept .1 .1 .1 .0) in
+    legs-size (s .args .text .now) (q .last .1 .0) (q .last .1 .1 .0) (q .last .1 .1 .1 .0) (q .ensures) (a .given .0 .0) (a .given .0 .1 .0) (a .given .1) lent
+
+slice-reshare-prefix-answer-question-2 : tie.Need-slice-reshare-prefix-answer-question-2
+slice-reshare-prefix-answer-question-2 c = 
+    let a = c .before .before .before .before .answer in
+    let q = c .before .before .before .before .before .before .before .before .before .before .before .before .read-question in
+    let s = c .before .before .before .before .before .before .before .before .before .before .before .before .before .before .before .before .before .before .before .before .before in
+    let lent = still-lent (s .pre .lent) (q .kept .1 .0) (q .kept .1 .1 .0) (q .kept .1 .1 .1 .0) in
+    latest-room (s .args .text .now) (q .last .1 .0) (q .last .1 .1 .0) (q .last .1 .1 .1 .0) (q .ensures) (a .given .0 .0) (a .given .0 .1 .0) (a .given .1) lent
+
+slice-aggregate-answer-question-2 : tie.Need-slice-aggregate-answer-question-2
+slice-aggregate-answer-question-2 c = 
+    let a = c .before .before .before .before .before .answer in
+    let q = c .before .before .before .before .before .before .before .before .before .before .before .before .before .read-question in
+    let s = c .before .before .before .before .before .before .before .before .before .before .before .before .before .before .before .before .before .before .before .before .before .before in
+    let lent = still-lent (s .pre .lent) (q .kept .1 .0) (q .kept .1 .1 .0) (q .kept .1 .1 .1 .0) in
+    latest-size (s .args .text .now) (q .last .1 .0) (q .last .1 .1 .0) (q .last .1 .1 .1 .0) (q .ensures) (a .given .0 .0) (a .given .0 .1 .0) (a .given .1) lent
+
+slice-relend-prefix-answer-question : tie.Need-slice-relend-prefix-answer-question
+slice-relend-prefix-answer-question c = 
+    let a = c .before .before .before .before .before .answer in
+    let q = c .before .before .before .before .before .before .before .before .before .before .before .before .before .read-question in
+    let s = c .before .before .before .before .before .before .before .before .before .before .before .before .before .before .before .before .before .before .before .before .before .before in
+    let lent = still-lent (s .pre .lent) (q .kept .1 .0) (q .kept .1 .1 .0) (q .kept .1 .1 .1 .0) in
+    stops-room (s .args .text .now) (q .last .1 .0) (q .last .1 .1 .0) (q .last .1 .1 .1 .0) (q .ensures) (a .given .0 .0) (a .given .0 .1 .0) (a .given .1) lent
+
+slice-aggregate-answer-question-3 : tie.Need-slice-aggregate-answer-question-3
+slice-aggregate-answer-question-3 c = 
+    let a = c .before .before .before .before .before .before .answer in
+    let q = c .before .before .before .before .before .before .before .before .before .before .before .before .before .before .read-question in
+    let s = c .before .before .before .before .before .before .before .before .before .before .before .before .before .before .before .before .before .before .before .before .before .before .before in
+    let lent = still-lent (s .pre .lent) (q .kept .1 .0) (q .kept .1 .1 .0) (q .kept .1 .1 .1 .0) in
+    stops-size (s .args .text .now) (q .last .1 .0) (q .last .1 .1 .0) (q .last .1 .1 .1 .0) (q .ensures) (a .given .0 .0) (a .given .0 .1 .0) (a .given .1) lent
+
+answer-question-requires : tie.Need-answer-question-requires
+answer-question-requires c κs = search needs
+
+same-length-5 : tie.Need-same-length-5
+same-length-5 c = search needs
+
+same-length-6 : tie.Need-same-length-6
+same-length-6 c = search needs
+
+same-length-7 : tie.Need-same-length-7
+same-length-7 c = search needs
+
+same-length-8 : tie.Need-same-length-8
+same-length-8 c = search needs
+
+returns-2 : tie.Need-returns-2
+returns-2 c = 
+    let a = c .before .before .before .before .before .before .before .before .before .before .before .before .answer in
+    let q = c .before .before .before .before .before .before .before .before .before .before .before .before .before .before .before .before .before .before .before .before .read-question in
+    let s = c .before .before .before .before .before .before .before .before .before .before .before .before .before .before .before .before .before .before .before .before .before .before .before .before .before .before .before .before .before in
+    let lent = still-lent (s .pre .lent) (q .kept .1 .0) (q .kept .1 .1 .0) (q .kept .1 .1 .1 .0) in
+    asked (s .args .text .now) (q .last .1 .0) (q .last .1 .1 .0) (q .last .1 .1 .1 .0) (q .ensures) (a .given .0 .0) (a .given .0 .1 .0) (a .given .1) lent _ _ _ (c .before .before .before .before .answer-question .ensures)
+
+pub answer-text-spec : {M : Type 1} → statement M
+answer-text-spec =
+    tie.close
+    (tie.spec
+    read-question-requires
+    enum-known-answer
+    enum-told
+    print-refusal-requires
+    same-length
+    same-length-2
+    same-length-3
+    same-length-4
+    returns
+    cast-k
+    cast-allowance
+    mul-cells
+    slice-reshare-prefix-answer-question
+    slice-aggregate-answer-question
+    slice-reshare-prefix-answer-question-2
+    slice-aggregate-answer-question-2
+    slice-relend-prefix-answer-question
+    slice-aggregate-answer-question-3
+    answer-question-requires
+    same-length-5
+    same-length-6
+    same-length-7
+    same-length-8
+    returns-2)
