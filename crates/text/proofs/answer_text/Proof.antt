@@ -16,7 +16,7 @@ enum-told : tie.Need-enum-told
 enum-told c = search needs
 
 print-refusal-requires : tie.Need-print-refusal-requires
-print-refusal-requires c κs = 
+print-refusal-requires c κs =
     let s = c .before .before .before .before .before .before .before .before .before .before .before .before .before .before .before .before .before .before in
     record { room = omega (arith, refusal-length 10 (omega arith), s .pre .room .places) }
 
@@ -33,7 +33,7 @@ same-length-4 : tie.Need-same-length-4
 same-length-4 c = search needs
 
 returns : tie.Need-returns
-returns c = 
+returns c =
     let q = c .before .before .before .before .before .before .before .before .before .before .before .before .read-question in
     let s = c .before .before .before .before .before .before .before .before .before .before .before .before .before .before .before .before .before .before .before .before .before in
     malformed (s .args .text .now) (q .last .1 .0) (q .last .1 .1 .0) (q .last .1 .1 .1 .0) (q .ensures) (c .before .before .before .before .enum-told .given .1) _ _ _ (c .before .before .print-refusal .ensures)
@@ -45,7 +45,7 @@ cast-allowance : tie.Need-cast-allowance
 cast-allowance c = search needs
 
 mul-cells : tie.Need-mul-cells
-mul-cells c = 
+mul-cells c =
     let a = c .before .before .before .answer in
     let q = c .before .before .before .before .before .before .before .before .before .before .before .read-question in
     let s = c .before .before .before .before .before .before .before .before .before .before .before .before .before .before .before .before .before .before .before .before in
@@ -53,7 +53,7 @@ mul-cells c =
     omega (arith, cells-fit (s .args .text .now) (q .last .1 .0) (q .last .1 .1 .0) (q .last .1 .1 .1 .0) (q .ensures) (a .given .0 .0) (a .given .0 .1 .0) (a .given .1) lent)
 
 slice-reshare-prefix-answer-question : tie.Need-slice-reshare-prefix-answer-question
-slice-reshare-prefix-answer-question c = 
+slice-reshare-prefix-answer-question c =
     let a = c .before .before .before .answer in
     let q = c .before .before .before .before .before .before .before .before .before .before .before .read-question in
     let s = c .before .before .before .before .before .before .before .before .before .before .before .before .before .before .before .before .before .before .before .before in
@@ -61,7 +61,7 @@ slice-reshare-prefix-answer-question c =
     legs-room (s .args .text .now) (q .last .1 .0) (q .last .1 .1 .0) (q .last .1 .1 .1 .0) (q .ensures) (a .given .0 .0) (a .given .0 .1 .0) (a .given .1) lent
 
 slice-aggregate-answer-question : tie.Need-slice-aggregate-answer-question
-slice-aggregate-answer-question c = 
+slice-aggregate-answer-question c =
     let a = c .before .before .before .before .answer in
     let q = c .before .before .before .before .before .before .before .before .before .before .before .before .read-question in
     let s = c .before .before .before .before .before .before .before .before .before .before .before .before .before .before .before .before .before .before .before .before .before in
@@ -69,7 +69,7 @@ slice-aggregate-answer-question c =
     legs-size (s .args .text .now) (q .last .1 .0) (q .last .1 .1 .0) (q .last .1 .1 .1 .0) (q .ensures) (a .given .0 .0) (a .given .0 .1 .0) (a .given .1) lent
 
 slice-reshare-prefix-answer-question-2 : tie.Need-slice-reshare-prefix-answer-question-2
-slice-reshare-prefix-answer-question-2 c = 
+slice-reshare-prefix-answer-question-2 c =
     let a = c .before .before .before .before .answer in
     let q = c .before .before .before .before .before .before .before .before .before .before .before .before .read-question in
     let s = c .before .before .before .before .before .before .before .before .before .before .before .before .before .before .before .before .before .before .before .before .before in
@@ -77,7 +77,7 @@ slice-reshare-prefix-answer-question-2 c =
     latest-room (s .args .text .now) (q .last .1 .0) (q .last .1 .1 .0) (q .last .1 .1 .1 .0) (q .ensures) (a .given .0 .0) (a .given .0 .1 .0) (a .given .1) lent
 
 slice-aggregate-answer-question-2 : tie.Need-slice-aggregate-answer-question-2
-slice-aggregate-answer-question-2 c = 
+slice-aggregate-answer-question-2 c =
     let a = c .before .before .before .before .before .answer in
     let q = c .before .before .before .before .before .before .before .before .before .before .before .before .before .read-question in
     let s = c .before .before .before .before .before .before .before .before .before .before .before .before .before .before .before .before .before .before .before .before .before .before in
@@ -85,7 +85,7 @@ slice-aggregate-answer-question-2 c =
     latest-size (s .args .text .now) (q .last .1 .0) (q .last .1 .1 .0) (q .last .1 .1 .1 .0) (q .ensures) (a .given .0 .0) (a .given .0 .1 .0) (a .given .1) lent
 
 slice-relend-prefix-answer-question : tie.Need-slice-relend-prefix-answer-question
-slice-relend-prefix-answer-question c = 
+slice-relend-prefix-answer-question c =
     let a = c .before .before .before .before .before .answer in
     let q = c .before .before .before .before .before .before .before .before .before .before .before .before .before .read-question in
     let s = c .before .before .before .before .before .before .before .before .before .before .before .before .before .before .before .before .before .before .before .before .before .before in
@@ -93,7 +93,7 @@ slice-relend-prefix-answer-question c =
     stops-room (s .args .text .now) (q .last .1 .0) (q .last .1 .1 .0) (q .last .1 .1 .1 .0) (q .ensures) (a .given .0 .0) (a .given .0 .1 .0) (a .given .1) lent
 
 slice-aggregate-answer-question-3 : tie.Need-slice-aggregate-answer-question-3
-slice-aggregate-answer-question-3 c = 
+slice-aggregate-answer-question-3 c =
     let a = c .before .before .before .before .before .before .answer in
     let q = c .before .before .before .before .before .before .before .before .before .before .before .before .before .before .read-question in
     let s = c .before .before .before .before .before .before .before .before .before .before .before .before .before .before .before .before .before .before .before .before .before .before .before in
@@ -116,7 +116,7 @@ same-length-8 : tie.Need-same-length-8
 same-length-8 c = search needs
 
 returns-2 : tie.Need-returns-2
-returns-2 c = 
+returns-2 c =
     let a = c .before .before .before .before .before .before .before .before .before .before .before .before .answer in
     let q = c .before .before .before .before .before .before .before .before .before .before .before .before .before .before .before .before .before .before .before .before .read-question in
     let s = c .before .before .before .before .before .before .before .before .before .before .before .before .before .before .before .before .before .before .before .before .before .before .before .before .before .before .before .before .before in

@@ -1,0 +1,153 @@
+// Replays the runs of document 01 over the library's own entries, a line each: what was asked, and what came back.
+use theory::CutStep;
+
+fn say(text: &[u8]) {
+    let _ = io::write_all(1, text);
+}
+
+fn say_number(n: u64) {
+    let _ = io::print_decimal(1, n);
+}
+
+fn say_byte(n: u8) {
+    say_number(n as u64);
+}
+
+fn say_stop(n: u32) {
+    say_number(n as u64);
+}
+
+// A pattern: its refusal number, order and mask.
+fn show_pattern(k: usize, index: usize) {
+    let found = mittenschist::reconnection_at(k, index);
+    let pattern = found.reconnection;
+    let order = pattern.segment_order;
+    say(b"pattern ");
+    say_number(found.refusal as u64);
+    say(b" order ");
+    say_byte(order[0]);
+    say_byte(order[1]);
+    say_byte(order[2]);
+    say_byte(order[3]);
+    say_byte(order[4]);
+    say_byte(order[5]);
+    say(b" mask ");
+    say_number(pattern.reverse_mask as u64);
+    say(b"\n");
+}
+
+// Steps through the cut sets of four stops, at most 100 of them, and counts them.
+fn count_cut_sets(k: usize, cuts: &mut [usize]) -> u64 {
+    let mut count = 1u64;
+    while count < 100 {
+        let step = mittenschist::next_cut_set(k, 4, cuts);
+        let CutStep::Moved = step else {
+            return count;
+        };
+        count += 1;
+    }
+    count
+}
+
+fn show_cut_sets(k: usize, cuts: &mut [usize]) {
+    say(b"cut sets ");
+    say_number(count_cut_sets(k, cuts));
+    say(b"\n");
+}
+
+fn say_result(result: &[u64]) {
+    for i in 0..result.len() {
+        say(b" ");
+        say_number(result[i]);
+    }
+}
+
+fn say_route(route: &[u32]) {
+    for i in 0..route.len() {
+        say(b" ");
+        say_stop(route[i]);
+    }
+}
+
+fn show_polished(refused: u32, result: &[u64], route: &[u32]) {
+    say(b"polish ");
+    say_number(refused as u64);
+    say(b" result");
+    say_result(result);
+    say(b" route");
+    say_route(route);
+    say(b"\n");
+}
+
+// The text case T with another k, allowance, longest leg or deadline of location 1.
+fn show_t(k: usize, allowance: u64, leg: u32, latest: u32) {
+    let legs = [0u32, leg, 1, 1, 0, 5, 5, 1, 0];
+    let deadlines = [4294967295u32, latest, 4294967295];
+    let mut route = [1u32, 2];
+    let mut result = [0u64; 5];
+    let refused = mittenschist::mittenschist_polish_route(
+        k,
+        allowance,
+        3,
+        &legs,
+        &deadlines,
+        0,
+        &mut route,
+        &mut result,
+    );
+    show_polished(refused, &result, &route);
+}
+
+// A route of one location, as long as the slice.
+fn show_long(route: &mut [u32]) {
+    let legs = [1u32];
+    let deadlines = [4294967295u32];
+    let mut result = [0u64; 5];
+    let refused = mittenschist::mittenschist_polish_route(
+        3,
+        1000,
+        1,
+        &legs,
+        &deadlines,
+        0,
+        route,
+        &mut result,
+    );
+    show_polished(refused, &result, &route[..0]);
+}
+
+fn show_patterns() {
+    show_pattern(3, 0);
+    show_pattern(3, 1);
+    show_pattern(3, 2);
+    show_pattern(3, 3);
+    show_pattern(3, 4);
+    show_pattern(3, 5);
+    show_pattern(3, 6);
+    show_pattern(3, 7);
+    show_pattern(4, 7);
+    show_pattern(5, 382);
+    show_pattern(5, 383);
+    show_pattern(6, 0);
+}
+
+fn main() {
+    show_patterns();
+    show_cut_sets(3, &mut [0, 1, 2]);
+    show_cut_sets(4, &mut [0, 1, 2, 3]);
+    show_cut_sets(5, &mut [0, 1, 2, 3, 4]);
+    show_t(3, 100, 5, 4294967295);
+    show_t(3, 11, 5, 4294967295);
+    show_t(3, 10, 5, 4294967295);
+    show_t(3, 3, 5, 4294967295);
+    show_t(3, 100, 5, 1);
+    show_t(3, 100, 5, 2);
+    show_t(4, 100, 5, 4294967295);
+    show_t(4, 0, 5, 4294967295);
+    show_t(2, 100, 5, 4294967295);
+    show_t(3, 4, 5, 4294967295);
+    show_t(3, 100, 1000001, 4294967295);
+    show_t(6, 100, 1000001, 4294967295);
+    show_long(&mut [0u32; 512]);
+    show_long(&mut [0u32; 513]);
+}
