@@ -1,22 +1,22 @@
 -- Where the states are entered and left and the legs inside them, segment by segment. Assumes nothing.
-use mathlib.Core.Path.{_≡_, refl, sym, ap, _∙_}
+use mathlib.Core.Path.{_≡_, sym, ap, _∙_}
 use mathlib.Core.Bool.{Bool, true, false, cond}
-use mathlib.Core.List.{List, [], _∷_}
-use Prim.Native.Nat.{ℕ, zero, suc, _+_, _-_, _*_, _/_, _%_, _≤_, _<_}
+use mathlib.Core.List.{List}
+use Prim.Native.Nat.{ℕ, suc, _+_, _-_, _*_, _/_, _%_, _≤_, _<_}
 use native.Mathlib.Omega.{arith}
 use borrow.Author.Count.{below-more}
 use borrow.Author.Tests.{eq-eqb, ne-eqb}
 use lib.Dec.{eqb}
 use lib.ListN.{length, getD, set, length-set}
 use lib.Seq.{slice, getD-set-same, getD-set-other}
-use Rattle.theory.specs.Route.{segments, reverse-if}
+use Rattle.theory.specs.Route.{reverse-if}
 use Rattle.theory.specs.Costs.{last-of, first-of, inner, forward, backward}
-use Rattle.theory.specs.Tables.{Stops, CutSet}
+use Rattle.theory.specs.Tables.{legs-only, Stops, CutSet}
 use Rattle.theory.proofs.Delta.{placed-inner}
-use Rattle.costs.specs.RouteCosts.{leg, running, Sums}
-use Rattle.costs.proofs.Segments.{cut-below, segment-is, segment-filled, first-placed, last-placed}
+use Rattle.costs.specs.RouteCosts.{leg, running, Sums, head-end, tail-start}
+use Rattle.costs.proofs.Segments.{cut-below, segment-is, segment-filled, first-placed, last-placed, head-known, tail-known}
 use Rattle.joints.specs.States.{state-count, placed-in}
-use Rattle.joints.specs.JointTable.{Rises, Ends, Segment, SegmentEnds, Segmented, inner-sum, StateEnds}
+use Rattle.joints.specs.JointTable.{Joinable, Rises, Ends, Segment, SegmentEnds, Segmented, inner-sum, StateEnds}
 use Rattle.joints.proofs.States.{part-at, halves}
 
 -- Two more places of an array that holds f.
@@ -43,60 +43,61 @@ inner-sum-at forwards backwards cs s i false h e =
     let from : s / 2 ≡ i - 1 = omega arith in
     rw (ne-eqb (s % 2) 1 (λ (q : s % 2 ≡ 1). omega arith), of, from)
 
-module _ (cs r : List ℕ) (cut-set : CutSet (length cs) (length r) cs) where
-  -- State s of segment i.
-  module _ (s i : ℕ) (b : Bool) (h : 1 ≤ i) (k : i < length cs) (e : s ≡ 2 * (i - 1) + cond b 1 0) where
-    pub part-slice : placed-in cs r s ≡ reverse-if b (slice (getD cs (i - 1) 0) (getD cs i 0) r)
-    part-slice = part-at cs r s i b h e ∙ ap (reverse-if b) (segment-is cs r cut-set i h k)
+-- State s of segment i.
+module _ (cs r : List ℕ) (cut-set : CutSet (length cs) (length r) cs) (s i : ℕ) (b : Bool) (h : 1 ≤ i) (k : i < length cs) (e : s ≡ 2 * (i - 1) + cond b 1 0) where
+  part-slice : placed-in cs r s ≡ reverse-if b (slice (getD cs (i - 1) 0) (getD cs i 0) r)
+  part-slice = part-at cs r s i b h e ∙ ap (reverse-if b) (segment-is cs r cut-set i h k)
 
-    pub entry-at : cond b (getD r (getD cs i 0 - 1) 0) (getD r (getD cs (i - 1) 0) 0) ≡ first-of (placed-in cs r s) 0
-    entry-at = sym (ap (λ l. first-of l 0) part-slice ∙ first-placed r (getD cs (i - 1) 0) (getD cs i 0) (segment-filled cs r cut-set i h k) (cut-below cs r cut-set i k) b 0)
+  entry-at : cond b (getD r (getD cs i 0 - 1) 0) (getD r (getD cs (i - 1) 0) 0) ≡ first-of (placed-in cs r s) 0
+  entry-at = sym (ap (λ l. first-of l 0) part-slice ∙ first-placed r (getD cs (i - 1) 0) (getD cs i 0) (segment-filled cs r cut-set i h k) (cut-below cs r cut-set i k) b 0)
 
-    pub exit-at : cond b (getD r (getD cs (i - 1) 0) 0) (getD r (getD cs i 0 - 1) 0) ≡ last-of 0 (placed-in cs r s)
-    exit-at = sym (ap (last-of 0) part-slice ∙ last-placed r (getD cs (i - 1) 0) (getD cs i 0) (segment-filled cs r cut-set i h k) (cut-below cs r cut-set i k) b 0)
+  exit-at : cond b (getD r (getD cs (i - 1) 0) 0) (getD r (getD cs i 0 - 1) 0) ≡ last-of 0 (placed-in cs r s)
+  exit-at = sym (ap (last-of 0) part-slice ∙ last-placed r (getD cs (i - 1) 0) (getD cs i 0) (segment-filled cs r cut-set i h k) (cut-below cs r cut-set i k) b 0)
 
-  module _ (forwards backwards entries exits inside : List ℕ) (given : Segmented r forwards backwards cs entries exits inside) (i : ℕ) (h : 1 ≤ i) (k : i < length cs) where
-    pub segment-asked : {entries′ exits′ inside′ : List ℕ} → Ends entries′ exits′ inside′ → Segment r forwards backwards (getD cs (i - 1) 0) (getD cs i 0) (2 * i - 2) entries′ exits′ inside′
-    segment-asked places =
-        let f = segment-filled cs r cut-set i h k in
-        let w = cut-below cs r cut-set i k in
-        record {
-          filled = f;
-          within = w;
-          short = cut-set .short;
-          forward-places = given .forwards .places;
-          forward-rise = given .forwards .rise _ _ (omega arith) (omega arith);
-          backward-places = given .backwards .places;
-          backward-rise = given .backwards .rise _ _ (omega arith) (omega arith);
-          room = omega (arith, cut-set .most);
-          places = places;
-        }
+-- ---- segment by segment
 
-    pub more-ends : {e x n e′ x′ n′ : List ℕ} → StateEnds r forwards backwards cs (2 * (i - 1)) e x n →
-        SegmentEnds r forwards backwards (getD cs (i - 1) 0) (getD cs i 0) (2 * i - 2) e x n e′ x′ n′ → StateEnds r forwards backwards cs (2 * (i + 1 - 1)) e′ x′ n′
-    more-ends {e} {x} {n} w p =
-        let s : ℕ = 2 * i - 2 in
-        let even : 2 * i - 2 ≡ 2 * (i - 1) + 0 = omega arith in
-        let odd : 2 * i - 2 + 1 ≡ 2 * (i - 1) + 1 = omega arith in
-        let two : 2 * (i + 1 - 1) ≡ 2 * i - 2 + 1 + 1 = omega arith in
-        let room : 2 * i - 2 + 1 < 8 = omega (arith, cut-set .most) in
-        let same : 2 * (i - 1) ≡ 2 * i - 2 = omega arith in
-        rw (two, p .entered, p .left, p .legs)
-        (record {
-          places = record {
-            entry-places = simp length-set (w .places .entry-places);
-            exit-places = simp length-set (w .places .exit-places);
-            inside-places = simp length-set (w .places .inside-places);
-          };
-          entry = two-more (λ j. first-of (placed-in cs r j) 0) e s _ _ (omega (arith, w .places .entry-places)) (λ j b. w .entry j (omega arith)) (entry-at s i false h k even) (entry-at (s + 1) i true h k odd);
-          exit = two-more (λ j. last-of 0 (placed-in cs r j)) x s _ _ (omega (arith, w .places .exit-places)) (λ j b. w .exit j (omega arith)) (exit-at s i false h k even) (exit-at (s + 1) i true h k odd);
-          legs = two-more (inner-sum forwards backwards cs) n s _ _ (omega (arith, w .places .inside-places)) (λ j b. w .legs j (omega arith))
-              (inner-sum-at forwards backwards cs s i false h even) (inner-sum-at forwards backwards cs (s + 1) i true h odd);
-        })
+pub no-ends : {r forwards backwards cs entries exits inside : List ℕ} → Segmented r forwards backwards cs entries exits inside → StateEnds r forwards backwards cs 0 entries exits inside
+no-ends given = record { places = given .places; entry = λ s h. absurd (omega arith); exit = λ s h. absurd (omega arith); legs = λ s h. absurd (omega arith) }
 
-  pub no-ends : (forwards backwards entries exits inside : List ℕ) → Segmented r forwards backwards cs entries exits inside → StateEnds r forwards backwards cs 0 entries exits inside
-  no-ends forwards backwards entries exits inside given =
-      record { places = given .places; entry = λ s h. absurd (omega arith); exit = λ s h. absurd (omega arith); legs = λ s h. absurd (omega arith) }
+module _ {r forwards backwards cs entries exits inside : List ℕ} (given : Segmented r forwards backwards cs entries exits inside) (i : ℕ) (h : 1 ≤ i) (k : i < length cs) where
+  pub segment-asked : {entries′ exits′ inside′ : List ℕ} → Ends entries′ exits′ inside′ → Segment r forwards backwards (getD cs (i - 1) 0) (getD cs i 0) (2 * i - 2) entries′ exits′ inside′
+  segment-asked places =
+      let f = segment-filled cs r (given .cut-set) i h k in
+      let w = cut-below cs r (given .cut-set) i k in
+      record {
+        filled = f;
+        within = w;
+        short = given .cut-set .short;
+        forward-places = given .forwards .places;
+        forward-rise = given .forwards .rise _ _ (omega arith) (omega arith);
+        backward-places = given .backwards .places;
+        backward-rise = given .backwards .rise _ _ (omega arith) (omega arith);
+        room = omega (arith, given .cut-set .most);
+        places = places;
+      }
+
+  pub more-ends : {e x n e′ x′ n′ : List ℕ} → StateEnds r forwards backwards cs (2 * (i - 1)) e x n →
+      SegmentEnds r forwards backwards (getD cs (i - 1) 0) (getD cs i 0) (2 * i - 2) e x n e′ x′ n′ → StateEnds r forwards backwards cs (2 * (i + 1 - 1)) e′ x′ n′
+  more-ends {e} {x} {n} w p =
+      let s : ℕ = 2 * i - 2 in
+      let even : 2 * i - 2 ≡ 2 * (i - 1) + 0 = omega arith in
+      let odd : 2 * i - 2 + 1 ≡ 2 * (i - 1) + 1 = omega arith in
+      let two : 2 * (i + 1 - 1) ≡ 2 * i - 2 + 1 + 1 = omega arith in
+      let room : 2 * i - 2 + 1 < 8 = omega (arith, given .cut-set .most) in
+      rw (two, p .entered, p .left, p .legs)
+      (record {
+        places = record {
+          entry-places = simp length-set (w .places .entry-places);
+          exit-places = simp length-set (w .places .exit-places);
+          inside-places = simp length-set (w .places .inside-places);
+        };
+        entry = two-more (λ j. first-of (placed-in cs r j) 0) e s _ _ (omega (arith, w .places .entry-places)) (λ j b. w .entry j (omega arith))
+            (entry-at cs r (given .cut-set) s i false h k even) (entry-at cs r (given .cut-set) (s + 1) i true h k odd);
+        exit = two-more (λ j. last-of 0 (placed-in cs r j)) x s _ _ (omega (arith, w .places .exit-places)) (λ j b. w .exit j (omega arith))
+            (exit-at cs r (given .cut-set) s i false h k even) (exit-at cs r (given .cut-set) (s + 1) i true h k odd);
+        legs = two-more (inner-sum forwards backwards cs) n s _ _ (omega (arith, w .places .inside-places)) (λ j b. w .legs j (omega arith))
+            (inner-sum-at forwards backwards cs s i false h even) (inner-sum-at forwards backwards cs (s + 1) i true h odd);
+      })
 
 -- ---- what the running sums say of them
 
@@ -104,8 +105,16 @@ pub sums-rise : (b : Bool) (d : ℕ → ℕ → ℕ) (r sums : List ℕ) → Sum
 sums-rise b d r sums w =
     record { places = w .places; rise = λ s t h k. omega (arith, w .each s (omega arith), w .each t k, placed-inner d r b s t h k) }
 
-module _ (locations : ℕ) (legs r cs forwards backwards : List ℕ) (cut-set : CutSet (length cs) (length r) cs) (stops : Stops locations r)
-    (fs : Sums r (forward (leg locations legs) r) forwards) (bs : Sums r (backward (leg locations legs) r) backwards) where
+module _ {locations : ℕ} {legs : List ℕ} {depot : ℕ} {r forwards backwards cs table : List ℕ} (given : Joinable locations legs depot r forwards backwards cs table) where
+  abbrev stops : Stops locations r
+  stops = given .measurable .stops
+
+  pub head-below : head-end (legs-only locations legs depot) r cs < locations
+  head-below = head-known cs r (given .cut-set) locations depot stops (given .measurable .depot-known)
+
+  pub tail-below : tail-start (legs-only locations legs depot) r cs < locations
+  tail-below = tail-known cs r (given .cut-set) locations depot stops (given .measurable .depot-known)
+
   -- The legs inside a segment, as it is placed.
   abbrev between : Bool → ℕ → ℕ → ℕ
   between b start end = cond b (getD backwards (end - 1) 0 - getD backwards start 0) (getD forwards (end - 1) 0 - getD forwards start 0)
@@ -113,14 +122,14 @@ module _ (locations : ℕ) (legs r cs forwards backwards : List ℕ) (cut-set : 
   between-is : (b : Bool) (start end : ℕ) → start < end → end ≤ length r → between b start end ≡ inner (leg locations legs) (reverse-if b (slice start end r))
   between-is true start end h k =
       let e : suc (end - 1) ≡ end = omega arith in
-      omega (arith, bs .each start (omega arith), bs .each (end - 1) (omega arith), rw e at (placed-inner (leg locations legs) r true start (end - 1) (omega arith) (omega arith)))
+      omega (arith, given .backwards .each start (omega arith), given .backwards .each (end - 1) (omega arith), rw e at (placed-inner (leg locations legs) r true start (end - 1) (omega arith) (omega arith)))
   between-is false start end h k =
       let e : suc (end - 1) ≡ end = omega arith in
-      omega (arith, fs .each start (omega arith), fs .each (end - 1) (omega arith), rw e at (placed-inner (leg locations legs) r false start (end - 1) (omega arith) (omega arith)))
+      omega (arith, given .forwards .each start (omega arith), given .forwards .each (end - 1) (omega arith), rw e at (placed-inner (leg locations legs) r false start (end - 1) (omega arith) (omega arith)))
 
   between-small : (b : Bool) (start end : ℕ) → start < end → end ≤ length r → between b start end ≤ 1000000 * 512
-  between-small true start end h k = omega (arith, bs .small (end - 1) (omega arith), stops .short)
-  between-small false start end h k = omega (arith, fs .small (end - 1) (omega arith), stops .short)
+  between-small true start end h k = omega (arith, given .backwards .small (end - 1) (omega arith), stops .short)
+  between-small false start end h k = omega (arith, given .forwards .small (end - 1) (omega arith), stops .short)
 
   known-end : (b : Bool) (start end : ℕ) → start < end → end ≤ length r → cond b (getD r (end - 1) 0) (getD r start 0) < locations
   known-end true start end h k = stops .known (end - 1) (omega arith)
@@ -144,22 +153,22 @@ module _ (locations : ℕ) (legs r cs forwards backwards : List ℕ) (cut-set : 
     below = omega arith
 
     filled : getD cs (i - 1) 0 < getD cs i 0
-    filled = segment-filled cs r cut-set i first-one below
+    filled = segment-filled cs r (given .cut-set) i first-one below
 
     within : getD cs i 0 ≤ length r
-    within = cut-below cs r cut-set i below
+    within = cut-below cs r (given .cut-set) i below
 
     pub inside-is : inner-sum forwards backwards cs s ≡ inner (leg locations legs) (placed-in cs r s)
     inside-is =
         sym (inner-sum-at forwards backwards cs s i b first-one (halves s))
         ∙ between-is b (getD cs (i - 1) 0) (getD cs i 0) filled within
-        ∙ ap (inner (leg locations legs)) (sym (part-slice cs r cut-set s i b first-one below (halves s)))
+        ∙ ap (inner (leg locations legs)) (sym (part-slice cs r (given .cut-set) s i b first-one below (halves s)))
 
     pub inside-small : inner-sum forwards backwards cs s ≤ 1000000 * 512
     inside-small = rw (inner-sum-at forwards backwards cs s i b first-one (halves s)) at (between-small b (getD cs (i - 1) 0) (getD cs i 0) filled within)
 
     pub entry-known : first-of (placed-in cs r s) 0 < locations
-    entry-known = rw (entry-at cs r cut-set s i b first-one below (halves s)) at (known-end b (getD cs (i - 1) 0) (getD cs i 0) filled within)
+    entry-known = rw (entry-at cs r (given .cut-set) s i b first-one below (halves s)) at (known-end b (getD cs (i - 1) 0) (getD cs i 0) filled within)
 
     pub exit-known : last-of 0 (placed-in cs r s) < locations
-    exit-known = rw (exit-at cs r cut-set s i b first-one below (halves s)) at (known-start b (getD cs (i - 1) 0) (getD cs i 0) filled within)
+    exit-known = rw (exit-at cs r (given .cut-set) s i b first-one below (halves s)) at (known-start b (getD cs (i - 1) 0) (getD cs i 0) filled within)

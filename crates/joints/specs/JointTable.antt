@@ -1,12 +1,11 @@
 -- The joint table of a cut set: what it costs to go on from one state to another, shared by all patterns on the cut set.
 use mathlib.Core.Path.{_≡_}
-use mathlib.Core.Bool.{Bool, cond}
+use mathlib.Core.Bool.{cond}
 use mathlib.Core.Logic.{_≢_}
 use mathlib.Core.List.{List, [], _∷_}
-use Prim.Native.Nat.{ℕ, zero, suc, _+_, _-_, _*_, _/_, _%_, _^_, _≤_, _<_}
+use Prim.Native.Nat.{ℕ, _+_, _-_, _*_, _/_, _%_, _^_, _≤_, _<_}
 use lib.Dec.{eqb}
 use lib.ListN.{length, getD, set}
-use Rattle.theory.specs.Route.{Problem}
 use Rattle.theory.specs.Costs.{last-of, first-of, inner, forward, backward}
 use Rattle.theory.specs.Tables.{legs-only, LegTable, Measurable, CutSet}
 use Rattle.costs.specs.RouteCosts.{leg, Sums, head-end, tail-start}

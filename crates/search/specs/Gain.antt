@@ -2,7 +2,7 @@
 use mathlib.Core.Path.{_≡_}
 use mathlib.Core.Bool.{Bool, true, false}
 use mathlib.Core.List.{List}
-use Prim.Native.Nat.{ℕ, suc, _*_, _≤_, _<_}
+use Prim.Native.Nat.{ℕ, _*_, _≤_, _<_}
 use lib.ListN.{length, getD, take}
 use Rattle.theory.specs.Moves.{Pattern}
 use Rattle.theory.specs.Scan.{improves}
@@ -55,18 +55,19 @@ gains locations legs latest depot route cuts orders masks i =
     improves (search-of (problem locations legs latest depot) (pattern-rows (length cuts) orders masks) (length cuts) (length route)) route
     (move-at (pattern-rows (length cuts) orders masks) cuts i)
 
-pub record Buildable (route cuts orders masks : List ℕ) (i : ℕ) (out : List ℕ) : Type 0 where
+-- The cut set and the pattern that make a candidate.
+pub record Candidate (route cuts orders masks : List ℕ) (i : ℕ) : Type 0 where
   pub cut-set : CutSet (length cuts) (length route) cuts
   pub patterns : PatternRows (length cuts) orders masks
   pub listed : i < length masks
+
+pub record Buildable (route cuts orders masks : List ℕ) (i : ℕ) (out : List ℕ) : Type 0 where
+  pub of : Candidate route cuts orders masks i
   pub room : length out ≡ length route
 
--- A candidate whose deadlines can be checked.
-pub record Rival (locations : ℕ) (legs latest : List ℕ) (depot : ℕ) (route cuts orders masks : List ℕ) (i : ℕ) (spare : List ℕ) : Type 0 where
+pub record Checkable (locations : ℕ) (legs latest : List ℕ) (depot : ℕ) (route cuts orders masks : List ℕ) (i : ℕ) (spare : List ℕ) : Type 0 where
+  pub of : Candidate route cuts orders masks i
   pub timed : Timed locations legs latest depot route
-  pub cut-set : CutSet (length cuts) (length route) cuts
-  pub patterns : PatternRows (length cuts) orders masks
-  pub listed : i < length masks
   pub places : length spare ≡ 512
 
 -- "A round keeps every deadline when none of its stops is late", of the candidate.

@@ -3,7 +3,7 @@ use theory::Deadline;
 ghost use mathlib.Core.Path.{_≡_};
 ghost use lib.ListN.{length};
 ghost use Rattle.theory.specs.Tables.{problem, pattern-rows};
-ghost use Rattle.search.specs.Gain.{candidate, Buildable, Rival, Judged, Chains, NextShorter, Tabled, FirstKept, Gainable, Gained};
+ghost use Rattle.search.specs.Gain.{candidate, Buildable, Checkable, Judged, Chains, NextShorter, Tabled, FirstKept, Gainable, Gained};
 
 // The candidate of pattern i.
 fn build_candidate(
@@ -36,7 +36,7 @@ fn keeps_deadlines(
     i: usize,
     spare: &mut [u32],
 ) -> bool
-    requires { ⌜ Rival locations (now legs) (now latest) depot (now route) (now cuts) (now orders) (now masks) i (now spare) ⌝ }
+    requires { ⌜ Checkable locations (now legs) (now latest) depot (now route) (now cuts) (now orders) (now masks) i (now spare) ⌝ }
     ensures { λ r. ⌜ Judged (problem locations (now (legs .entry)) (now (latest .entry)) depot) (now (route .entry)) (now (cuts .entry)) (now (orders .entry)) (now (masks .entry)) i r (now (spare .exit)) ⌝ }
 {
     let n = route.len();
