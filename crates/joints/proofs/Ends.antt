@@ -10,7 +10,7 @@ use lib.Dec.{eqb}
 use lib.ListN.{length, getD, set, length-set}
 use lib.Seq.{slice, getD-set-same, getD-set-other}
 use Rattle.theory.specs.Route.{reverse-if}
-use Rattle.theory.specs.Costs.{last-of, first-of, inner, forward, backward}
+use Rattle.theory.specs.Costs.{last-of, first-of, inner}
 use Rattle.theory.specs.Tables.{legs-only, Stops, CutSet}
 use Rattle.theory.proofs.Delta.{placed-inner}
 use Rattle.costs.specs.RouteCosts.{leg, running, Sums, head-end, tail-start}

@@ -52,7 +52,7 @@ row-put {k} {order} {mask} {i} {rows} {v₀} {v₁} {v₂} {v₃} s h n e₀ e�
     record {
       places = simp length-set n;
       put = slice-four rows (4 * i) v₀ v₁ v₂ v₃ (omega arith)
-      ∙ rw (e₀ .0, e₁ .0, e₂ .0, e₃ .0) (four-states k order mask (s .least) (s .most) (s .middle .long));
+          ∙ rw (e₀ .0, e₁ .0, e₂ .0, e₃ .0) (four-states k order mask (s .least) (s .most) (s .middle .long));
       others = λ x l. earlier-row r₃ x (4 * i + 3) v₃ (omega arith) ∙ earlier-row r₂ x (4 * i + 2) v₂ (omega arith) ∙ earlier-row r₁ x (4 * i + 1) v₁ (omega arith) ∙ earlier-row rows x (4 * i) v₀ (omega arith);
       small = λ c l b.
           set-small r₃ (4 * i + 3) v₃ c 8 (e₃ .1)

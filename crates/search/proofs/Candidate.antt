@@ -2,14 +2,14 @@
 use mathlib.Core.Path.{_≡_, sym, ap, _∙_}
 use mathlib.Core.Bool.{Bool, true, false}
 use mathlib.Core.List.{List, [], _++_}
-use Prim.Native.Nat.{ℕ, _+_, _-_, _<_}
+use Prim.Native.Nat.{ℕ, _+_, _-_}
 use native.Mathlib.Omega.{arith}
 use lib.ListN.{length, getD, take, drop, length-append, length-drop}
-use lib.Seq.{take-at}
+use lib.Seq.{take-at, length-take-le}
 use Rattle.theory.specs.Moves.{Move, total}
 use Rattle.theory.specs.Route.{Problem, reconnected, feasible}
 use Rattle.theory.specs.Polish.{move-at}
-use Rattle.theory.specs.Tables.{problem, Timed, Order, CutSet, PatternRows, pattern-rows}
+use Rattle.theory.specs.Tables.{problem, Order, pattern-rows}
 use Rattle.theory.specs.Answers.{Checked}
 use Rattle.theory.specs.declared.Deadline.{Deadline}
 use Rattle.theory.specs.declared.Deadline.the-variants as Check
@@ -18,7 +18,7 @@ use Rattle.theory.proofs.Rows.{lent-row, lent-at, listed-for-k}
 use Rattle.theory.proofs.ForK.{for-k-order}
 use Rattle.theory.proofs.Stops.{as-many, stops-rearranged}
 use Rattle.deadlines.proofs.Answer.{kept-feasible, late-infeasible}
-use Rattle.search.specs.Gain.{candidate, Candidate, Checkable, Judged}
+use Rattle.search.specs.Gain.{candidate, Candidate, TimedFront, Checkable, Judged}
 
 module _ {r cs orders masks : List ℕ} {i : ℕ} (given : Candidate r cs orders masks i) where
   abbrev move : Move
@@ -43,36 +43,40 @@ module _ {r cs orders masks : List ℕ} {i : ℕ} (given : Candidate r cs orders
   as-long : length (candidate r cs orders masks i) ≡ length r
   as-long = as-many r _ same-stops
 
--- Built into the first places of the spare array, and checked there.
-module _ {locations : ℕ} {legs latest : List ℕ} {depot : ℕ} {r cs orders masks : List ℕ} {i : ℕ} {spare : List ℕ} (given : Checkable locations legs latest depot r cs orders masks i spare)
-    {out : List ℕ} (e : out ≡ candidate r cs orders masks i) where
-  out-length : length out ≡ length r
-  out-length = ap length e ∙ as-long (given .of)
+-- What the check's answer says of a route.
+pub kept-told : (P : Problem) (r : List ℕ) {answer : Deadline} → answer ≡ Check.Kept → Checked P r answer → true ≡ feasible P r
+kept-told P r a told = sym (kept-feasible P r (rw a at told))
 
-  front : take (length r) (out ++ drop (length r) spare) ≡ candidate r cs orders masks i
-  front = take-at out (drop (length r) spare) (length r) out-length ∙ e
+pub late-told : (P : Problem) (r : List ℕ) {answer : Deadline} {p : ℕ} → answer ≡ Check.Late p → Checked P r answer → false ≡ feasible P r
+late-told P r a told = sym (late-infeasible P r (rw a at told))
 
-  pub front-length : length r ≡ length (take (length r) (out ++ drop (length r) spare))
-  front-length = sym (ap length front ∙ as-long (given .of))
+-- Built at the front of the spare array.
+module _ {locations : ℕ} {legs latest : List ℕ} {depot : ℕ} {r cs orders masks : List ℕ} {i : ℕ} {spare : List ℕ} (given : Checkable locations legs latest depot r cs orders masks i spare) where
+  pub room : length (take (length r) spare) ≡ length r
+  room = length-take-le (length r) spare (omega (arith, given .places, given .of .cut-set .short))
 
-  pub front-timed : Timed locations legs latest depot (take (length r) (out ++ drop (length r) spare))
-  front-timed =
-      let m = given .timed .measurable in
-      rw front
-      (record {
-        measurable = record { table = m .table; depot-known = m .depot-known; stops = stops-rearranged r _ (same-stops (given .of)) locations (m .stops) };
-        deadlines = given .timed .deadlines;
-      })
+  module _ {out : List ℕ} (e : out ≡ candidate r cs orders masks i) where
+    out-length : length out ≡ length r
+    out-length = ap length e ∙ as-long (given .of)
 
-  judged : (kept : Bool) → kept ≡ feasible (problem locations legs latest depot) (candidate r cs orders masks i) →
-      Judged (problem locations legs latest depot) r cs orders masks i kept (out ++ drop (length r) spare)
-  judged kept k = record { is = k; built = front; places = simp (length-append, length-drop) (omega (arith, out-length, given .of .cut-set .short, given .places)) }
+    front : take (length r) (out ++ drop (length r) spare) ≡ candidate r cs orders masks i
+    front = take-at out (drop (length r) spare) (length r) out-length ∙ e
 
-  -- What the check's answer says of it.
-  pub judged-kept : {answer : Deadline} → answer ≡ Check.Kept → Checked (problem locations legs latest depot) (take (length r) (out ++ drop (length r) spare)) answer →
-      Judged (problem locations legs latest depot) r cs orders masks i true (out ++ drop (length r) spare)
-  judged-kept a told = judged true (sym (kept-feasible (problem locations legs latest depot) _ (rw (a, front) at told)))
+    spare-length : length (out ++ drop (length r) spare) ≡ 512
+    spare-length = simp (length-append, length-drop) (omega (arith, out-length, given .of .cut-set .short, given .places))
 
-  pub judged-late : {answer : Deadline} {p : ℕ} → answer ≡ Check.Late p → Checked (problem locations legs latest depot) (take (length r) (out ++ drop (length r) spare)) answer →
-      Judged (problem locations legs latest depot) r cs orders masks i false (out ++ drop (length r) spare)
-  judged-late a told = judged false (sym (late-infeasible (problem locations legs latest depot) _ (rw (a, front) at told)))
+    pub front-timed : TimedFront locations legs latest depot r (out ++ drop (length r) spare)
+    front-timed =
+        let m = given .timed .measurable in
+        record {
+          room = omega (arith, spare-length, given .of .cut-set .short);
+          timed = rw front
+              (record {
+                measurable = record { table = m .table; depot-known = m .depot-known; stops = stops-rearranged r _ (same-stops (given .of)) locations (m .stops) };
+                deadlines = given .timed .deadlines;
+              });
+        }
+
+    pub judged : {kept : Bool} → kept ≡ feasible (problem locations legs latest depot) (take (length r) (out ++ drop (length r) spare)) →
+        Judged (problem locations legs latest depot) r cs orders masks i kept (out ++ drop (length r) spare)
+    judged k = record { is = k ∙ ap (feasible (problem locations legs latest depot)) front; built = front; places = spare-length }

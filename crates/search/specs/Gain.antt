@@ -65,6 +65,11 @@ pub record Buildable (route cuts orders masks : List ℕ) (i : ℕ) (out : List 
   pub of : Candidate route cuts orders masks i
   pub room : length out ≡ length route
 
+-- At the front of `spare` stands a route, as long as this one, whose deadlines can be checked.
+pub record TimedFront (locations : ℕ) (legs latest : List ℕ) (depot : ℕ) (route spare : List ℕ) : Type 0 where
+  pub room : length route ≤ length spare
+  pub timed : Timed locations legs latest depot (take (length route) spare)
+
 pub record Checkable (locations : ℕ) (legs latest : List ℕ) (depot : ℕ) (route cuts orders masks : List ℕ) (i : ℕ) (spare : List ℕ) : Type 0 where
   pub of : Candidate route cuts orders masks i
   pub timed : Timed locations legs latest depot route

@@ -1,9 +1,10 @@
 // The inner step of the scan: the first pattern on a cut set that improves the route and keeps every deadline. No entry: crate polishing calls it.
 use theory::Deadline;
 ghost use mathlib.Core.Path.{_≡_};
-ghost use lib.ListN.{length};
+ghost use lib.ListN.{length, take};
+ghost use Rattle.theory.specs.Route.{feasible};
 ghost use Rattle.theory.specs.Tables.{problem, pattern-rows};
-ghost use Rattle.search.specs.Gain.{candidate, Buildable, Checkable, Judged, Chains, NextShorter, Tabled, FirstKept, Gainable, Gained};
+ghost use Rattle.search.specs.Gain.{candidate, Buildable, TimedFront, Checkable, Judged, Chains, NextShorter, Tabled, FirstKept, Gainable, Gained};
 
 // The candidate of pattern i.
 fn build_candidate(
@@ -21,6 +22,26 @@ fn build_candidate(
     let at = i * width;
     let end = at + width;
     reconnection::reconnect(route, cuts, &orders[at..end], masks[i], out);
+}
+
+// Whether the candidate, which is as long as the route and stands at the front of `spare`, keeps every deadline.
+fn is_feasible(
+    locations: usize,
+    legs: &[u32],
+    latest: &[u32],
+    depot: u32,
+    route: &[u32],
+    spare: &[u32],
+) -> bool
+    requires { ⌜ TimedFront locations (now legs) (now latest) depot (now route) (now spare) ⌝ }
+    ensures { λ r. ⌜ r ≡ feasible (problem locations (now (legs .entry)) (now (latest .entry)) depot) (take (length (now (route .entry))) (now (spare .entry))) ⌝ }
+{
+    let n = route.len();
+    let answer = deadlines::check_deadlines(locations, legs, latest, depot, &spare[..n]);
+    let Deadline::Late(_) = answer else {
+        return true;
+    };
+    false
 }
 
 // Whether the candidate of pattern i, built in `spare`, keeps every deadline.
@@ -41,11 +62,7 @@ fn keeps_deadlines(
 {
     let n = route.len();
     build_candidate(route, cuts, orders, masks, i, &mut spare[..n]);
-    let answer = deadlines::check_deadlines(locations, legs, latest, depot, &spare[..n]);
-    let Deadline::Late(_) = answer else {
-        return true;
-    };
-    false
+    is_feasible(locations, legs, latest, depot, route, spare)
 }
 
 // The first pattern from `from` on that costs less than `standing`, or `limit`.
@@ -129,8 +146,28 @@ pub fn first_gain(
     requires { ⌜ Gainable locations (now legs) (now latest) depot (now route) (now forward) (now backward) (now cuts) (now orders) (now masks) (now rows) (now joint) (now spare) limit ⌝ }
     ensures { λ r. ⌜ Gained (problem locations (now (legs .entry)) (now (latest .entry)) depot) (pattern-rows (length (now (cuts .entry))) (now (orders .entry)) (now (masks .entry))) (length (now (cuts .entry))) (now (route .entry)) (now (cuts .entry)) limit r (now (joint .exit)) (now (spare .exit)) ⌝ }
 {
-    joints::fill_joint(locations, legs, depot, route, forward, backward, cuts, joint);
+    joints::fill_joint(
+        locations,
+        legs,
+        depot,
+        route,
+        forward,
+        backward,
+        cuts,
+        joint,
+    );
     first_kept(
-        locations, legs, latest, depot, route, cuts, orders, masks, rows, joint, spare, limit,
+        locations,
+        legs,
+        latest,
+        depot,
+        route,
+        cuts,
+        orders,
+        masks,
+        rows,
+        joint,
+        spare,
+        limit,
     )
 }

@@ -1,6 +1,5 @@
 use Prim.Native.Nat.{_+_, _*_}
 use Rattle.joints.proofs.Rows.{row-chain}
-
 use native.Mathlib.Omega.{arith}
 use borrow.Author.Needs.{needs}
 use Rattle.joints.proofs.chain4.Statement.{statement}

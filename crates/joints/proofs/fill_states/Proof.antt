@@ -10,7 +10,7 @@ use Rattle.joints.proofs.fill_states.Statement.{statement}
 use Rattle.joints.proofs.fill_states.Tie as tie
 
 abbrev Inv-loop : tie.InvT-loop
-Inv-loop locations legs tail count entries exits inside joint₀ a₀ joint a = 
+Inv-loop locations legs tail count entries exits inside joint₀ a₀ joint a =
     (a ≤ count)
     × Padded joint
     × ((x : ℕ) → x < a → JointRow (leg locations legs) (λ s. getD entries s 0) (λ s. getD inside s 0) count tail joint x (getD exits x 0))

@@ -1,6 +1,5 @@
 use mathlib.Core.Path.{_≡_}
 use Rattle.joints.proofs.States.{standing-two, standing-three, standing-four, standing-five}
-
 use native.Mathlib.Omega.{arith}
 use borrow.Author.Needs.{needs}
 use Rattle.joints.proofs.standing_cost.Statement.{statement}
