@@ -16,7 +16,7 @@ use Rattle.theory.proofs.Delta.{placed-inner}
 use Rattle.costs.specs.RouteCosts.{leg, running, Sums, head-end, tail-start}
 use Rattle.costs.proofs.Segments.{cut-below, segment-is, segment-filled, first-placed, last-placed, head-known, tail-known}
 use Rattle.joints.specs.States.{state-count, placed-in}
-use Rattle.joints.specs.JointTable.{Joinable, Rises, Ends, Segment, SegmentEnds, Segmented, inner-sum, StateEnds}
+use Rattle.joints.specs.JointTable.{Joinable, Rises, EndPlaces, SegmentFits, SegmentEnds, EndsFillable, inner-sum, StateEnds}
 use Rattle.joints.proofs.States.{part-at, halves}
 
 -- Two more places of an array that holds f.
@@ -56,11 +56,11 @@ module _ (cs r : List ℕ) (cut-set : CutSet (length cs) (length r) cs) (s i : �
 
 -- ---- segment by segment
 
-pub no-ends : {r forwards backwards cs entries exits inside : List ℕ} → Segmented r forwards backwards cs entries exits inside → StateEnds r forwards backwards cs 0 entries exits inside
+pub no-ends : {r forwards backwards cs entries exits inside : List ℕ} → EndsFillable r forwards backwards cs entries exits inside → StateEnds r forwards backwards cs 0 entries exits inside
 no-ends given = record { places = given .places; entry = λ s h. absurd (omega arith); exit = λ s h. absurd (omega arith); legs = λ s h. absurd (omega arith) }
 
-module _ {r forwards backwards cs entries exits inside : List ℕ} (given : Segmented r forwards backwards cs entries exits inside) (i : ℕ) (h : 1 ≤ i) (k : i < length cs) where
-  pub segment-asked : {entries′ exits′ inside′ : List ℕ} → Ends entries′ exits′ inside′ → Segment r forwards backwards (getD cs (i - 1) 0) (getD cs i 0) (2 * i - 2) entries′ exits′ inside′
+module _ {r forwards backwards cs entries exits inside : List ℕ} (given : EndsFillable r forwards backwards cs entries exits inside) (i : ℕ) (h : 1 ≤ i) (k : i < length cs) where
+  pub segment-asked : {entries′ exits′ inside′ : List ℕ} → EndPlaces entries′ exits′ inside′ → SegmentFits r forwards backwards (getD cs (i - 1) 0) (getD cs i 0) (2 * i - 2) entries′ exits′ inside′
   segment-asked places =
       let f = segment-filled cs r (given .cut-set) i h k in
       let w = cut-below cs r (given .cut-set) i k in
@@ -101,13 +101,22 @@ module _ {r forwards backwards cs entries exits inside : List ℕ} (given : Segm
 
 -- ---- what the running sums say of them
 
-pub sums-rise : (b : Bool) (d : ℕ → ℕ → ℕ) (r sums : List ℕ) → Sums r (running b d r) sums → Rises r sums
+sums-rise : (b : Bool) (d : ℕ → ℕ → ℕ) (r sums : List ℕ) → Sums r (running b d r) sums → Rises r sums
 sums-rise b d r sums w =
     record { places = w .places; rise = λ s t h k. omega (arith, w .each s (omega arith), w .each t k, placed-inner d r b s t h k) }
 
 module _ {locations : ℕ} {legs : List ℕ} {depot : ℕ} {r forwards backwards cs table : List ℕ} (given : Joinable locations legs depot r forwards backwards cs table) where
   abbrev stops : Stops locations r
   stops = given .measurable .stops
+
+  pub ends-fillable : {entries exits inside : List ℕ} → EndPlaces entries exits inside → EndsFillable r forwards backwards cs entries exits inside
+  ends-fillable places =
+      record {
+        cut-set = given .cut-set;
+        forwards = sums-rise false (leg locations legs) r forwards (given .forwards);
+        backwards = sums-rise true (leg locations legs) r backwards (given .backwards);
+        places = places;
+      }
 
   pub head-below : head-end (legs-only locations legs depot) r cs < locations
   head-below = head-known cs r (given .cut-set) locations depot stops (given .measurable .depot-known)

@@ -13,7 +13,7 @@ use Rattle.theory.specs.Moves.{Pattern}
 use Rattle.theory.proofs.Rows.{lent-row, lent-at, listed-for-k}
 use Rattle.costs.specs.RouteCosts.{Middle}
 use Rattle.costs.proofs.Orders.{pattern-middle}
-use Rattle.joints.specs.States.{states, row, Segments, RowPut, Rowable, pattern-row, StateRows}
+use Rattle.joints.specs.States.{states, row, MiddleOrder, RowPut, Rowable, pattern-row, StateRows}
 use Rattle.joints.specs.JointTable.{chain}
 use Rattle.joints.proofs.States.{state-at, four-states}
 
@@ -42,7 +42,7 @@ slice-four rows at v₀ v₁ v₂ v₃ h =
 earlier-row : (l : List ℕ) (x j v : ℕ) → 4 * x + 4 ≤ j → row (set l j v) x ≡ row l x
 earlier-row l x j v h = ap (drop (4 * x)) (take-set-le (4 * x + 4) l j v h)
 
-pub row-put : {k : ℕ} {order : List ℕ} {mask i : ℕ} {rows : List ℕ} {v₀ v₁ v₂ v₃ : ℕ} → Segments k order → i < 383 → length rows ≡ 1532 →
+pub row-put : {k : ℕ} {order : List ℕ} {mask i : ℕ} {rows : List ℕ} {v₀ v₁ v₂ v₃ : ℕ} → MiddleOrder k order → i < 383 → length rows ≡ 1532 →
     (v₀ ≡ state-at k order mask 0) × (v₀ ≤ 8) → (v₁ ≡ state-at k order mask 1) × (v₁ ≤ 8) → (v₂ ≡ state-at k order mask 2) × (v₂ ≤ 8) →
     (v₃ ≡ state-at k order mask 3) × (v₃ ≤ 8) → RowPut k order mask i rows (put-four rows (4 * i) v₀ v₁ v₂ v₃)
 row-put {k} {order} {mask} {i} {rows} {v₀} {v₁} {v₂} {v₃} s h n e₀ e₁ e₂ e₃ =
@@ -89,7 +89,7 @@ module _ {k : ℕ} {orders masks rows₀ : List ℕ} (given : Rowable k orders m
   abbrev none : Pattern
   none = record { order = []; mask = 0 }
 
-  pub row-segments : Segments k (lent-row k orders i)
+  pub row-segments : MiddleOrder k (lent-row k orders i)
   row-segments =
       let p = pattern-row k orders masks i in
       let m : Middle k (p .order) = pattern-middle k (p .order) (p .mask) (given .least) (listed-for-k k orders masks (given .patterns) i none h) in

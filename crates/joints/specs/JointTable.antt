@@ -66,8 +66,8 @@ pub record JointTable (d : ℕ → ℕ → ℕ) (part : ℕ → List ℕ) (count
   pub from-each : (a : ℕ) → a < count → JointRow d (λ s. first-of (part s) 0) (λ s. inner d (part s)) count tail table a (last-of 0 (part a))
 
 -- "Cut 0 makes the depot the head's end, cut n the tail's start."
-abbrev pub joint-table : ℕ → List ℕ → ℕ → List ℕ → List ℕ → List ℕ → Type 0
-joint-table locations legs depot route cuts table =
+abbrev pub JointOf : ℕ → List ℕ → ℕ → List ℕ → List ℕ → List ℕ → Type 0
+JointOf locations legs depot route cuts table =
     JointTable (leg locations legs) (placed-in cuts route) (state-count (length cuts)) (head-end (legs-only locations legs depot) route cuts)
     (tail-start (legs-only locations legs depot) route cuts) table
 
@@ -87,13 +87,13 @@ pub record Rises (route sums : List ℕ) : Type 0 where
   pub rise : (s t : ℕ) → s ≤ t → t < length route → getD sums s 0 ≤ getD sums t 0
 
 -- Places for each state's entry, exit and inner legs.
-pub record Ends (entries exits inside : List ℕ) : Type 0 where
+pub record EndPlaces (entries exits inside : List ℕ) : Type 0 where
   pub entry-places : length entries ≡ 8
   pub exit-places : length exits ≡ 8
   pub inside-places : length inside ≡ 8
 
 -- A segment route[start..end] with two states s and s + 1.
-pub record Segment (route forward-sums backward-sums : List ℕ) (start end s : ℕ) (entries exits inside : List ℕ) : Type 0 where
+pub record SegmentFits (route forward-sums backward-sums : List ℕ) (start end s : ℕ) (entries exits inside : List ℕ) : Type 0 where
   pub filled : start < end
   pub within : end ≤ length route
   pub short : length route ≤ 512
@@ -102,7 +102,7 @@ pub record Segment (route forward-sums backward-sums : List ℕ) (start end s : 
   pub backward-places : length backward-sums ≡ 512
   pub backward-rise : getD backward-sums start 0 ≤ getD backward-sums (end - 1) 0
   pub room : s + 1 < 8
-  pub places : Ends entries exits inside
+  pub places : EndPlaces entries exits inside
 
 -- Reversed, a segment is entered at its last stop, left at its first, and its inner legs are the backward ones.
 pub record SegmentEnds (route forward-sums backward-sums : List ℕ) (start end s : ℕ) (entries exits inside entries′ exits′ inside′ : List ℕ) : Type 0 where
@@ -111,11 +111,11 @@ pub record SegmentEnds (route forward-sums backward-sums : List ℕ) (start end 
   pub legs : inside′ ≡ set (set inside s (getD forward-sums (end - 1) 0 - getD forward-sums start 0)) (s + 1) (getD backward-sums (end - 1) 0 - getD backward-sums start 0)
 
 -- The segments of a cut set, and the places for their states.
-pub record Segmented (route forward-sums backward-sums cuts entries exits inside : List ℕ) : Type 0 where
+pub record EndsFillable (route forward-sums backward-sums cuts entries exits inside : List ℕ) : Type 0 where
   pub cut-set : CutSet (length cuts) (length route) cuts
   pub forwards : Rises route forward-sums
   pub backwards : Rises route backward-sums
-  pub places : Ends entries exits inside
+  pub places : EndPlaces entries exits inside
 
 abbrev pub inner-sum : List ℕ → List ℕ → List ℕ → ℕ → ℕ
 inner-sum forward-sums backward-sums cuts s =
@@ -125,7 +125,7 @@ inner-sum forward-sums backward-sums cuts s =
 
 -- Each state's entry, exit and inner legs in their places.
 pub record StateEnds (route forward-sums backward-sums cuts : List ℕ) (count : ℕ) (entries exits inside : List ℕ) : Type 0 where
-  pub places : Ends entries exits inside
+  pub places : EndPlaces entries exits inside
   pub entry : (s : ℕ) → s < count → getD entries s 0 ≡ first-of (placed-in cuts route s) 0
   pub exit : (s : ℕ) → s < count → getD exits s 0 ≡ last-of 0 (placed-in cuts route s)
   pub legs : (s : ℕ) → s < count → getD inside s 0 ≡ inner-sum forward-sums backward-sums cuts s

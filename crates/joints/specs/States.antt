@@ -1,4 +1,4 @@
--- The states of the middle segments, and patterns as rows of states. Segment i (1 to k - 1) as it stands is state 2 (i - 1), reversed 2 (i - 1) + 1; 8 is
+-- The states of the middle segments, and patterns as rows of states. SegmentFits i (1 to k - 1) as it stands is state 2 (i - 1), reversed 2 (i - 1) + 1; 8 is
 -- the tail, 9 the head.
 use mathlib.Core.Path.{_≡_}
 use mathlib.Core.Bool.{cond}
@@ -44,7 +44,7 @@ pub record StateAt (mask segment r : ℕ) : Type 0 where
   pub small : r < 8
 
 -- The places 1 to k - 1 of an order for k cuts hold middle segments.
-pub record Segments (k : ℕ) (order : List ℕ) : Type 0 where
+pub record MiddleOrder (k : ℕ) (order : List ℕ) : Type 0 where
   pub least : 2 ≤ k
   pub most : k ≤ 5
   pub middle : Middle k order

@@ -6,8 +6,8 @@ ghost use mathlib.Core.List.{[], _∷_, _++_};
 ghost use Prim.Native.Nat.{_+_, _-_, _*_, _<_, _≤_};
 ghost use lib.Dec.{ltb};
 ghost use lib.ListN.{length, getD, take, drop};
-ghost use Rattle.joints.specs.States.{state-count, state-of, states, standing-row, row, Segments, StateAt, Rowable, RowPut, StateRows};
-ghost use Rattle.joints.specs.JointTable.{chain, Padded, Chainable, joint-table, Joinable, Segment, SegmentEnds, Segmented, StateEnds, FillableRow, FilledRow, FillableStates, FilledStates, Standing, FourStates, CellAt, Cell};
+ghost use Rattle.joints.specs.States.{state-count, state-of, states, standing-row, row, MiddleOrder, StateAt, Rowable, RowPut, StateRows};
+ghost use Rattle.joints.specs.JointTable.{chain, Padded, Chainable, JointOf, Joinable, SegmentFits, SegmentEnds, EndsFillable, StateEnds, FillableRow, FilledRow, FillableStates, FilledStates, Standing, FourStates, CellAt, Cell};
 
 // The state in which the mask places a middle segment.
 fn state(mask: u8, segment: u8) -> u8
@@ -22,7 +22,7 @@ fn state(mask: u8, segment: u8) -> u8
 
 // The state at place p of a pattern's row: that of the middle segment there, or beyond the last one the tail.
 fn state_at(k: usize, order: &[u8], mask: u8, p: usize) -> u8
-    requires { ⌜ Segments k (now order) ⌝ }
+    requires { ⌜ MiddleOrder k (now order) ⌝ }
     requires { ⌜ p < 4 ⌝ }
     ensures { λ r. ⌜ (r ≡ cond (ltb (p + 1) k) (state-of mask (getD (now (order .entry)) (p + 1) 0)) 8) × (r ≤ 8) ⌝ }
 {
@@ -34,7 +34,7 @@ fn state_at(k: usize, order: &[u8], mask: u8, p: usize) -> u8
 
 // The row of one pattern as row i.
 fn put_row(k: usize, order: &[u8], mask: u8, i: usize, rows: &mut [u8; 1532])
-    requires { ⌜ Segments k (now order) ⌝ }
+    requires { ⌜ MiddleOrder k (now order) ⌝ }
     requires { ⌜ (i < 383) × (length (now rows) ≡ 1532) ⌝ }
     ensures { λ _. ⌜ RowPut k (now (order .entry)) mask i (now (rows .entry)) (now (rows .exit)) ⌝ }
 {
@@ -72,7 +72,7 @@ fn put_ends(
     exits: &mut [u32; 8],
     inside: &mut [u64; 8],
 )
-    requires { ⌜ Segment (now route) (now forward) (now backward) start end s (now entries) (now exits) (now inside) ⌝ }
+    requires { ⌜ SegmentFits (now route) (now forward) (now backward) start end s (now entries) (now exits) (now inside) ⌝ }
     ensures { λ _. ⌜ SegmentEnds (now (route .entry)) (now (forward .entry)) (now (backward .entry)) start end s (now (entries .entry)) (now (exits .entry)) (now (inside .entry)) (now (entries .exit)) (now (exits .exit)) (now (inside .exit)) ⌝ }
 {
     let front = route[start];
@@ -95,7 +95,7 @@ fn fill_ends(
     exits: &mut [u32; 8],
     inside: &mut [u64; 8],
 )
-    requires { ⌜ Segmented (now route) (now forward) (now backward) (now cuts) (now entries) (now exits) (now inside) ⌝ }
+    requires { ⌜ EndsFillable (now route) (now forward) (now backward) (now cuts) (now entries) (now exits) (now inside) ⌝ }
     ensures { λ _. ⌜ StateEnds (now (route .entry)) (now (forward .entry)) (now (backward .entry)) (now (cuts .entry)) (state-count (length (now (cuts .entry)))) (now (entries .exit)) (now (exits .exit)) (now (inside .exit)) ⌝ }
 {
     let mut i = 1;
@@ -183,7 +183,7 @@ pub fn fill_joint(
     joint: &mut [u64; 160],
 )
     requires { ⌜ Joinable locations (now legs) depot (now route) (now forward) (now backward) (now cuts) (now joint) ⌝ }
-    ensures { λ _. ⌜ joint-table locations (now (legs .entry)) depot (now (route .entry)) (now (cuts .entry)) (now (joint .exit)) ⌝ }
+    ensures { λ _. ⌜ JointOf locations (now (legs .entry)) depot (now (route .entry)) (now (cuts .entry)) (now (joint .exit)) ⌝ }
 {
     let mut entries = [0u32; 8];
     let mut exits = [0u32; 8];

@@ -12,7 +12,7 @@ use Rattle.theory.specs.Costs.{forward, backward}
 use Rattle.theory.specs.Tables.{problem, Timed, CutSet, PatternRows, pattern-rows}
 use Rattle.costs.specs.RouteCosts.{leg, Sums}
 use Rattle.joints.specs.States.{row, StateRows}
-use Rattle.joints.specs.JointTable.{chain, Padded, joint-table}
+use Rattle.joints.specs.JointTable.{chain, Padded, JointOf}
 
 -- What the step reads: tables, the route with its running sums, k cuts of it, and rows of patterns of which the first `limit` are still allowed.
 pub record Searchable (locations : ℕ) (legs latest : List ℕ) (depot : ℕ) (route forward-sums backward-sums cuts orders masks : List ℕ) (limit : ℕ) : Type 0 where
@@ -103,7 +103,7 @@ pub record Tabled (locations : ℕ) (legs latest : List ℕ) (depot : ℕ) (rout
   pub patterns : PatternRows (length cuts) orders masks
   pub allowed : limit ≤ length masks
   pub state-rows : StateRows (length cuts) orders masks (length masks) rows
-  pub joined : joint-table locations legs depot route cuts table
+  pub joined : JointOf locations legs depot route cuts table
   pub places : length spare ≡ 512
 
 pub record FirstKept (P : Problem) (ps : List Pattern) (k : ℕ) (route cuts : List ℕ) (limit i : ℕ) (spare : List ℕ) : Type 0 where

@@ -1,5 +1,6 @@
-use Rattle.joints.specs.JointTable.{chain}
+-- `joints::add_cells` meets its contract: five cells are the chain of four states. Assumes nothing.
 use borrow.Author.Needs.{needs}
+use Rattle.joints.specs.JointTable.{chain}
 use Rattle.joints.proofs.add_cells.Statement.{statement}
 use Rattle.joints.proofs.add_cells.Tie as tie
 

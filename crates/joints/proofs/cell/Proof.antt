@@ -1,3 +1,4 @@
+-- `joints::cell` meets its contract. Assumes nothing.
 use borrow.Author.Needs.{needs}
 use Rattle.joints.proofs.cell.Statement.{statement}
 use Rattle.joints.proofs.cell.Tie as tie

@@ -1,7 +1,8 @@
+-- `joints::chain4` meets its contract: the four states read are the row. Assumes nothing.
 use Prim.Native.Nat.{_+_, _*_}
-use Rattle.joints.proofs.Rows.{row-chain}
 use native.Mathlib.Omega.{arith}
 use borrow.Author.Needs.{needs}
+use Rattle.joints.proofs.Rows.{row-chain}
 use Rattle.joints.proofs.chain4.Statement.{statement}
 use Rattle.joints.proofs.chain4.Tie as tie
 

@@ -1,9 +1,10 @@
-use Prim.Native.Nat.{_+_, _^_, _-_, _≤_}
+-- `joints::fill_cells` meets its contract. The invariant: the row's cells below b are filled, and the other rows are as they were. Assumes nothing.
+use Prim.Native.Nat.{_+_, _-_, _^_, _≤_}
+use native.Mathlib.Omega.{arith}
+use borrow.Author.Needs.{needs}
 use lib.ListN.{getD}
 use Rattle.costs.specs.RouteCosts.{leg}
 use Rattle.joints.proofs.Filling.{Cells, cells-none, cells-more, cells-all, tail-padded, tail-others}
-use native.Mathlib.Omega.{arith}
-use borrow.Author.Needs.{needs}
 use Rattle.joints.proofs.fill_cells.Statement.{statement}
 use Rattle.joints.proofs.fill_cells.Tie as tie
 

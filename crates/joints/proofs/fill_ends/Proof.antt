@@ -1,10 +1,11 @@
+-- `joints::fill_ends` meets its contract. The invariant: the states of the segments passed have their ends and inner legs. Assumes nothing.
 use mathlib.Core.Path.{_≡_}
-use Rattle.joints.proofs.Ends.{no-ends, segment-asked, more-ends}
 use Prim.Native.Nat.{_-_, _*_, _≤_}
-use lib.ListN.{length}
-use Rattle.joints.specs.JointTable.{StateEnds}
 use native.Mathlib.Omega.{arith}
 use borrow.Author.Needs.{needs}
+use lib.ListN.{length}
+use Rattle.joints.specs.JointTable.{StateEnds}
+use Rattle.joints.proofs.Ends.{no-ends, segment-asked, more-ends}
 use Rattle.joints.proofs.fill_ends.Statement.{statement}
 use Rattle.joints.proofs.fill_ends.Tie as tie
 

@@ -1,22 +1,16 @@
+-- `joints::fill_joint` meets its contract: the states' rows and the head's row are the table. Assumes nothing.
 use mathlib.Core.Path.{refl}
-use mathlib.Core.Bool.{true, false}
-use Rattle.costs.specs.RouteCosts.{leg}
-use Rattle.joints.proofs.Ends.{sums-rise, head-below, tail-below}
-use Rattle.joints.proofs.Filling.{fillable, exits-known, whole-table}
 use native.Mathlib.Omega.{arith}
 use borrow.Author.Needs.{needs}
+use Rattle.joints.proofs.Ends.{ends-fillable, head-below, tail-below}
+use Rattle.joints.proofs.Filling.{fillable, exits-known, whole-table}
 use Rattle.joints.proofs.fill_joint.Statement.{statement}
 use Rattle.joints.proofs.fill_joint.Tie as tie
 
 fill-ends-requires : tie.Need-fill-ends-requires
 fill-ends-requires c κs =
     let s = c .before .before .before .before .before .before in
-    record {
-      cut-set = s .pre .cut-set;
-      forwards = sums-rise false (leg (s .args .locations) (s .args .legs .now)) (s .args .route .now) (s .args .forward .now) (s .pre .forwards);
-      backwards = sums-rise true (leg (s .args .locations) (s .args .legs .now)) (s .args .route .now) (s .args .backward .now) (s .pre .backwards);
-      places = record { entry-places = refl; exit-places = refl; inside-places = refl };
-    }
+    ends-fillable (s .pre) (record { entry-places = refl; exit-places = refl; inside-places = refl })
 
 mul-count : tie.Need-mul-count
 mul-count c = search needs

@@ -1,11 +1,12 @@
+-- `joints::fill_rows` meets its contract. The invariant: the first i rows are those of the first i patterns. Assumes nothing.
 use mathlib.Core.Path.{_≡_}
-use Rattle.theory.proofs.Rows.{lent-within}
-use Rattle.joints.proofs.Rows.{no-rows, row-segments, more-rows}
 use Prim.Native.Nat.{_+_, _-_, _*_, _≤_}
-use lib.ListN.{length}
-use Rattle.joints.specs.States.{StateRows}
 use native.Mathlib.Omega.{arith}
 use borrow.Author.Needs.{needs}
+use lib.ListN.{length}
+use Rattle.theory.proofs.Rows.{lent-within}
+use Rattle.joints.specs.States.{StateRows}
+use Rattle.joints.proofs.Rows.{no-rows, row-segments, more-rows}
 use Rattle.joints.proofs.fill_rows.Statement.{statement}
 use Rattle.joints.proofs.fill_rows.Tie as tie
 

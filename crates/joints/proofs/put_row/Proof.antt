@@ -1,5 +1,6 @@
-use Rattle.joints.proofs.Rows.{row-put}
+-- `joints::put_row` meets its contract: four stores are one row. Assumes nothing.
 use borrow.Author.Needs.{needs}
+use Rattle.joints.proofs.Rows.{row-put}
 use Rattle.joints.proofs.put_row.Statement.{statement}
 use Rattle.joints.proofs.put_row.Tie as tie
 

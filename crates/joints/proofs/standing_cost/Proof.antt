@@ -1,7 +1,8 @@
+-- `joints::standing_cost` meets its contract: one case for each number of cuts. Assumes nothing.
 use mathlib.Core.Path.{_≡_}
-use Rattle.joints.proofs.States.{standing-two, standing-three, standing-four, standing-five}
 use native.Mathlib.Omega.{arith}
 use borrow.Author.Needs.{needs}
+use Rattle.joints.proofs.States.{standing-two, standing-three, standing-four, standing-five}
 use Rattle.joints.proofs.standing_cost.Statement.{statement}
 use Rattle.joints.proofs.standing_cost.Tie as tie
 

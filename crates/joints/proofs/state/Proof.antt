@@ -1,7 +1,8 @@
+-- `joints::state` meets its contract: one case for each direction. Assumes nothing.
 use mathlib.Core.Path.{sym, _∙_}
-use Rattle.joints.proofs.States.{reversed-state, straight-state}
 use native.Mathlib.Omega.{arith}
 use borrow.Author.Needs.{needs}
+use Rattle.joints.proofs.States.{reversed-state, straight-state}
 use Rattle.joints.proofs.state.Statement.{statement}
 use Rattle.joints.proofs.state.Tie as tie
 

@@ -1,6 +1,7 @@
+-- `joints::state_at` meets its contract: a middle segment's state, or the tail. Assumes nothing.
 use Prim.Native.Nat.{_+_}
-use borrow.Author.Tests.{lt-ltb, le-ltb}
 use native.Mathlib.Omega.{arith}
+use borrow.Author.Tests.{lt-ltb, le-ltb}
 use borrow.Author.Needs.{needs}
 use Rattle.joints.proofs.state_at.Statement.{statement}
 use Rattle.joints.proofs.state_at.Tie as tie

@@ -1,10 +1,11 @@
+-- `search::build_candidate` meets its contract: the order and the mask that are lent are the pattern's. Assumes nothing.
 use mathlib.Core.Path.{_∙_}
 use Prim.Native.Nat.{_+_, _*_, _≤_}
+use native.Mathlib.Omega.{arith}
+use borrow.Author.Needs.{needs}
 use lib.ListN.{length}
 use Rattle.theory.proofs.Rows.{lent-within}
 use Rattle.search.proofs.Candidate.{lent-once, lent-candidate}
-use native.Mathlib.Omega.{arith}
-use borrow.Author.Needs.{needs}
 use Rattle.search.proofs.build_candidate.Statement.{statement}
 use Rattle.search.proofs.build_candidate.Tie as tie
 

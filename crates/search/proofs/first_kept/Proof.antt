@@ -1,13 +1,14 @@
-use Prim.Native.Nat.{_+_, ℕ, _-_, _≤_, _<_}
-use Rattle.search.proofs.Gain.{chains, checkable, passed-on, passed-late, found, not-found}
+-- `search::first_kept` meets its contract. The invariant: no pattern passed improves, and the one at i is shorter. Assumes nothing.
 use mathlib.Core.Path.{_≡_}
 use mathlib.Core.Bool.{false}
+use Prim.Native.Nat.{ℕ, _+_, _-_, _≤_, _<_}
+use native.Mathlib.Omega.{arith}
+use borrow.Author.Needs.{needs}
 use lib.ListN.{length}
 use Rattle.joints.specs.States.{row}
 use Rattle.joints.specs.JointTable.{chain}
 use Rattle.search.specs.Gain.{gains}
-use native.Mathlib.Omega.{arith}
-use borrow.Author.Needs.{needs}
+use Rattle.search.proofs.Gain.{chains, checkable, passed-on, passed-late, found, not-found}
 use Rattle.search.proofs.first_kept.Statement.{statement}
 use Rattle.search.proofs.first_kept.Tie as tie
 

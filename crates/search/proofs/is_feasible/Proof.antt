@@ -1,7 +1,8 @@
+-- `search::is_feasible` meets its contract: one case for each answer of the check. Assumes nothing.
 use mathlib.Core.Path.{sym}
+use borrow.Author.Needs.{needs}
 use lib.Seq.{length-take-le}
 use Rattle.search.proofs.Candidate.{kept-told, late-told}
-use borrow.Author.Needs.{needs}
 use Rattle.search.proofs.is_feasible.Statement.{statement}
 use Rattle.search.proofs.is_feasible.Tie as tie
 

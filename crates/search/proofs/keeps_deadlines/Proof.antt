@@ -1,6 +1,7 @@
+-- `search::keeps_deadlines` meets its contract: what stands at the front of `spare` is the candidate. Assumes nothing.
 use mathlib.Core.Path.{sym}
-use Rattle.search.proofs.Candidate.{room, front-timed, judged}
 use borrow.Author.Needs.{needs}
+use Rattle.search.proofs.Candidate.{room, front-timed, judged}
 use Rattle.search.proofs.keeps_deadlines.Statement.{statement}
 use Rattle.search.proofs.keeps_deadlines.Tie as tie
 

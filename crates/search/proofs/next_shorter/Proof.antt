@@ -1,9 +1,10 @@
-use borrow.Author.Count.{below-more}
+-- `search::next_shorter` meets its contract. The invariant: no row passed is shorter. Assumes nothing.
 use Prim.Native.Nat.{ℕ, _-_, _≤_, _<_}
+use native.Mathlib.Omega.{arith}
+use borrow.Author.Count.{below-more}
+use borrow.Author.Needs.{needs}
 use Rattle.joints.specs.States.{row}
 use Rattle.joints.specs.JointTable.{chain}
-use native.Mathlib.Omega.{arith}
-use borrow.Author.Needs.{needs}
 use Rattle.search.proofs.next_shorter.Statement.{statement}
 use Rattle.search.proofs.next_shorter.Tie as tie
 
