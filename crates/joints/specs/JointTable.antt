@@ -33,15 +33,18 @@ pub record Chainable (table rows : List ℕ) (i : ℕ) : Type 0 where
   pub within : i < 383
   pub known : (c : ℕ) → 4 * i ≤ c → c < 4 * i + 4 → getD rows c 0 ≤ 8
 
+-- A place of the table.
 pub record CellAt (table : List ℕ) (a b : ℕ) : Type 0 where
   pub padded : Padded table
   pub row : a < 10
   pub column : b < 10
 
+-- What stands there.
 pub record Cell (table : List ℕ) (a b r : ℕ) : Type 0 where
   pub is : r ≡ cell table a b
   pub small : r ≤ 2 ^ 40
 
+-- A table, and four states of a row.
 pub record FourStates (table : List ℕ) (a b c d : ℕ) : Type 0 where
   pub padded : Padded table
   pub first : a ≤ 8
@@ -49,6 +52,7 @@ pub record FourStates (table : List ℕ) (a b c d : ℕ) : Type 0 where
   pub third : c ≤ 8
   pub fourth : d ≤ 8
 
+-- A table, and the number of cuts.
 pub record Standing (table : List ℕ) (k : ℕ) : Type 0 where
   pub padded : Padded table
   pub least : 2 ≤ k
@@ -59,13 +63,13 @@ pub record JointRow (d : ℕ → ℕ → ℕ) (entry inside : ℕ → ℕ) (coun
   pub next : (b : ℕ) → b < count → cell table a b ≡ d exit (entry b) + inside b
   pub last : cell table a 8 ≡ d exit tail
 
--- The rows of the head and of the states 0 to count - 1, each a part of the route as it is placed.
+-- The rows of the head and of the states 0 to count - 1; a state is a part of the route, as it is placed.
 pub record JointTable (d : ℕ → ℕ → ℕ) (part : ℕ → List ℕ) (count head tail : ℕ) (table : List ℕ) : Type 0 where
   pub padded : Padded table
   pub from-head : JointRow d (λ s. first-of (part s) 0) (λ s. inner d (part s)) count tail table 9 head
   pub from-each : (a : ℕ) → a < count → JointRow d (λ s. first-of (part s) 0) (λ s. inner d (part s)) count tail table a (last-of 0 (part a))
 
--- "Cut 0 makes the depot the head's end, cut n the tail's start."
+-- The joint table of a cut set. "Cut 0 makes the depot the head's end, cut n the tail's start."
 abbrev pub JointOf : ℕ → List ℕ → ℕ → List ℕ → List ℕ → List ℕ → Type 0
 JointOf locations legs depot route cuts table =
     JointTable (leg locations legs) (placed-in cuts route) (state-count (length cuts)) (head-end (legs-only locations legs depot) route cuts)
@@ -117,6 +121,7 @@ pub record EndsFillable (route forward-sums backward-sums cuts entries exits ins
   pub backwards : Rises route backward-sums
   pub places : EndPlaces entries exits inside
 
+-- The legs inside a state's segment, from the running sums of its direction.
 abbrev pub inner-sum : List ℕ → List ℕ → List ℕ → ℕ → ℕ
 inner-sum forward-sums backward-sums cuts s =
     cond (eqb (s % 2) 1)
@@ -148,17 +153,20 @@ pub record FillableRow (locations : ℕ) (legs : List ℕ) (from tail count : �
   pub within : a < 10
   pub not-tail : a ≢ 8
 
+-- Row a filled, and the other rows as they were.
 pub record FilledRow (locations : ℕ) (legs : List ℕ) (from tail count : ℕ) (entries inside : List ℕ) (a : ℕ) (before after : List ℕ) : Type 0 where
   pub padded : Padded after
   pub filled : JointRow (leg locations legs) (λ s. getD entries s 0) (λ s. getD inside s 0) count tail after a from
   pub others : (x y : ℕ) → y < 16 → x ≢ a → cell after x y ≡ cell before x y
 
+-- With the exits of the states, whose rows can be filled.
 pub record FillableStates (locations : ℕ) (legs : List ℕ) (tail count : ℕ) (entries exits inside : List ℕ) (table : List ℕ) : Type 0 where
   pub fillable : Fillable locations legs tail count entries inside
   pub padded : Padded table
   pub exit-places : length exits ≡ 8
   pub exits-known : (s : ℕ) → s < count → getD exits s 0 < locations
 
+-- The rows of the states filled.
 pub record FilledStates (locations : ℕ) (legs : List ℕ) (tail count : ℕ) (entries exits inside : List ℕ) (after : List ℕ) : Type 0 where
   pub padded : Padded after
   pub each : (a : ℕ) → a < count → JointRow (leg locations legs) (λ s. getD entries s 0) (λ s. getD inside s 0) count tail after a (getD exits a 0)

@@ -1,4 +1,4 @@
--- The states of the middle segments, and patterns as rows of states. SegmentFits i (1 to k - 1) as it stands is state 2 (i - 1), reversed 2 (i - 1) + 1; 8 is
+-- The states of the middle segments, and patterns as rows of states. Segment i (1 to k - 1) as it stands is state 2 (i - 1), reversed 2 (i - 1) + 1; 8 is
 -- the tail, 9 the head.
 use mathlib.Core.Path.{_≡_}
 use mathlib.Core.Bool.{cond}
@@ -63,7 +63,7 @@ pub record Rowable (k : ℕ) (orders masks rows : List ℕ) : Type 0 where
   pub patterns : PatternRows k orders masks
   pub places : length rows ≡ 1532
 
--- The pattern of an index.
+-- The pattern of an index, as `move-at` has it.
 abbrev pub pattern-row : ℕ → List ℕ → List ℕ → ℕ → Pattern
 pattern-row k orders masks i = getD (pattern-rows k orders masks) i (record { order = []; mask = 0 })
 

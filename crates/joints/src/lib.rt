@@ -2,12 +2,12 @@
 // as rows of states, so that a candidate costs the sum of five cells. It holds no entry: crate search calls it.
 ghost use mathlib.Core.Path.{_≡_};
 ghost use mathlib.Core.Bool.{cond};
-ghost use mathlib.Core.List.{[], _∷_, _++_};
-ghost use Prim.Native.Nat.{_+_, _-_, _*_, _<_, _≤_};
+ghost use mathlib.Core.List.{[], _∷_};
+ghost use Prim.Native.Nat.{_+_, _<_, _≤_};
 ghost use lib.Dec.{ltb};
-ghost use lib.ListN.{length, getD, take, drop};
-ghost use Rattle.joints.specs.States.{state-count, state-of, states, standing-row, row, MiddleOrder, StateAt, Rowable, RowPut, StateRows};
-ghost use Rattle.joints.specs.JointTable.{chain, Padded, Chainable, JointOf, Joinable, SegmentFits, SegmentEnds, EndsFillable, StateEnds, FillableRow, FilledRow, FillableStates, FilledStates, Standing, FourStates, CellAt, Cell};
+ghost use lib.ListN.{length, getD};
+ghost use Rattle.joints.specs.States.{state-count, state-of, standing-row, row, MiddleOrder, StateAt, Rowable, RowPut, StateRows};
+ghost use Rattle.joints.specs.JointTable.{chain, Chainable, JointOf, Joinable, SegmentFits, SegmentEnds, EndsFillable, StateEnds, FillableRow, FilledRow, FillableStates, FilledStates, Standing, FourStates, CellAt, Cell};
 
 // The state in which the mask places a middle segment.
 fn state(mask: u8, segment: u8) -> u8

@@ -61,6 +61,7 @@ pub record Candidate (route cuts orders masks : List ℕ) (i : ℕ) : Type 0 whe
   pub patterns : PatternRows (length cuts) orders masks
   pub listed : i < length masks
 
+-- Places for it.
 pub record Buildable (route cuts orders masks : List ℕ) (i : ℕ) (out : List ℕ) : Type 0 where
   pub of : Candidate route cuts orders masks i
   pub room : length out ≡ length route
@@ -70,6 +71,7 @@ pub record TimedFront (locations : ℕ) (legs latest : List ℕ) (depot : ℕ) (
   pub room : length route ≤ length spare
   pub timed : Timed locations legs latest depot (take (length route) spare)
 
+-- A candidate that can be built and checked.
 pub record Checkable (locations : ℕ) (legs latest : List ℕ) (depot : ℕ) (route cuts orders masks : List ℕ) (i : ℕ) (spare : List ℕ) : Type 0 where
   pub of : Candidate route cuts orders masks i
   pub timed : Timed locations legs latest depot route
@@ -106,6 +108,7 @@ pub record Tabled (locations : ℕ) (legs latest : List ℕ) (depot : ℕ) (rout
   pub joined : JointOf locations legs depot route cuts table
   pub places : length spare ≡ 512
 
+-- Its answer.
 pub record FirstKept (P : Problem) (ps : List Pattern) (k : ℕ) (route cuts : List ℕ) (limit i : ℕ) (spare : List ℕ) : Type 0 where
   pub first : FirstGain P ps k route cuts limit i
   pub built : i < limit → take (length route) spare ≡ reconnected (move-at ps cuts i) route
