@@ -14,11 +14,11 @@ use Rattle.theory.specs.declared.CutStep.the-variants.{Refused}
 use Rattle.theory.proofs.Refusals.{known}
 use Rattle.theory.proofs.Judged.{cuts-fine}
 use Rattle.cuts.specs.Step.{found, or-kept, Stepped}
-use Rattle.mittenschist.specs.Promises.{NextCutSet, next-cut-set-rules}
+use Rattle.mittenschist.specs.Promises.{NextCutSetReply, next-cut-set-rules}
 use Rattle.mittenschist.proofs.Entries.{refused-reply, taken-reply, refused-kept, taken-done, taken-passes}
 
 module _ (k n : ℕ) (cuts : List ℕ) (number : ℕ) (judged : number ≡ refusal (next-cut-set-rules k n cuts)) where
-  pub refused : (number ≡ 0 → ⊥) → NextCutSet k n cuts (Refused number) cuts
+  pub refused : (number ≡ 0 → ⊥) → NextCutSetReply k n cuts (Refused number) cuts
   refused h =
       record {
         reply-is = refused-reply (next-cut-set-rules k n cuts) number judged (cond (found (next-cuts n cuts)) 1 0 ∷ []) h;
@@ -33,7 +33,7 @@ module _ (k n : ℕ) (cuts : List ℕ) (number : ℕ) (judged : number ≡ refus
         let c = cuts-fine k n cuts (p .0) (p .1 .0) (p .1 .1 .0) in
         record { least = omega (arith, c .many, c .least); most = omega (arith, c .many, c .most); short = c .short; many = refl; rising = c .rising }
 
-    pub stepped : (answer : CutStep) (b : Bool) (cuts′ : List ℕ) → step-answer answer ≡ reply 0 (cond b 1 0 ∷ []) → Stepped n cuts b cuts′ → NextCutSet k n cuts answer cuts′
+    pub stepped : (answer : CutStep) (b : Bool) (cuts′ : List ℕ) → step-answer answer ≡ reply 0 (cond b 1 0 ∷ []) → Stepped n cuts b cuts′ → NextCutSetReply k n cuts answer cuts′
     stepped answer b cuts′ e s =
         record {
           reply-is = e ∙ ap (λ b. reply 0 (cond b 1 0 ∷ [])) (s .moved) ∙ taken-reply (next-cut-set-rules k n cuts) number judged (cond (found (next-cuts n cuts)) 1 0 ∷ []) h;

@@ -2,16 +2,16 @@
 use mathlib.Core.Path.{_≡_}
 use mathlib.Core.Bool.{Bool, true, false, cond}
 use mathlib.Core.List.{List, [], _∷_, _++_}
-use Prim.Native.Nat.{ℕ, suc, _-_}
+use Prim.Native.Nat.{ℕ, _+_, _-_}
 use lib.Dec.{eqb}
-use lib.IntN.{ℤ, pos, _-ℤ_}
-use lib.ListN.{length, getD, drop}
+use lib.ListN.{length, getD, drop, replicate}
 use Rattle.theory.specs.Moves.{Pattern, Move, patterns, next-cuts}
 use Rattle.theory.specs.Route.{Problem, tour-length, reconnected}
-use Rattle.theory.specs.Polish.{move-at}
+use Rattle.theory.specs.Polish.{move-at, polish, Demand3}
 use Rattle.theory.specs.Tables.{problem, legs-only}
-use Rattle.theory.specs.Refusals.{Rule, refusal, cut-count, leg-table, deadline-list, leg-sizes, known-stops, stop-count, pattern-index, cut-positions, room}
-use Rattle.theory.specs.Answers.{Answer, reply, step-answer, length-answer, delta-answer, feasibility-answer, Verdict}
+use Rattle.theory.specs.Refusals.{Rule, refusal, cut-count, leg-table, deadline-list, leg-sizes, known-stops, stop-count, pattern-index, cut-positions, room, problem-rules}
+use Rattle.theory.specs.Answers.{Answer, reply, step-answer, length-answer, delta-answer, feasibility-answer, Verdict, five-numbers, handed-back}
+use Rattle.moves.specs.Moves.{length-change}
 use Rattle.cuts.specs.Step.{found, or-kept}
 use Rattle.theory.specs.declared.CutStep.{CutStep}
 use Rattle.theory.specs.declared.RouteLength.{RouteLength}
@@ -24,24 +24,38 @@ use Rattle.theory.specs.declared.ReconnectionAt.{ReconnectionAt}
 abbrev pub if-taken : {A : Type 0} → List Rule → A → A → A
 if-taken rules a b = cond (eqb (refusal rules) 0) a b
 
+-- ---- pattern of an index
+
+abbrev pub pattern-rules : ℕ → ℕ → List Rule
+pattern-rules k pattern = cut-count k ∷ pattern-index k pattern ∷ []
+
+abbrev pub pattern-at : ℕ → ℕ → Pattern
+pattern-at k index = getD (patterns k) index (record { order = []; mask = 0 })
+
+-- The order has 0 in the unused of six places; where the call is refused there is no segment at all.
+pub record ReconnectionReply (k pattern : ℕ) (answer : ReconnectionAt) : Type 0 where
+  pub number-is : answer .refusal ≡ refusal (pattern-rules k pattern)
+  pub order-is : answer .reconnection .«segment_order» ≡ if-taken (pattern-rules k pattern) (pattern-at k pattern .order ++ replicate (5 - k) 0) (replicate 6 0)
+  pub mask-is : answer .reconnection .«reverse_mask» ≡ if-taken (pattern-rules k pattern) (pattern-at k pattern .mask) 0
+  pub segments-are : answer .reconnection .len ≡ if-taken (pattern-rules k pattern) (k + 1) 0
+
 -- ---- next cut set
 
 abbrev pub next-cut-set-rules : ℕ → ℕ → List ℕ → List Rule
 next-cut-set-rules k n cuts = cut-count k ∷ stop-count n ∷ cut-positions k n cuts ∷ []
 
-pub record NextCutSet (k n : ℕ) (cuts : List ℕ) (answer : CutStep) (cuts′ : List ℕ) : Type 0 where
+pub record NextCutSetReply (k n : ℕ) (cuts : List ℕ) (answer : CutStep) (cuts′ : List ℕ) : Type 0 where
   pub reply-is : step-answer answer ≡ reply (refusal (next-cut-set-rules k n cuts)) (cond (found (next-cuts n cuts)) 1 0 ∷ [])
   pub cuts-are : cuts′ ≡ if-taken (next-cut-set-rules k n cuts) (or-kept (next-cuts n cuts) cuts) cuts
 
 -- ---- reconnect
 
-abbrev pub reconnect-rules : ℕ → ℕ → List ℕ → List ℕ → List ℕ → List Rule
-reconnect-rules k pattern cuts route out =
-    cut-count k ∷ stop-count (length route) ∷ pattern-index k pattern ∷ cut-positions k (length route) cuts ∷ room (length route) (length out) ∷ []
+abbrev pub reconnect-rules : ℕ → ℕ → List ℕ → ℕ → ℕ → List Rule
+reconnect-rules k pattern cuts n lent = cut-count k ∷ stop-count n ∷ pattern-index k pattern ∷ cut-positions k n cuts ∷ room n lent ∷ []
 
-pub record Reconnected (k pattern : ℕ) (cuts route out : List ℕ) (answer : ℕ) (out′ : List ℕ) : Type 0 where
-  pub number-is : answer ≡ refusal (reconnect-rules k pattern cuts route out)
-  pub out-is : out′ ≡ if-taken (reconnect-rules k pattern cuts route out) (reconnected (move-at (patterns k) cuts pattern) route ++ drop (length route) out) out
+pub record ReconnectReply (k pattern : ℕ) (cuts route out : List ℕ) (answer : ℕ) (out′ : List ℕ) : Type 0 where
+  pub number-is : answer ≡ refusal (reconnect-rules k pattern cuts (length route) (length out))
+  pub out-is : out′ ≡ if-taken (reconnect-rules k pattern cuts (length route) (length out)) (reconnected (move-at (patterns k) cuts pattern) route ++ drop (length route) out) out
 
 -- ---- route length
 
@@ -64,21 +78,36 @@ delta-rules k pattern cuts locations legs depot route =
     ∷ cut-positions k (length route) cuts
     ∷ []
 
--- Length after minus length before.
-abbrev pub length-change : Problem → Move → List ℕ → ℤ
-length-change P move route = pos (tour-length P (reconnected move route)) -ℤ pos (tour-length P route)
-
 pub record DeltaReply (k pattern : ℕ) (cuts : List ℕ) (locations : ℕ) (legs : List ℕ) (depot : ℕ) (route : List ℕ) (answer : LengthDelta) : Type 0 where
   pub reply-is : delta-answer answer ≡ reply (refusal (delta-rules k pattern cuts locations legs depot route)) (length-change (legs-only locations legs depot) (move-at (patterns k) cuts pattern) route ∷ [])
 
 -- ---- deadline check
 
-abbrev pub feasible-rules : ℕ → List ℕ → List ℕ → ℕ → List ℕ → List Rule
-feasible-rules locations legs latest depot route =
-    leg-table locations legs ∷ deadline-list locations latest ∷ leg-sizes legs ∷ known-stops locations depot route ∷ stop-count (length route) ∷ []
-
 -- The position is loose, and nothing else is.
 pub record FeasibleReply (locations : ℕ) (legs latest : List ℕ) (depot : ℕ) (route : List ℕ) (answer : Feasibility) : Type 0 where
   pub position : ℕ
-  pub reply-is : feasibility-answer (length route) answer ≡ reply (refusal (feasible-rules locations legs latest depot route)) (position ∷ [])
-  pub verdict : refusal (feasible-rules locations legs latest depot route) ≡ 0 → Verdict (problem locations legs latest depot) route position
+  pub reply-is : feasibility-answer (length route) answer ≡ reply (refusal (problem-rules locations legs latest depot route)) (position ∷ [])
+  pub verdict : refusal (problem-rules locations legs latest depot route) ≡ 0 → Verdict (problem locations legs latest depot) route position
+
+-- ---- polishing
+
+abbrev pub polish-rules : ℕ → ℕ → List ℕ → List ℕ → ℕ → List ℕ → ℕ → List Rule
+polish-rules k locations legs latest depot route lent =
+    cut-count k
+    ∷ leg-table locations legs
+    ∷ deadline-list locations latest
+    ∷ leg-sizes legs
+    ∷ known-stops locations depot route
+    ∷ stop-count (length route)
+    ∷ room 5 lent
+    ∷ []
+
+-- Of the slices as they are handed in and as they are handed back: route and result are those of document 01's scan; and demand 3 whenever it returns 0.
+pub record PolishReply (k allowance locations : ℕ) (legs latest : List ℕ) (depot : ℕ) (route result : List ℕ) (answer : ℕ) (route′ result′ : List ℕ) : Type 0 where
+  pub number-is : answer ≡ refusal (polish-rules k locations legs latest depot route (length result))
+  pub route-is : route′ ≡ if-taken (polish-rules k locations legs latest depot route (length result)) (polish (problem locations legs latest depot) k allowance route .route) route
+  pub result-is : result′
+      ≡ if-taken (polish-rules k locations legs latest depot route (length result))
+      (five-numbers (problem locations legs latest depot) route (polish (problem locations legs latest depot) k allowance route) ++ drop 5 result)
+      result
+  pub demand3 : answer ≡ 0 → Demand3 (problem locations legs latest depot) (patterns k) k allowance route (handed-back result′ route′)

@@ -1,6 +1,8 @@
--- The laws that the proofs of `patterns` share.
+-- The laws that the proofs of `patterns` and those of its callers share.
 pub mod Stores
-pub mod Permutations
 pub mod Strides
+pub mod Permutations
+pub mod Counts
 pub mod Turn
 pub mod Enumeration
+pub mod Reading

@@ -4,8 +4,8 @@ use mathlib.Core.List.{List, [], _∷_, _++_, map, flatMap, flatten, append-nil,
 use Prim.Native.Nat.{ℕ, zero, suc, _+_, _-_, _≤_, _<_}
 use native.Mathlib.Numerals.{add-one}
 use native.Mathlib.Omega.{arith}
-use lib.ListN.{length, getD, take, drop, set, length-append, length-take, length-drop}
-use lib.Seq.{sets, sets-eq, drop-cons, take-suc-set, getD-take, take-append-le, drop-length, take-length, take-at, take-take}
+use lib.ListN.{length, getD, take, drop, set, length-append, length-take}
+use lib.Seq.{sets, sets-eq, drop-cons, take-suc-set, getD-take, take-append-le, drop-length}
 use Rattle.theory.specs.Moves.{picks, orders}
 use Rattle.theory.proofs.Moves.{length-picks}
 use Rattle.theory.proofs.Index.{picks-at}

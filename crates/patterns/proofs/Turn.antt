@@ -1,32 +1,24 @@
 -- What a turn of the enumeration reads and writes: the pattern at an index. Assumes nothing.
 use mathlib.Core.Path.{_≡_, sym, ap, _∙_}
-use mathlib.Core.List.{List, [], _∷_, _++_, flatten, List·Memᴰ}
+use mathlib.Core.List.{List, [], _∷_, _++_, flatten}
 use Prim.Native.Nat.{ℕ, zero, suc, _+_, _-_, _*_, _/_, _%_, _^_, _≤_, _<_}
 use native.Mathlib.Numerals.{add-one}
 use native.Mathlib.Nat.{suc-mul, mul-le-mul-right, div-lt-iff-lt-mul, mod-lt}
 use native.Mathlib.Omega.{arith}
 use lib.ListN.{length, getD, take, drop, length-append, take-append-drop}
 use lib.Pow.{pow-pos, pow-mono}
-use Rattle.theory.specs.Moves.{Pattern, upfrom, patterns, factorial}
-use Rattle.theory.proofs.Moves.{length-upfrom, length-orders, length-patterns}
-use Rattle.theory.proofs.Index.{length-order, pattern-at}
-use Rattle.patterns.specs.Enumeration.{pattern, middle-orders, Ready}
+use Rattle.theory.specs.Moves.{Pattern, patterns, factorial}
+use Rattle.theory.proofs.Index.{pattern-at}
+use Rattle.patterns.specs.Enumeration.{no-pattern, pattern}
+use Rattle.patterns.specs.Turn.{middle-orders, Ready}
 use Rattle.patterns.proofs.Strides.{length-flatten, row-at}
-
-pub each-middle : (k : ℕ) (o : List ℕ) → List·Memᴰ o (middle-orders k) → length o ≡ k - 1
-each-middle k o i = length-order (k - 1) (upfrom 1 (k - 1)) o (length-upfrom 1 (k - 1)) i
+use Rattle.patterns.proofs.Counts.{each-middle, count-middle, count-patterns}
 
 -- `pattern-at` of the theory, for k cuts: the order of the row at (index + 1) / 2 ^ (k - 1), the mask of the rest.
 closed : (k index : ℕ) → 0 < k → index < length (patterns k) →
     pattern k index ≡ record { order = 0 ∷ (getD (middle-orders k) ((index + 1) / 2 ^ (k - 1)) [] ++ (k ∷ [])); mask = 2 * ((index + 1) % 2 ^ (k - 1)) }
 closed zero index h l = absurd (omega arith)
-closed (suc m) index h l = let e : suc m - 1 ≡ m = omega arith in rw (e, add-one index) (pattern-at m index (record { order = []; mask = 0 }) l)
-
-row-listed : (k index : ℕ) → 0 < k → index < length (patterns k) → (index + 1) / 2 ^ (k - 1) < length (middle-orders k)
-row-listed k index h l =
-    let e : suc (k - 1) ≡ k = omega arith in
-    let n : index + 1 < factorial (k - 1) * 2 ^ (k - 1) = omega (arith, ap (λ (x : ℕ). length (patterns x)) e, length-patterns (k - 1)) in
-    rw (length-orders (k - 1) (upfrom 1 (k - 1)) (length-upfrom 1 (k - 1))) (div-lt-iff-lt-mul (pow-pos (k - 1)) .1 n)
+closed (suc m) index h l = let e : suc m - 1 ≡ m = omega arith in rw (e, add-one index) (pattern-at m index no-pattern l)
 
 -- A turn, with r for the number of reversals.
 module _ (k index r : ℕ) (permutations orders₀ masks₀ : List ℕ) (ready : Ready k index permutations orders₀ masks₀) (er : r ≡ 2 ^ (k - 1)) where
@@ -46,7 +38,9 @@ module _ (k index r : ℕ) (permutations orders₀ masks₀ : List ℕ) (ready :
   is = closed k index (omega (arith, ready .listed .cuts .least)) (ready .listed .known)
 
   row-known : (index + 1) / r < length (middle-orders k)
-  row-known = rw er (row-listed k index (omega (arith, ready .listed .cuts .least)) (ready .listed .known))
+  row-known =
+      let n : index + 1 < factorial (k - 1) * 2 ^ (k - 1) = omega (arith, ready .listed .known, count-patterns k (ready .listed .cuts)) in
+      rw (er, count-middle k) (div-lt-iff-lt-mul (pow-pos (k - 1)) .1 n)
 
   pub row-room : (index + 1) / r * (k - 1) + (k - 1) ≤ length permutations
   row-room =

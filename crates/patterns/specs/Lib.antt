@@ -1,3 +1,4 @@
 -- The definitions that the contracts of `patterns` cite.
 pub mod Rows
 pub mod Enumeration
+pub mod Turn

@@ -6,7 +6,8 @@ ghost use lib.ListN.{length, drop};
 ghost use lib.Seq.{sets};
 ghost use Rattle.theory.specs.Moves.{patterns};
 ghost use Rattle.patterns.specs.Rows.{RowRoom, Permuted};
-ghost use Rattle.patterns.specs.Enumeration.{CutCount, OrderRoom, Ready, Put, PatternRoom, Enumerated, pattern, Listed, Holds};
+ghost use Rattle.patterns.specs.Enumeration.{CutCount, PatternRoom, Enumerated, pattern, Listed, Holds};
+ghost use Rattle.patterns.specs.Turn.{OrderRoom, Ready, Put};
 
 // A part into out from `at` on.
 fn copy_in(part: &[u8], out: &mut [u8], at: usize)
@@ -99,12 +100,12 @@ fn put_pattern(permutations: &[u8], k: usize, index: usize, orders: &mut [u8], m
     ensures { λ _. ⌜ Put k index (now (orders .entry)) (now (masks .entry)) (now (orders .exit)) (now (masks .exit)) ⌝ }
 {
     let reversals = reversal_count(k);
-    let t = index + 1;
-    let middle = k - 1;
-    let from = t / reversals * middle;
-    let end = from + middle;
+    let arrangement = index + 1;
+    let num_middle = k - 1;
+    let from = arrangement / reversals * num_middle;
+    let end = from + num_middle;
     put_order(&permutations[from..end], k, orders, index * (k + 1));
-    masks[index] = (2 * (t % reversals)) as u8;
+    masks[index] = (2 * (arrangement % reversals)) as u8;
 }
 
 // All patterns for k: the order of the one at i in the k + 1 bytes from i * (k + 1) on, its mask at i. Answers how many there are.
@@ -131,14 +132,14 @@ pub fn pattern_at(k: usize, index: usize) -> theory::KOptReconnection
     let mut orders = [0u8; 2298];
     let mut masks = [0u8; 383];
     let _ = enumerate_reconnections(k, &mut orders, &mut masks);
-    let width = k + 1;
-    let from = index * width;
-    let end = from + width;
+    let num_segments = k + 1;
+    let from = index * num_segments;
+    let end = from + num_segments;
     let mut places = [0u8; 6];
     copy_in(&orders[from..end], &mut places, 0);
     theory::KOptReconnection {
         segment_order: places,
         reverse_mask: masks[index],
-        len: width as u8,
+        len: num_segments as u8,
     }
 }

@@ -7,7 +7,7 @@ ghost use Rattle.theory.specs.Route.{reverses, reverse-if, reconnected};
 ghost use Rattle.reconnection.specs.Segments.{bound, Part, Fits, Reconnectable};
 
 // src into dst from `at` on.
-fn copy_in(src: &[u32], dst: &mut [u32], at: usize)
+pub fn copy_in(src: &[u32], dst: &mut [u32], at: usize)
     requires { ⌜ Fits (now src) (now dst) at ⌝ }
     ensures { λ _. ⌜ now (dst .exit) ≡ take at (now (dst .entry)) ++ now (src .entry) ++ drop (at + length (now (src .entry))) (now (dst .entry)) ⌝ }
 {

@@ -2,7 +2,8 @@
 ghost use mathlib.Core.Path.{_≡_};
 ghost use lib.Dec.{ltb, leb};
 ghost use lib.ListN.{length};
-ghost use Rattle.theory.specs.Refusals.{some, rises, either, number, cut-count, leg-table, deadline-list, leg-sizes, known-stops, stop-count, cut-positions, room};
+ghost use Rattle.theory.specs.Refusals.{some, rises, either, number, cut-count, leg-table, deadline-list, leg-sizes, known-stops, stop-count, pattern-index, cut-positions, room, refusal, problem-rules};
+ghost use Rattle.patterns.specs.Enumeration.{CutCount};
 
 // The first of two numbers that is not 0.
 pub fn first(a: u32, b: u32) -> u32
@@ -137,6 +138,17 @@ pub fn check_stop_count(n: usize) -> u32
     0
 }
 
+// Judged after k: what the count for another k is plays no part.
+pub fn check_pattern_index(k: usize, index: usize) -> u32
+    requires { ⌜ CutCount k ⌝ }
+    ensures { λ r. ⌜ r ≡ number (pattern-index k index) ⌝ }
+{
+    if patterns::pattern_count(k) <= index {
+        return 6;
+    }
+    0
+}
+
 pub fn check_cut_positions(k: usize, n: usize, cuts: &[usize]) -> u32
     ensures { λ r. ⌜ r ≡ number (cut-positions k n (now (cuts .entry))) ⌝ }
 {
@@ -159,4 +171,23 @@ pub fn check_room(needed: usize, lent: usize) -> u32
         return 21;
     }
     0
+}
+
+// Tables, depot and route together, in the one order.
+pub fn check_problem(
+    locations: usize,
+    legs: &[u32],
+    latest: &[u32],
+    depot: u32,
+    route: &[u32],
+) -> u32
+    ensures { λ r. ⌜ r ≡ refusal (problem-rules locations (now (legs .entry)) (now (latest .entry)) depot (now (route .entry))) ⌝ }
+{
+    let bad_table = check_leg_table(locations, legs);
+    let bad_latest = check_deadline_list(locations, latest);
+    let bad_legs = check_leg_sizes(legs);
+    let bad_stops = check_known_stops(locations, depot, route);
+    let bad_n = check_stop_count(route.len());
+    let bad_route = first(bad_legs, first(bad_stops, bad_n));
+    first(bad_table, first(bad_latest, bad_route))
 }

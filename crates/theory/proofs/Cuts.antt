@@ -56,3 +56,12 @@ pub next-set : (k n : ℕ) (cs cs′ : List ℕ) → CutSet k n cs → next-cuts
 next-set k n cs cs′ c e =
     let a : Again 0 n cs (some cs′) = rw e at (again 0 n cs (c .rising)) in
     record { least = c .least; most = c .most; short = c .short; many = a .0 ∙ c .many; rising = a .1 }
+
+-- k rising cuts need k positions.
+pub enough : (k n : ℕ) (cs : List ℕ) → CutSet k n cs → k ≤ n + 1
+enough k n cs c = omega (arith, room 0 cs (c .rising) (omega (arith, c .many, c .least)), c .many)
+  where
+    room : (low : ℕ) (cs : List ℕ) → Rising low cs n → 0 < length cs → low + length cs ≤ n + 1
+    room low [] r h = absurd (omega arith)
+    room low (c ∷ []) r h = omega (arith, r .0, r .1)
+    room low (c ∷ d ∷ cs) r h = omega (arith, r .0, room (suc c) (d ∷ cs) (r .2) (omega arith))

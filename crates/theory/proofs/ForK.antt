@@ -4,7 +4,8 @@ use mathlib.Core.List.{List, List·Memᴰ}
 use Prim.Native.Nat.{ℕ, suc, _-_, _≤_}
 use native.Mathlib.Omega.{arith}
 use Rattle.theory.specs.Moves.{Pattern, patterns}
-use Rattle.theory.specs.Tables.{Order, ForK}
+use Rattle.theory.specs.Tables.{Order, ForK, PatternRows, pattern-rows}
+use Rattle.theory.specs.Polish.{ForCuts}
 use Rattle.theory.proofs.Moves.{Shape, pattern-shape, rearranges-shape}
 
 pub shape-for-k : (m : ℕ) (p : Pattern) → Shape m p → ForK (suc m) (p .order) (p .mask)
@@ -38,3 +39,7 @@ pub for-k-order : (k : ℕ) (order : List ℕ) (mask : ℕ) → 1 ≤ k → ForK
 for-k-order k order mask h f =
     let e : k ≡ suc (k - 1) = omega arith in
     record { once = λ g. rw (← e) at (rearranges-shape (k - 1) (record { order = order; mask = mask }) (for-k-shape k (k - 1) order mask e f) g) }
+
+-- Lent rows of patterns for k cuts are a list of patterns for k cuts.
+pub rows-for-cuts : (k : ℕ) (orders masks : List ℕ) → 1 ≤ k → PatternRows k orders masks → ForCuts k (pattern-rows k orders masks)
+rows-for-cuts k orders masks h rows p i = for-k-order k (p .order) (p .mask) h (rows .each p i) .once

@@ -1,15 +1,14 @@
 -- The arrangement and the pattern at an index in closed form, for every number of cuts; and the sizes that code reads off a pattern. Assumes nothing.
 use mathlib.Core.Path.{_≡_, refl, sym, ap, _∙_}
-use mathlib.Core.Logic.{inl, inr, ⊎-elim}
-use mathlib.Core.List.{List, [], _∷_, _++_, map, flatMap, tail, List·Memᴰ, List·Memᴰ·head, List·Memᴰ·tail, List·Memᴰ·cases-cons, List·Memᴰ·not-nil}
-use Prim.Native.Nat.{ℕ, zero, suc, _+_, _-_, _*_, _/_, _%_, _^_, _≤_, _<_}
+use mathlib.Core.List.{List, [], _∷_, _++_, map, flatMap, tail, List·Memᴰ, List·Memᴰ·head, List·Memᴰ·tail, List·Memᴰ·not-nil}
+use Prim.Native.Nat.{ℕ, zero, suc, _+_, _*_, _/_, _%_, _^_, _≤_, _<_}
 use native.Mathlib.Omega.{arith}
 use native.Mathlib.Nat.{zero-add, suc-mul, div-add-mod', div-lt-iff-lt-mul, mod-lt, pow-succ'}
-use lib.ListN.{length, getD, take, drop, length-append, length-map, List·getD-append, List·getD-map}
+use lib.ListN.{length, getD, take, drop, length-map, List·getD-append}
 use lib.Seq.{getD-append-add}
 use lib.Pow.{pow-pos}
-use Rattle.theory.specs.Moves.{upfrom, total, picks, orders, Pattern, arrangements, patterns, factorial}
-use Rattle.theory.proofs.Moves.{length-upfrom, length-flatMap, length-picks, length-orders, length-arrangements, length-patterns, total-orders, total-ones, pattern-shape, rearranges}
+use Rattle.theory.specs.Moves.{upfrom, picks, orders, Pattern, arrangements, patterns, factorial}
+use Rattle.theory.proofs.Moves.{length-upfrom, length-picks, length-orders, length-patterns, total-orders, total-ones, pattern-shape, rearranges}
 use Rattle.theory.proofs.Orders.{in-range}
 
 -- Lists of one length n, one after the other: place r of the one at q.

@@ -20,3 +20,4 @@ pub mod Refusals
 pub mod Judged
 pub mod ForK
 pub mod Rows
+pub mod Polishing

@@ -57,7 +57,7 @@ module _ (P : Problem) (ps : List Pattern) (k : ℕ) where
       ⊎-elim (λ d. absurd (d (feasible-iff P (reconnected m r) .0 e))) (λ h. h) (n (m .cuts) (l .many) (l .rising) (m .pattern) (l .known))
 
   module _ (good : ForCuts k ps) where
-    same-total : (g : ℕ → ℕ) (a : ℕ) (r : List ℕ) → total g (polish-with P ps k a r .route) ≡ total g r
+    pub same-total : (g : ℕ → ℕ) (a : ℕ) (r : List ℕ) → total g (polish-with P ps k a r .route) ≡ total g r
     same-total g a r =
         scan-preserves (search-of P ps k (length r)) (total g)
         (λ m i s. let l = legal ps k (length r) m i in total-reconnected g (length r) m s (l .rising) (λ h. rw (l .many) (good (m .pattern) (l .known) h)))

@@ -6,8 +6,9 @@ use mathlib.Core.List.{List, [], _∷_, _++_, List·Memᴰ, List·Memᴰ·head, 
 use Prim.Native.Nat.{ℕ, zero, suc, _≤_}
 use native.Mathlib.Omega.{arith}
 use lib.Dec.{eqb, leb}
+use lib.ListN.{length}
 use borrow.Author.Tests.{eqb-true, eqb-false, leb-true}
-use Rattle.theory.specs.Refusals.{Rule, some, order, either, rules-of, first-in, refusal}
+use Rattle.theory.specs.Refusals.{Rule, number, some, order, either, rules-of, first-in, refusal, problem-rules, leg-table, deadline-list, leg-sizes, known-stops, stop-count}
 
 -- No rule applies.
 abbrev pub Passes : List Rule → Type 0
@@ -227,3 +228,43 @@ lowest rs k n h r i a =
     ⊎-elim (λ e. absurd (true≢false (sym a ∙ d .first r i e)))
     (λ t. ⊎-elim (λ e. rw e (lower-same (suc n))) (λ l. lower-is (suc n) (r .0) (sorted-at (d .earlier) (suc n) (d .later) (rw (← d .place) order-sorted) (r .0) l)) (List·Memᴰ·cases-cons t))
     (List·Memᴰ·append-cases (d .earlier) j)
+
+-- ---- the checks of a call, one after the other
+
+pub either-zero : (n : ℕ) → either n 0 ≡ n
+unfolding either
+either-zero zero = refl
+either-zero (suc n) = refl
+
+either-assoc : (a b c : ℕ) → either (either a b) c ≡ either a (either b c)
+unfolding either
+either-assoc zero b c = refl
+either-assoc (suc a) b c = refl
+
+-- Checks that are judged together, and then the others.
+pub four-then : (a b c d rest : ℕ) → either (either a (either b (either c (either d 0)))) rest ≡ either a (either b (either c (either d rest)))
+unfolding either
+four-then a b c d rest = simp either-assoc
+
+pub five-then : (a b c d e rest : ℕ) → either (either a (either b (either c (either d (either e 0))))) rest ≡ either a (either b (either c (either d (either e rest))))
+unfolding either
+five-then a b c d e rest = simp either-assoc
+
+-- A check that applies is given, and one that does not is passed.
+pub applies-first : (a n rest : ℕ) → a ≡ n → (a ≡ 0 → ⊥) → a ≡ either n rest
+unfolding either
+applies-first a zero rest e h = absurd (h e)
+applies-first a (suc n) rest e h = e
+
+pub passed-over : (a n rest : ℕ) → a ≡ n → a ≡ 0 → rest ≡ either n rest
+unfolding either
+passed-over a zero rest e h = refl
+passed-over a (suc n) rest e h = absurd (omega arith)
+
+-- The rules of the problem, and then the others.
+pub problem-then : (locations : ℕ) (legs latest : List ℕ) (depot : ℕ) (route : List ℕ) (rest : ℕ) →
+    either (refusal (problem-rules locations legs latest depot route)) rest
+    ≡ either (number (leg-table locations legs)) (either (number (deadline-list locations latest)) (either (number (leg-sizes legs)) (either (number (known-stops locations depot route)) (either (number (stop-count (length route))) rest))))
+unfolding refusal
+problem-then locations legs latest depot route rest =
+    five-then (number (leg-table locations legs)) (number (deadline-list locations latest)) (number (leg-sizes legs)) (number (known-stops locations depot route)) (number (stop-count (length route))) rest

@@ -1,13 +1,16 @@
 -- What a caller is told: document 01's number and values for each case of an answer.
 use mathlib.Core.Path.{_≡_}
 use mathlib.Core.List.{List, [], _∷_}
-use mathlib.Core.Bool.{true}
+use mathlib.Core.Bool.{true, false, cond}
 use mathlib.Core.Logic.{_⊎_}
 use Prim.Native.Nat.{ℕ, zero, suc, _<_}
-use lib.ListN.{length, take}
+use lib.Dec.{eqb}
+use lib.ListN.{length, getD, take}
 use lib.IntN.{ℤ}
 use Rattle.theory.specs.Moves.{Pattern}
-use Rattle.theory.specs.Route.{Problem, late, Feasible}
+use Rattle.theory.specs.Route.{Problem, late, Feasible, tour-length}
+use Rattle.theory.specs.Scan.{Reply}
+use Rattle.theory.specs.Polish.{polish-with, Demand3}
 use Rattle.theory.specs.declared.Deadline.{Deadline}
 use Rattle.theory.specs.declared.Deadline.the-variants as Check
 use Rattle.theory.specs.declared.CutStep.{CutStep}
@@ -19,6 +22,9 @@ use Rattle.theory.specs.declared.LengthDelta.the-variants as Delta
 use Rattle.theory.specs.declared.Feasibility.{Feasibility}
 use Rattle.theory.specs.declared.Feasibility.the-variants as Judged
 use Rattle.theory.specs.declared.KOptReconnection.{KOptReconnection}
+use Rattle.theory.specs.declared.Counts.{Counts}
+use Rattle.theory.specs.declared.Polished.{Polished}
+use Rattle.theory.specs.declared.Polished.the-variants as Polishing
 
 -- 0 with the values, or a refusal number with none.
 pub record Answer (A : Type 0) : Type 0 where
@@ -72,3 +78,33 @@ Verdict P route p = ((p ≡ length route) × Feasible P route) ⊎ LateAt P rout
 -- A pattern as the struct holds it: its order with 0 in the unused of six places.
 abbrev pub pattern-of : KOptReconnection → Pattern
 pattern-of r = record { order = take (r .len) (r .«segment_order»); mask = r .«reverse_mask» }
+
+-- What polishing answers, with the route that it hands back, as a reply of the scan.
+abbrev pub reply-of : Polished → List ℕ → Reply (List ℕ)
+reply-of (Polishing.Finished c) route = record { finished = true; examined = c .examined; accepted = c .accepted; route = route }
+reply-of (Polishing.Spent c) route = record { finished = false; examined = c .examined; accepted = c .accepted; route = route }
+
+abbrev pub counts-of : Polished → Counts
+counts-of (Polishing.Finished c) = c
+counts-of (Polishing.Spent c) = c
+
+-- "Five numbers: 0 finished or 1 spent, then the four named": examined, accepted, length before, length after.
+abbrev pub polish-values : Polished → List ℕ
+polish-values (Polishing.Finished c) = 0 ∷ c .examined ∷ c .accepted ∷ c .before ∷ c .after ∷ []
+polish-values (Polishing.Spent c) = 1 ∷ c .examined ∷ c .accepted ∷ c .before ∷ c .after ∷ []
+
+-- The same five numbers, of the scan's reply q to a route.
+abbrev pub five-numbers : Problem → List ℕ → Reply (List ℕ) → List ℕ
+five-numbers P route q = cond (q .finished) 0 1 ∷ q .examined ∷ q .accepted ∷ tour-length P route ∷ tour-length P (q .route) ∷ []
+
+-- What a result and a route that were handed back say: the scan's reply.
+abbrev pub handed-back : List ℕ → List ℕ → Reply (List ℕ)
+handed-back result route = record { finished = eqb (getD result 0 0) 0; examined = getD result 1 0; accepted = getD result 2 0; route = route }
+
+-- What polishing promises, of the route handed in, the answer and the route handed back, for a list of patterns: "round and reply are those of document
+-- 01's scan", with the lengths; and demand 3.
+pub record Polishes (P : Problem) (ps : List Pattern) (k allowance : ℕ) (route : List ℕ) (answer : Polished) (route′ : List ℕ) : Type 0 where
+  pub scan : reply-of answer route′ ≡ polish-with P ps k allowance route
+  pub before : counts-of answer .before ≡ tour-length P route
+  pub after : counts-of answer .after ≡ tour-length P route′
+  pub demand3 : Demand3 P ps k allowance route (reply-of answer route′)

@@ -85,3 +85,8 @@ first-in (n ∷ ns) rs = rules-of n rs (first-in ns rs)
 unfoldable pub refusal : List Rule → ℕ
 unfolding first-in
 refusal rs = first-in order rs
+
+-- The rules of the tables, the depot and a route.
+abbrev pub problem-rules : ℕ → List ℕ → List ℕ → ℕ → List ℕ → List Rule
+problem-rules locations legs latest depot route =
+    leg-table locations legs ∷ deadline-list locations latest ∷ leg-sizes legs ∷ known-stops locations depot route ∷ stop-count (length route) ∷ []

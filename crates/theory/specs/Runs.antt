@@ -7,6 +7,7 @@ use Rattle.theory.specs.Scan.{Reply, scan-from}
 use Rattle.theory.specs.Moves.{Pattern, patterns, cut-sets, candidates}
 use Rattle.theory.specs.Route.{Problem, tour-length, reconnected, feasible}
 use Rattle.theory.specs.Polish.{polish}
+use Rattle.theory.specs.Answers.{five-numbers}
 
 pub data Ask : Type 0 where
   pattern : (k index : ℕ) → Ask
@@ -23,16 +24,13 @@ T latest =
       depot = 0;
     }
 
-abbrev pub numbers : Problem → List ℕ → Reply (List ℕ) → List ℕ
-numbers P r q = elim (q .finished) [ true ↦ 0 | false ↦ 1 ] ∷ q .examined ∷ q .accepted ∷ tour-length P r ∷ tour-length P (q .route) ∷ q .route
-
 -- What the definitions answer: a pattern's mask and order; a number; polishing's five numbers and the route.
 unfoldable pub answer : Ask → List ℕ
 unfolding patterns cut-sets
 answer (pattern k i) = let p = getD (patterns k) i (record { order = []; mask = 0 }) in p .mask ∷ p .order
 answer (how-many-patterns k) = length (patterns k) ∷ []
 answer (how-many-cut-sets k n) = length (cut-sets k n) ∷ []
-answer (T-with k a l) = numbers (T l) (1 ∷ 2 ∷ []) (polish (T l) k a (1 ∷ 2 ∷ []))
+answer (T-with k a l) = (let q = polish (T l) k a (1 ∷ 2 ∷ []) in five-numbers (T l) (1 ∷ 2 ∷ []) q ++ q .route)
 
 abbrev pub far : ℕ
 far = 4294967295

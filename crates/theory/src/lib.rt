@@ -43,3 +43,17 @@ pub struct ReconnectionAt {
     pub refusal: u32,
     pub reconnection: KOptReconnection,
 }
+
+// What polishing counts: candidates examined and accepted, and the lengths of the route handed in and of the route handed back.
+pub struct Counts {
+    pub examined: u64,
+    pub accepted: u64,
+    pub before: u64,
+    pub after: u64,
+}
+
+// The answer of polishing: no candidate is left that improves, or the allowance is spent.
+pub enum Polished {
+    Finished(Counts),
+    Spent(Counts),
+}

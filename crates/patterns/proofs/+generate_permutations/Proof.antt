@@ -1,22 +1,22 @@
-use Prim.Native.Nat.{_≤_, _-_, _+_}
+-- `generate_permutations`: the rows still to be written, stored from the next place, give all rows. The measure is the number of items left.
 use mathlib.Core.Path.{_≡_, refl, sym, ap, _∙_}
+use mathlib.Core.List.{List}
+use Prim.Native.Nat.{_≤_, _-_, _+_, ℕ, _<_}
+use native.Mathlib.Omega.{arith}
 use lib.ListN.{length, take, length-take}
 use lib.Seq.{sets}
-use mathlib.Core.List.{List}
-use Rattle.patterns.specs.Rows.{permutations}
-use Rattle.patterns.proofs.Permutations.{rows-from, none-left, rows-first, rows-last, turn-room, turn-after, turn-written}
-use native.Mathlib.Omega.{arith}
 use borrow.Author.Needs.{needs}
-use Prim.Native.Nat.{ℕ, _<_}
 use borrow.Fn.Kinds.{In}
 use borrow.Fn.PlainCycle.{Measures, is, falls, and}
+use Rattle.patterns.specs.Rows.{permutations}
+use Rattle.patterns.proofs.Permutations.{rows-from, none-left, rows-first, rows-last, turn-room, turn-after, turn-written}
+use Rattle.patterns.proofs.+generate_permutations.{statement}
+use Rattle.patterns.proofs.+generate_permutations.Tie.{close}
 use Rattle.patterns.proofs.generate_permutations.Reads as generate-permutations
 use Rattle.patterns.proofs.generate_permutations.Kinds as generate-permutations-kinds
 use Rattle.patterns.proofs.+generate_permutations.Lts-generate_permutations as generate-permutations-lts
 use Rattle.patterns.proofs.copy_in.Reads as copy-in-reads
 use Rattle.patterns.proofs.remove.Reads as remove-reads
-use Rattle.patterns.proofs.+generate_permutations.{statement}
-use Rattle.patterns.proofs.+generate_permutations.Tie.{close}
 
 abbrev μ-generate-permutations : Measures 1 generate-permutations-kinds.ps ℕ
 μ-generate-permutations κs a = a .1 .0
@@ -50,7 +50,6 @@ generate-permutations-Inv-loop left depth out₀ at items row next₀ i₀ out n
 abbrev generate-permutations-μ-loop : generate-permutations-lts.MeasureT-loop
 generate-permutations-μ-loop left depth out₀ at items row next₀ i₀ out next i = left - i
 
--- src/lib.rt:45:17
 generate-permutations-array-share-prefix-row :
     (t : ℕ) → generate-permutations-lts.Need-array-share-prefix-row (
       copy-in-reads.Asked,
@@ -66,7 +65,6 @@ generate-permutations-array-share-prefix-row :
     generate-permutations-μ-loop
 generate-permutations-array-share-prefix-row t c = search needs
 
--- src/lib.rt:45:17
 generate-permutations-slice-aggregate-copy-in :
     (t : ℕ) → generate-permutations-lts.Need-slice-aggregate-copy-in (
       copy-in-reads.Asked,
@@ -85,7 +83,6 @@ generate-permutations-slice-aggregate-copy-in t c =
     let r : length (s .args .t3) ≡ 4 = search needs in
     simp length-take (omega (arith, s .pre .1 .few))
 
--- src/lib.rt:45:9
 generate-permutations-copy-in-requires : (t : ℕ) → generate-permutations-lts.Need-copy-in-requires (
   copy-in-reads.Asked,
   copy-in-reads.Learnt,
@@ -102,7 +99,6 @@ generate-permutations-copy-in-requires t c κs =
     let s = c .before .before .before .before in
     omega (arith, s .pre .1 .room, ap length (none-left (s .args .t1) (s .args .t3) (s .args .left) (s .args .depth) (c .before .before .if1 .taken)))
 
--- src/lib.rt:46:16
 generate-permutations-add-result : (t : ℕ) → generate-permutations-lts.Need-add-result (
   copy-in-reads.Asked,
   copy-in-reads.Learnt,
@@ -117,7 +113,6 @@ generate-permutations-add-result : (t : ℕ) → generate-permutations-lts.Need-
     generate-permutations-μ-loop
 generate-permutations-add-result t c = search needs
 
--- src/lib.rt:46:9
 generate-permutations-same-length : (t : ℕ) → generate-permutations-lts.Need-same-length (
   copy-in-reads.Asked,
   copy-in-reads.Learnt,
@@ -132,7 +127,6 @@ generate-permutations-same-length : (t : ℕ) → generate-permutations-lts.Need
     generate-permutations-μ-loop
 generate-permutations-same-length t c = search needs
 
--- src/lib.rt:46:9
 generate-permutations-returns : (t : ℕ) → generate-permutations-lts.Need-returns (
   copy-in-reads.Asked,
   copy-in-reads.Learnt,
@@ -151,7 +145,6 @@ generate-permutations-returns t c =
     let e = none-left (s .args .t1) (s .args .t3) (s .args .left) (s .args .depth) (c .before .before .before .before .before .if1 .taken) in
     record { next-row = rw e (simp length-take (omega (arith, s .pre .1 .few))); written = c .before .before .copy-in .ensures ∙ ap (sets (s .args .out .now) (s .args .at)) (sym e) }
 
--- src/lib.rt:50:5
 generate-permutations-loop-holds : (t : ℕ) → generate-permutations-lts.Need-loop-holds (
   copy-in-reads.Asked,
   copy-in-reads.Learnt,
@@ -177,7 +170,6 @@ generate-permutations-loop-holds t c =
       ap (sets (s .args .out .now) (s .args .at)) (sym e),
     )
 
--- src/lib.rt:52:25
 generate-permutations-array-read-longer :
     (t : ℕ) → generate-permutations-lts.Need-array-read-longer (
       copy-in-reads.Asked,
@@ -193,7 +185,6 @@ generate-permutations-array-read-longer :
     generate-permutations-μ-loop
 generate-permutations-array-read-longer t c = search needs
 
--- src/lib.rt:52:9
 generate-permutations-array-write-longer :
     (t : ℕ) → generate-permutations-lts.Need-array-write-longer (
       copy-in-reads.Asked,
@@ -209,7 +200,6 @@ generate-permutations-array-write-longer :
     generate-permutations-μ-loop
 generate-permutations-array-write-longer t c = search needs
 
--- src/lib.rt:53:13
 generate-permutations-remove-requires : (t : ℕ) → generate-permutations-lts.Need-remove-requires (
   copy-in-reads.Asked,
   copy-in-reads.Learnt,
@@ -224,7 +214,6 @@ generate-permutations-remove-requires : (t : ℕ) → generate-permutations-lts.
     generate-permutations-μ-loop
 generate-permutations-remove-requires t c κs = search needs
 
--- src/lib.rt:54:44
 generate-permutations-sub-generate-permutations :
     (t : ℕ) → generate-permutations-lts.Need-sub-generate-permutations (
       copy-in-reads.Asked,
@@ -240,7 +229,6 @@ generate-permutations-sub-generate-permutations :
     generate-permutations-μ-loop
 generate-permutations-sub-generate-permutations t c = search needs
 
--- src/lib.rt:54:62
 generate-permutations-add-generate-permutations :
     (t : ℕ) → generate-permutations-lts.Need-add-generate-permutations (
       copy-in-reads.Asked,
@@ -256,7 +244,6 @@ generate-permutations-add-generate-permutations :
     generate-permutations-μ-loop
 generate-permutations-add-generate-permutations t c = search needs
 
--- src/lib.rt:54:9
 generate-permutations-generate-permutations-requires :
     (t : ℕ) → generate-permutations-lts.Need-generate-permutations-requires (
       copy-in-reads.Asked,
@@ -280,7 +267,6 @@ generate-permutations-generate-permutations-requires t c κs =
       },
     )
 
--- src/lib.rt:55:9
 generate-permutations-add-i : (t : ℕ) → generate-permutations-lts.Need-add-i (
   copy-in-reads.Asked,
   copy-in-reads.Learnt,
@@ -295,7 +281,6 @@ generate-permutations-add-i : (t : ℕ) → generate-permutations-lts.Need-add-i
     generate-permutations-μ-loop
 generate-permutations-add-i t c = search needs
 
--- src/lib.rt:50:5
 generate-permutations-loop-less : (t : ℕ) → generate-permutations-lts.Need-loop-less (
   copy-in-reads.Asked,
   copy-in-reads.Learnt,
@@ -310,7 +295,6 @@ generate-permutations-loop-less : (t : ℕ) → generate-permutations-lts.Need-l
     generate-permutations-μ-loop
 generate-permutations-loop-less t c = search needs
 
--- src/lib.rt:50:5
 generate-permutations-loop-again : (t : ℕ) → generate-permutations-lts.Need-loop-again (
   copy-in-reads.Asked,
   copy-in-reads.Learnt,
@@ -336,7 +320,6 @@ generate-permutations-loop-again t c =
       rw (g .next-row, g .written) (turn-written (s .args .t1) (s .args .t3) (s .args .out .now) (l .out) (s .args .left) (s .args .depth) (s .args .at) (l .next) (l .i) (s .pre .1 .few) (l .inv .2) (l .inv .3) (c .before .before .before .before .before .loop-test .taken) (omega (arith, s .pre .1 .room, l .inv .4)) (l .inv .5) (l .inv .6)),
     )
 
--- src/lib.rt:33:1
 generate-permutations-same-length-2 : (t : ℕ) → generate-permutations-lts.Need-same-length-2 (
   copy-in-reads.Asked,
   copy-in-reads.Learnt,
@@ -351,7 +334,6 @@ generate-permutations-same-length-2 : (t : ℕ) → generate-permutations-lts.Ne
     generate-permutations-μ-loop
 generate-permutations-same-length-2 t c = search needs
 
--- src/lib.rt:33:1
 generate-permutations-returns-2 : (t : ℕ) → generate-permutations-lts.Need-returns-2 (
   copy-in-reads.Asked,
   copy-in-reads.Learnt,

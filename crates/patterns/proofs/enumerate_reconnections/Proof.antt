@@ -1,20 +1,18 @@
-use Prim.Native.Nat.{ℕ, _+_, _-_, _*_, _≤_, _<_}
+-- `enumerate_reconnections`: the patterns from the index on, stored from their places, give all patterns.
 use mathlib.Core.Path.{_≡_, refl, ap, _∙_}
 use mathlib.Core.List.{[], _∷_, flatten}
+use Prim.Native.Nat.{ℕ, _+_, _-_, _*_, _≤_, _<_}
+use native.Mathlib.Omega.{arith}
 use lib.ListN.{length, take, drop, replicate}
 use lib.Seq.{sets}
-use Rattle.theory.specs.Moves.{patterns}
-use Rattle.patterns.specs.Enumeration.{middle-orders}
-use Rattle.patterns.proofs.Enumeration.{middles-room, middles-first, orders-of, masks-of, next-orders, next-masks, order-fits, mask-fits, end-orders, end-masks}
-use native.Mathlib.Omega.{arith}
 use borrow.Author.Needs.{needs}
+use Rattle.theory.specs.Moves.{patterns}
+use Rattle.patterns.specs.Enumeration.{orders-of, masks-of}
+use Rattle.patterns.specs.Turn.{middle-orders}
+use Rattle.patterns.proofs.Counts.{few-patterns, row-fits}
+use Rattle.patterns.proofs.Enumeration.{recursion-room, middles-first, next-orders, next-masks, end-orders, end-masks}
 use Rattle.patterns.proofs.enumerate_reconnections.Statement.{statement}
 use Rattle.patterns.proofs.enumerate_reconnections.Tie as tie
-use Rattle.patterns.proofs.enumerate_reconnections.Reads as reads
-use Rattle.patterns.proofs.enumerate_reconnections.Lts as lts
-use Rattle.patterns.proofs.generate_permutations.Reads as generate-permutations-reads
-use Rattle.patterns.proofs.pattern_count.Reads as pattern-count-reads
-use Rattle.patterns.proofs.put_pattern.Reads as put-pattern-reads
 
 abbrev Inv-loop : tie.InvT-loop
 Inv-loop k orders₀ masks₀ permutations count index₀ orders masks index =
@@ -30,26 +28,21 @@ Inv-loop k orders₀ masks₀ permutations count index₀ orders masks index =
 abbrev μ-loop : tie.MeasureT-loop
 μ-loop k orders₀ masks₀ permutations count index₀ orders masks index = count - index
 
--- src/lib.rt:116:49
 sub-generate-permutations : tie.Need-sub-generate-permutations Inv-loop μ-loop
 sub-generate-permutations c = search needs
 
--- src/lib.rt:116:67
 slice-aggregate-generate-permutations :
     tie.Need-slice-aggregate-generate-permutations Inv-loop μ-loop
 slice-aggregate-generate-permutations c = search needs
 
--- src/lib.rt:116:13
 generate-permutations-requires : tie.Need-generate-permutations-requires Inv-loop μ-loop
 generate-permutations-requires c κs =
     let s = c .before .before .before in
-    record { few = omega (arith, s .pre .cuts .most); room = middles-room (s .args .k) (s .pre .cuts) (0 ∷ 0 ∷ 0 ∷ 0 ∷ []) }
+    record { few = omega (arith, s .pre .cuts .most); room = recursion-room (s .args .k) (s .pre .cuts) (0 ∷ 0 ∷ 0 ∷ 0 ∷ []) }
 
--- src/lib.rt:117:9
 pattern-count-requires : tie.Need-pattern-count-requires Inv-loop μ-loop
 pattern-count-requires c κs = search needs
 
--- src/lib.rt:119:5
 loop-holds : tie.Need-loop-holds Inv-loop μ-loop
 loop-holds c =
     let s = c .before .before .before .before .before .before in
@@ -65,11 +58,9 @@ loop-holds c =
       refl,
     )
 
--- src/lib.rt:120:21
 slice-aggregate-put-pattern : tie.Need-slice-aggregate-put-pattern Inv-loop μ-loop
 slice-aggregate-put-pattern c = search needs
 
--- src/lib.rt:120:9
 put-pattern-requires : tie.Need-put-pattern-requires Inv-loop μ-loop
 put-pattern-requires c κs =
     let l = c .before .before .before .before .loop in
@@ -78,19 +69,16 @@ put-pattern-requires c κs =
     record {
       listed = record { cuts = s .pre .cuts; known = known };
       permuted = l .inv .3;
-      order = omega (arith, order-fits (s .args .k) (l .index) (s .pre .cuts) known, s .pre .orders, l .inv .4);
-      mask = omega (arith, mask-fits (s .args .k) (l .index) (s .pre .cuts) known, s .pre .masks, l .inv .5);
+      order = omega (arith, row-fits (s .args .k) (s .pre .cuts) (l .index) known, s .pre .orders, l .inv .4);
+      mask = omega (arith, few-patterns (s .args .k) (s .pre .cuts), s .pre .masks, l .inv .5);
     }
 
--- src/lib.rt:121:9
 add-index : tie.Need-add-index Inv-loop μ-loop
 add-index c = search needs
 
--- src/lib.rt:119:5
 loop-less : tie.Need-loop-less Inv-loop μ-loop
 loop-less c = search needs
 
--- src/lib.rt:119:5
 loop-again : tie.Need-loop-again Inv-loop μ-loop
 loop-again c =
     let l = c .before .before .before .before .before .before .before .before .before .loop in
@@ -107,15 +95,12 @@ loop-again c =
       rw (p .ensures .mask) (next-masks (s .args .k) (l .index) known (l .masks) ∙ l .inv .7),
     )
 
--- src/lib.rt:111:1
 same-length : tie.Need-same-length Inv-loop μ-loop
 same-length c = search needs
 
--- src/lib.rt:111:1
 same-length-2 : tie.Need-same-length-2 Inv-loop μ-loop
 same-length-2 c = search needs
 
--- src/lib.rt:111:1
 returns : tie.Need-returns Inv-loop μ-loop
 returns c =
     let l = c .before .loop in
@@ -123,8 +108,8 @@ returns c =
     let all : l .index ≡ length (patterns (s .args .k)) = omega (arith, l .inv .0, l .inv .1, c .loop-test .left) in
     record {
       count = l .inv .1;
-      orders = end-orders (s .args .k) (l .index) (s .pre .cuts .most) all (s .args .orders .now) (l .orders) (l .index * (s .args .k + 1)) (l .inv .6) (s .pre .orders);
-      masks = end-masks (s .args .k) (l .index) (s .pre .cuts .most) all (s .args .masks .now) (l .masks) (l .index) (l .inv .7) (s .pre .masks);
+      orders = end-orders (s .args .k) (l .index) (s .pre .cuts) all (s .args .orders .now) (l .orders) (l .index * (s .args .k + 1)) (l .inv .6) (s .pre .orders);
+      masks = end-masks (s .args .k) (l .index) (s .pre .cuts) all (s .args .masks .now) (l .masks) (l .index) (l .inv .7) (s .pre .masks);
     }
 
 pub enumerate-reconnections-spec : {M : Type 1} → statement M

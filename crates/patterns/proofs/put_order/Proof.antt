@@ -1,48 +1,38 @@
-use Prim.Native.Nat.{_+_}
+-- `put_order`: three runs of stores, one after the other.
 use mathlib.Core.Path.{_∙_}
-use lib.ListN.{length-set}
-use Rattle.patterns.proofs.Stores.{stored-order}
+use Prim.Native.Nat.{_+_}
 use native.Mathlib.Omega.{arith}
+use lib.ListN.{length-set}
 use borrow.Author.Needs.{needs}
+use Rattle.patterns.proofs.Stores.{stored-order}
 use Rattle.patterns.proofs.put_order.Statement.{statement}
 use Rattle.patterns.proofs.put_order.Tie as tie
-use Rattle.patterns.proofs.put_order.Reads as reads
-use Rattle.patterns.proofs.put_order.Lts as lts
-use Rattle.patterns.proofs.copy_in.Reads as copy-in-reads
 
--- src/lib.rt:91:5
 slice-write-out : tie.Need-slice-write-out
 slice-write-out c = search needs
 
--- src/lib.rt:92:26
 add-copy-in : tie.Need-add-copy-in
 add-copy-in c = search needs
 
--- src/lib.rt:92:5
 copy-in-requires : tie.Need-copy-in-requires
 copy-in-requires c κs =
     let s = c .before .before .before in
-    rw (length-set (s .args .out .now) (s .args .at) 0) (omega (arith, s .pre .middles, s .pre .room))
+    simp length-set (omega (arith, s .pre .middles, s .pre .room))
 
--- src/lib.rt:93:19
 cast-out : tie.Need-cast-out
 cast-out c = search needs
 
--- src/lib.rt:93:9
 add-out : tie.Need-add-out
 add-out c = search needs
 
--- src/lib.rt:93:5
 slice-write-out-2 : tie.Need-slice-write-out-2
 slice-write-out-2 c = search needs
 
--- src/lib.rt:87:1
 same-length : tie.Need-same-length
 same-length c =
     let s = c .before .before .before .before .before .before in
-    length-set (c .before .before .copy-in .last .1 .0) (s .args .at + s .args .k) (s .args .k) ∙ c .before .before .copy-in .kept .1 .0 ∙ length-set (s .args .out .now) (s .args .at) 0
+    length-set (c .before .before .copy-in .last .1 .0) (s .args .at + s .args .k) (s .args .k) ∙ simp length-set at (c .before .before .copy-in .kept .1 .0)
 
--- src/lib.rt:87:1
 returns : tie.Need-returns
 returns c =
     let s = c .before .before .before .before .before .before in

@@ -1,40 +1,31 @@
-use Prim.Native.Nat.{_-_, _+_}
+-- `remove`: the part behind i, stored from i on.
 use mathlib.Core.Path.{_≡_, ap, _∙_}
+use Prim.Native.Nat.{_-_, _+_}
+use native.Mathlib.Omega.{arith}
 use lib.ListN.{length, drop, length-drop}
 use lib.Seq.{sets, take-all}
-use native.Mathlib.Omega.{arith}
 use borrow.Author.Needs.{needs}
 use Rattle.patterns.proofs.remove.Statement.{statement}
 use Rattle.patterns.proofs.remove.Tie as tie
-use Rattle.patterns.proofs.remove.Reads as reads
-use Rattle.patterns.proofs.remove.Lts as lts
-use Rattle.patterns.proofs.copy_in.Reads as copy-in-reads
 
--- src/lib.rt:27:16
 add-next : tie.Need-add-next
 add-next c = search needs
 
--- src/lib.rt:28:13
 sub-copy-in : tie.Need-sub-copy-in
 sub-copy-in c = search needs
 
--- src/lib.rt:28:13
 part-copy-in-start : tie.Need-part-copy-in-start
 part-copy-in-start c = search needs
 
--- src/lib.rt:28:13
 part-copy-in-end : tie.Need-part-copy-in-end
 part-copy-in-end c = search needs
 
--- src/lib.rt:28:29
 slice-aggregate-copy-in : tie.Need-slice-aggregate-copy-in
 slice-aggregate-copy-in c = search needs
 
--- src/lib.rt:28:5
 copy-in-requires : tie.Need-copy-in-requires
 copy-in-requires c κs = search needs
 
--- src/lib.rt:22:1
 returns : tie.Need-returns
 returns c =
     let s = c .before .before .before .before .before in

@@ -1,24 +1,18 @@
+-- `reversal_count`, case by case.
 use mathlib.Core.Path.{_≡_}
 use native.Mathlib.Omega.{arith}
-use borrow.Author.Needs.{needs}
 use Rattle.patterns.proofs.reversal_count.Statement.{statement}
 use Rattle.patterns.proofs.reversal_count.Tie as tie
-use Rattle.patterns.proofs.reversal_count.Reads as reads
-use Rattle.patterns.proofs.reversal_count.Lts as lts
 
--- src/lib.rt:61:1
 returns : tie.Need-returns
 returns c = rw (c .match .keys1)
 
--- src/lib.rt:61:1
 returns-2 : tie.Need-returns-2
 returns-2 c = rw (c .match .keys2)
 
--- src/lib.rt:61:1
 returns-3 : tie.Need-returns-3
 returns-3 c = rw (c .match .keys3)
 
--- src/lib.rt:61:1
 returns-4 : tie.Need-returns-4
 returns-4 c = let e : c .before .args .k ≡ 5 = omega (arith, c .before .pre .least) in rw e
 

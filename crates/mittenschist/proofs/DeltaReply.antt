@@ -1,0 +1,41 @@
+-- The replies of the entry `delta`, over plain values. Assumes nothing.
+use mathlib.Core.Path.{_≡_, refl, ap, _∙_}
+use mathlib.Core.List.{List, [], _∷_}
+use Prim.Native.Nat.{ℕ}
+use lib.IntN.{ℤ}
+use lib.ListN.{length}
+use Rattle.theory.specs.Moves.{patterns}
+use Rattle.theory.specs.Polish.{move-at}
+use Rattle.theory.specs.Tables.{legs-only}
+use Rattle.theory.specs.Refusals.{refusal}
+use Rattle.theory.specs.Answers.{reply}
+use Rattle.theory.specs.declared.LengthDelta.the-variants.{Refused, Seconds}
+use Rattle.theory.proofs.Refusals.{known}
+use Rattle.theory.proofs.Judged.{measurable-fine, pattern-fine, cuts-fine}
+use Rattle.moves.specs.Moves.{Comparable, length-change}
+use Rattle.mittenschist.specs.Promises.{DeltaReply, delta-rules}
+use Rattle.mittenschist.proofs.Entries.{refused-reply, taken-reply, taken-passes}
+
+module _ (k pattern : ℕ) (cuts : List ℕ) (locations : ℕ) (legs : List ℕ) (depot : ℕ) (route : List ℕ) (number : ℕ)
+    (judged : number ≡ refusal (delta-rules k pattern cuts locations legs depot route)) where
+  abbrev change : ℤ
+  change = length-change (legs-only locations legs depot) (move-at (patterns k) cuts pattern) route
+
+  pub refused : (number ≡ 0 → ⊥) → DeltaReply k pattern cuts locations legs depot route (Refused number)
+  refused h = record { reply-is = refused-reply (delta-rules k pattern cuts locations legs depot route) number judged (change ∷ []) h }
+
+  module _ (h : number ≡ 0) where
+    pub fine : Comparable k pattern cuts locations legs depot route
+    unfolding known
+    fine =
+        let p = taken-passes (delta-rules k pattern cuts locations legs depot route) number judged refl h in
+        let q = p .1 .1 .1 .1 in
+        record {
+          cut-set = cuts-fine k (length route) cuts (p .0) (q .0) (q .1 .1 .0);
+          listed = pattern-fine k pattern (q .1 .0);
+          measurable = measurable-fine locations legs depot route (p .1 .0) (p .1 .1 .0) (p .1 .1 .1 .0) (q .0);
+        }
+
+    pub changed : (seconds : ℤ) → seconds ≡ length-change (legs-only locations legs depot) (move-at (patterns k) cuts pattern) route → DeltaReply k pattern cuts locations legs depot route (Seconds seconds)
+    changed seconds e =
+        record { reply-is = ap (λ s. reply 0 (s ∷ [])) e ∙ taken-reply (delta-rules k pattern cuts locations legs depot route) number judged (change ∷ []) h }

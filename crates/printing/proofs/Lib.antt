@@ -1,0 +1,4 @@
+pub mod Answer
+pub mod Examples
+pub mod Lengths
+pub mod Lists

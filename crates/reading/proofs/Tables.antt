@@ -1,0 +1,143 @@
+-- The legs and the deadlines are read exactly where they are written. Assumes nothing.
+use mathlib.Core.Path.{_≡_, refl, sym, ap, _∙_}
+use mathlib.Core.List.{List, [], _∷_, _++_, append-nil, append-assoc}
+use mathlib.Core.Option.{Option, none, some, bind}
+use Prim.Native.Nat.{ℕ, zero, suc, _+_, _-_, _*_, _≤_, _<_}
+use native.Mathlib.Nat.{suc-mul, zero-mul, mul-le-mul-right}
+use native.Mathlib.Numerals.{add-one}
+use native.Mathlib.Omega.{arith}
+use lib.ListN.{length, take, drop, length-append, length-take, length-drop, take-append-drop}
+use lib.Seq.{take-at, drop-at, take-all}
+use Rattle.decimal.specs.Text.{ascii, line, Small}
+use Rattle.lines.specs.Reading.{before, row}
+use Rattle.lines.proofs.Numbers.{same-read}
+use Rattle.lines.proofs.Lines.{before-sound, bind-some, first-read, row-sound, row-complete}
+use Rattle.lines.proofs.Places.{before-none, before-before}
+use Rattle.reading.specs.Question.{legs-lines}
+use Rattle.lines.specs.Told.{row-told}
+use Rattle.lines.specs.declared.Place.{Place}
+use Rattle.lines.specs.declared.Place.the-variants as P
+use Rattle.reading.specs.Reading.{rows, tables}
+use Rattle.reading.specs.Told.{tables-told}
+
+small-append : (xs ys : List ℕ) → Small xs → Small ys → Small (xs ++ ys)
+small-append [] ys h k = k
+small-append (x ∷ xs) ys h k = (h .0, small-append xs ys (h .1) k)
+
+small-split : (n : ℕ) (xs : List ℕ) → Small xs → Small (take n xs) × Small (drop n xs)
+small-split zero xs h = (tt, h)
+small-split (suc n) [] h = (tt, tt)
+small-split (suc n) (x ∷ xs) h = let s = small-split n xs (h .1) in ((h .0, s .0), s .1)
+
+rows-sound : (m n : ℕ) (t xs r : List ℕ) → rows m n t ≡ some (xs, r) → (t ≡ legs-lines m n xs ++ r) × Small xs × (length xs ≡ m * n)
+unfolding rows legs-lines
+rows-sound zero n t xs r e = let k = same-read e in rw (← k .0, ← k .1) (refl, tt, omega arith)
+rows-sound (suc m) n t xs r e =
+    let b = bind-some (row (ascii "legs=") n t) (λ a. before (a .0) (rows m n (a .1))) (xs, r) e in
+    let y = b .0 .0 in
+    let f = before-sound y (rows m n (b .0 .1)) xs r (b .2) in
+    let l = row-sound (ascii "legs=") n t y (b .0 .1) (b .1) in
+    let g = rows-sound m n (b .0 .1) (f .0) r (f .1) in
+    rw (f .2) (
+      l .0 ∙ rw (take-at y (f .0) n (l .2), drop-at y (f .0) n (l .2)) (ap (λ (z : List ℕ). line (ascii "legs=") y ++ z) (g .0) ∙ sym (append-assoc (line (ascii "legs=") y) (legs-lines m n (f .0)) r)),
+      small-append y (f .0) (l .1) (g .1),
+      length-append y (f .0) ∙ omega (arith, l .2, g .2, suc-mul m n),
+    )
+
+rows-complete : (m n : ℕ) (xs r : List ℕ) → Small xs → length xs ≡ m * n → rows m n (legs-lines m n xs ++ r) ≡ some (xs, r)
+unfolding rows legs-lines bind before
+rows-complete zero n [] r h l = refl
+rows-complete zero n (x ∷ xs) r h l = absurd (omega arith)
+rows-complete (suc m) n xs r h l =
+    let q = suc-mul m n in
+    let w = small-split n xs h in
+    rw (
+      append-assoc (line (ascii "legs=") (take n xs)) (legs-lines m n (drop n xs)) r,
+      row-complete (ascii "legs=") n (take n xs) (legs-lines m n (drop n xs) ++ r) (w .0) (simp length-take (omega arith)),
+    )
+    (rw (rows-complete m n (drop n xs) r (w .1) (simp length-drop (omega arith)), take-append-drop n xs))
+
+pub record Tabled (n : ℕ) (t legs latest r : List ℕ) : Type 0 where
+  pub text : t ≡ legs-lines n n legs ++ (line (ascii "latest=") latest ++ r)
+  pub square : length legs ≡ n * n
+  pub deadlines : length latest ≡ n
+  pub small-legs : Small legs
+  pub small-latest : Small latest
+
+pub tables-sound : (n : ℕ) (t legs latest r : List ℕ) → tables n t ≡ some ((legs, latest), r) → Tabled n t legs latest r
+unfolding tables
+tables-sound n t legs latest r e =
+    first-read (rows n n t) _ ((legs, latest), r) e λ g g-read e₁.
+    first-read (row (ascii "latest=") n (g .1)) _ ((legs, latest), r) e₁ λ l l-read e₂.
+    let k = same-read e₂ in
+    let g-is = rows-sound n n t (g .0) (g .1) g-read in
+    let l-is = row-sound (ascii "latest=") n (g .1) (l .0) (l .1) l-read in
+    let legs-is : g .0 ≡ legs = ap (λ (p : List ℕ × List ℕ). p .0) (k .0) in
+    let latest-is : l .0 ≡ latest = ap (λ (p : List ℕ × List ℕ). p .1) (k .0) in
+    rw (← legs-is, ← latest-is, ← k .1) (record {
+      text = g-is .0 ∙ rw (l-is .0);
+      square = g-is .2;
+      deadlines = l-is .2;
+      small-legs = g-is .1;
+      small-latest = l-is .1;
+    })
+
+pub tables-complete : (n : ℕ) (legs latest r : List ℕ) → Small legs → length legs ≡ n * n → Small latest → length latest ≡ n →
+    tables n (legs-lines n n legs ++ (line (ascii "latest=") latest ++ r)) ≡ some ((legs, latest), r)
+unfolding tables bind
+tables-complete n legs latest r h l k m =
+    rw (rows-complete n n legs (line (ascii "latest=") latest ++ r) h l, row-complete (ascii "latest=") n latest r k m)
+
+-- The rows still to come, behind those that stand in `legs`.
+abbrev pub rows-to-come : List ℕ → ℕ → ℕ → List ℕ → Option (List ℕ × List ℕ)
+rows-to-come legs n i t = before (take (i * n) legs) (rows (n - i) n t)
+
+pub row-within : (n i : ℕ) → i < n → i * n + n ≤ n * n
+row-within n i h = omega (arith, suc-mul i n, mul-le-mul-right {m = suc i} {n = n} n h)
+
+pub rows-begin : (legs t : List ℕ) (n : ℕ) → rows n n t ≡ rows-to-come legs n 0 t
+rows-begin legs t n = let e : n - 0 ≡ n = omega arith in rw (zero-mul n, e) (sym (before-none (rows n n t)))
+
+pub rows-break : (legs t : List ℕ) (n i : ℕ) → i < n → row (ascii "legs=") n t ≡ none → rows-to-come legs n i t ≡ none
+unfolding rows bind before
+rows-break legs t n i h e = let m : n - i ≡ suc (n - (i + 1)) = omega arith in rw (m, e)
+
+first-row : (legs t xs r : List ℕ) (n i : ℕ) → row (ascii "legs=") n t ≡ some (xs, r) →
+    before (take (i * n) legs) (rows (suc (n - (i + 1))) n t) ≡ before (take (i * n) legs ++ xs) (rows (n - (i + 1)) n r)
+unfolding rows bind
+first-row legs t xs r n i e = rw e (before-before (take (i * n) legs) xs (rows (n - (i + 1)) n r))
+
+pub rows-more : (legs t xs r : List ℕ) (n i k : ℕ) → i < n → length legs ≡ n * n → length xs ≡ n → row (ascii "legs=") n t ≡ some (xs, r) →
+    rows-to-come legs n i t ≡ rows-to-come (take (i * n) legs ++ (xs ++ drop k (drop (i * n) legs))) n (i + 1) r
+rows-more legs t xs r n i k h l x e =
+    let m : n - i ≡ suc (n - (i + 1)) = omega arith in
+    let a : length (take (i * n) legs ++ xs) ≡ (i + 1) * n = simp (length-append, length-take, add-one, suc-mul) (omega (arith, row-within n i h)) in
+    rw (m, ← append-assoc (take (i * n) legs) xs (drop k (drop (i * n) legs)), take-at (take (i * n) legs ++ xs) (drop k (drop (i * n) legs)) ((i + 1) * n) a) (first-row legs t xs r n i e)
+
+pub rows-whole : (legs t : List ℕ) (n i : ℕ) → i ≤ n → n ≤ i → length legs ≡ n * n → rows-to-come legs n i t ≡ some (legs, t)
+unfolding rows before
+rows-whole legs t n i h m l =
+    let e : i ≡ n = omega arith in
+    let d : n - n ≡ 0 = omega arith in
+    rw (e, d, take-all (n * n) legs (omega arith), append-nil legs)
+
+pub part-length : (s n : ℕ) (l : List ℕ) → s + n ≤ length l → length (take (s + n - s) (drop s l)) ≡ n
+part-length s n l h = simp (length-take, length-drop) (omega arith)
+
+-- The tables line by line.
+pub legs-missing : (n : ℕ) (t : List ℕ) → rows n n t ≡ none → tables n t ≡ none
+unfolding tables bind
+legs-missing n t e = rw e
+
+module _ (n : ℕ) (t : List ℕ) {legs r : List ℕ} (legs-read : rows n n t ≡ some (legs, r)) where
+  pub latest-missing : row (ascii "latest=") n r ≡ none → tables n t ≡ none
+  unfolding tables bind
+  latest-missing e = rw (legs-read, e)
+
+  pub tables-read : {latest s : List ℕ} → row (ascii "latest=") n r ≡ some (latest, s) → tables n t ≡ some ((legs, latest), s)
+  unfolding tables bind
+  tables-read e = rw (legs-read, e)
+
+  pub latest-told : (text latest : List ℕ) (answer : Place) → row (ascii "latest=") n r ≡ row-told text latest answer → tables n t ≡ tables-told text legs latest answer
+  latest-told text latest P.Nowhere e = latest-missing e
+  latest-told text latest (P.At next) e = tables-read e

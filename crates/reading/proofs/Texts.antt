@@ -1,0 +1,128 @@
+-- A text is read exactly where it is a question's, and no two questions share one. Assumes nothing.
+use mathlib.Core.Path.{_≡_, refl, sym, ap, _∙_, subst}
+use mathlib.Core.Bool.{Bool, true, false, cond}
+use mathlib.Core.Logic.{_↔_}
+use mathlib.Core.List.{List, [], _∷_, _++_, append-nil}
+use mathlib.Core.Option.{none, some, bind, Option·none-ne-some, Option·some-injective}
+use Prim.Native.Nat.{ℕ, _+_, _*_, _≤_}
+use native.Mathlib.Omega.{arith}
+use lib.Dec.{leb}
+use lib.ListN.{length, length-append}
+use borrow.Author.Tests.{leb-true, le-leb}
+use Rattle.decimal.specs.Decimal.{digits}
+use Rattle.decimal.specs.Text.{ascii, further, listed, line, Small}
+use Rattle.decimal.proofs.Digits.{digits-some}
+use Rattle.reading.specs.Question.{Question, legs-lines, written, Held}
+use Rattle.reading.specs.Reading.{Heading, header, tables, ended, question, read}
+use Rattle.lines.specs.Reading.{line-of}
+use Rattle.lines.proofs.Lines.{first-read, line-sound, line-complete}
+use Rattle.reading.proofs.Heading.{headed, header-sound, header-complete}
+use Rattle.reading.proofs.Tables.{tables-sound, tables-complete}
+
+-- All of `Held` but the length of the text.
+record Readable (q : Question) (t : List ℕ) : Type 0 where
+  text : t ≡ written q
+  some-location : 1 ≤ q .locations
+  few-locations : q .locations ≤ 96
+  square : length (q .legs) ≡ q .locations * q .locations
+  deadlines : length (q .latest) ≡ q .locations
+  small-header : Small (q .k ∷ q .allowance ∷ q .depot ∷ [])
+  small-legs : Small (q .legs)
+  small-latest : Small (q .latest)
+  small-stops : Small (q .stops)
+
+nothing-left : {A : Type 0} (a b : A) (t : List ℕ) → ended a t ≡ some b → (t ≡ []) × (a ≡ b)
+nothing-left a b [] e = (refl, Option·some-injective a b e)
+nothing-left a b (x ∷ t) e = absurd (Option·none-ne-some b e)
+
+question-sound : (t : List ℕ) (q : Question) → question t ≡ some q → Readable q t
+unfolding question written
+question-sound t q e =
+    first-read (header t) _ q e λ h h-read e₁.
+    first-read (tables (h .0 .locations) (h .1)) _ q e₁ λ g g-read e₂.
+    first-read (line-of (ascii "round=") 30000 (g .1)) _ q e₂ λ s s-read e₃.
+    let n = nothing-left _ q (s .1) e₃ in
+    let h-is = header-sound t (h .0) (h .1) h-read in
+    let g-is = tables-sound (h .0 .locations) (h .1) (g .0 .0) (g .0 .1) (g .1) g-read in
+    let s-is = line-sound (ascii "round=") 30000 (g .1) (s .0) (s .1) s-read in
+    let x : g .1 ≡ line (ascii "round=") (s .0) = s-is .0 ∙ rw (n .0) (append-nil (line (ascii "round=") (s .0))) in
+    subst (λ (p : Question). Readable p t) (n .1) (record {
+      text = h-is .text ∙ ap (headed (h .0)) (g-is .text ∙ rw x);
+      some-location = h-is .some-location;
+      few-locations = h-is .few-locations;
+      square = g-is .square;
+      deadlines = g-is .deadlines;
+      small-header = h-is .small;
+      small-legs = g-is .small-legs;
+      small-latest = g-is .small-latest;
+      small-stops = s-is .1;
+    })
+
+-- A comma and a digit at least for each further number.
+further-room : (xs : List ℕ) → 2 * length xs ≤ length (further xs)
+unfolding further
+further-room [] = omega arith
+further-room (x ∷ xs) = omega (arith, length-append (digits x) (further xs), digits-some x, further-room xs)
+
+listed-room : (xs : List ℕ) → 2 * length xs ≤ length (listed xs) + 1
+unfolding listed
+listed-room [] = omega arith
+listed-room (x ∷ xs) = omega (arith, length-append (digits x) (further xs), digits-some x, further-room xs)
+
+line-room : (key xs : List ℕ) → 2 * length xs ≤ length (line key xs)
+unfolding line
+line-room key xs = omega (arith, length-append key (listed xs ++ (10 ∷ [])), length-append (listed xs) (10 ∷ []), listed-room xs)
+
+few-stops : (q : Question) → length (written q) ≤ 60000 → length (q .stops) ≤ 30000
+unfolding written
+few-stops q h = omega (arith, simp length-append at h, line-room (ascii "round=") (q .stops))
+
+last-line : (key : List ℕ) (room : ℕ) (xs : List ℕ) → Small xs → length xs ≤ room → line-of key room (line key xs) ≡ some (xs, [])
+last-line key room xs h l = ap (line-of key room) (sym (append-nil (line key xs))) ∙ line-complete key room xs [] h l
+
+question-complete : (q : Question) → Held q → question (written q) ≡ some q
+unfolding question bind written
+question-complete q h =
+    let round = line (ascii "round=") (q .stops) in
+    let legs = legs-lines (q .locations) (q .locations) (q .legs) ++ (line (ascii "latest=") (q .latest) ++ round) in
+    let start : Heading = record { k = q .k; allowance = q .allowance; locations = q .locations; depot = q .depot } in
+    rw (
+      header-complete start legs (h .some-location) (h .few-locations) (h .small-header),
+      tables-complete (q .locations) (q .legs) (q .latest) round (h .small-legs) (h .square) (h .small-latest) (h .deadlines),
+      last-line (ascii "round=") 30000 (q .stops) (h .small-stops) (few-stops q (h .short)),
+    )
+
+-- THE LAW: "at most 60,000 bytes, 96 locations. Numbers have 1 to 10 digits, no leading zero (0 itself is allowed), at most 4294967295; each line ends in LF."
+pub read-exactly : (t : List ℕ) (q : Question) → (read t ≡ some q) ↔ ((t ≡ written q) × Held q)
+unfolding read
+read-exactly t q = (λ e. sound (leb (length t) 60000) refl e, λ h. rw (h .0, le-leb (length (written q)) 60000 (h .1 .short)) (question-complete q (h .1)))
+  where
+    sound : (b : Bool) → leb (length t) 60000 ≡ b → cond b (question t) none ≡ some q → (t ≡ written q) × Held q
+    sound true i e =
+        let r = question-sound t q e in
+        let s : length (written q) ≤ 60000 = rw (← r .text) (leb-true (length t) 60000 i) in (
+          r .text,
+          record {
+            some-location = r .some-location;
+            few-locations = r .few-locations;
+            square = r .square;
+            deadlines = r .deadlines;
+            small-header = r .small-header;
+            small-legs = r .small-legs;
+            small-latest = r .small-latest;
+            small-stops = r .small-stops;
+            short = s;
+          },
+        )
+    sound false i e = absurd (Option·none-ne-some q e)
+
+pub read-written : (q : Question) → Held q → read (written q) ≡ some q
+read-written q h = read-exactly (written q) q .1 (refl, h)
+
+-- "Two problems have equal text exactly when they are equal."
+pub written-injective : (p q : Question) → Held p → Held q → written p ≡ written q → p ≡ q
+written-injective p q h k e = Option·some-injective p q (sym (read-written p h) ∙ ap read e ∙ read-written q k)
+
+-- A text that is not read is no question's.
+pub malformed : (t : List ℕ) → read t ≡ none → (q : Question) → Held q → written q ≡ t → ⊥
+malformed t n q h e = Option·none-ne-some q (sym n ∙ ap read (sym e) ∙ read-written q h)

@@ -1,0 +1,69 @@
+-- The running form of reading a question.
+use mathlib.Core.Bool.{_&&_, cond}
+use mathlib.Core.List.{List, [], _∷_}
+use mathlib.Core.Option.{Option, none, some, bind}
+use Prim.Native.Nat.{ℕ, zero, suc}
+use lib.Dec.{leb}
+use lib.ListN.{length}
+use Rattle.decimal.specs.Text.{ascii}
+use Rattle.lines.specs.Reading.{before, line-of, row, value}
+use Rattle.reading.specs.Question.{Question}
+
+-- The lines of the legs.
+unfoldable pub rows : ℕ → ℕ → List ℕ → Option (List ℕ × List ℕ)
+unfolding row bind before
+rows zero width t = some ([], t)
+rows (suc m) width t = bind (row (ascii "legs=") width t) (λ r. before (r .0) (rows m width (r .1)))
+
+pub record Heading : Type 0 where
+  pub k : ℕ
+  pub allowance : ℕ
+  pub locations : ℕ
+  pub depot : ℕ
+
+-- The lines before the legs. "Locations outside 1 to 96 .. are 10."
+unfoldable pub header : List ℕ → Option (Heading × List ℕ)
+unfolding value bind
+header t =
+    bind (value (ascii "k=") t) (λ k.
+    bind (value (ascii "allowance=") (k .1)) (λ allowance.
+    bind (value (ascii "locations=") (allowance .1)) (λ locations.
+    bind (value (ascii "depot=") (locations .1)) (λ depot.
+    cond
+    (leb 1 (locations .0) && leb (locations .0) 96)
+    (some (record { k = k .0; allowance = allowance .0; locations = locations .0; depot = depot .0 }, depot .1))
+    none))))
+
+-- The legs and the deadlines.
+unfoldable pub tables : ℕ → List ℕ → Option ((List ℕ × List ℕ) × List ℕ)
+unfolding rows row bind
+tables locations t =
+    bind (rows locations locations t) (λ legs. bind (row (ascii "latest=") locations (legs .1)) (λ latest. some ((legs .0, latest .0), latest .1)))
+
+-- The rest must be nothing.
+abbrev pub ended : {A : Type 0} → A → List ℕ → Option A
+ended a [] = some a
+ended a (b ∷ t) = none
+
+-- The whole text. One of 60,000 bytes holds fewer than 30,000 stops.
+unfoldable pub question : List ℕ → Option Question
+unfolding header tables line-of bind
+question t =
+    bind (header t) (λ h.
+    bind (tables (h .0 .locations) (h .1)) (λ g.
+    bind (line-of (ascii "round=") 30000 (g .1)) (λ stops.
+    ended
+    (record {
+      k = h .0 .k;
+      allowance = h .0 .allowance;
+      locations = h .0 .locations;
+      depot = h .0 .depot;
+      legs = g .0 .0;
+      latest = g .0 .1;
+      stops = stops .0;
+    })
+    (stops .1))))
+
+unfoldable pub read : List ℕ → Option Question
+unfolding question
+read t = let q = question t in cond (leb (length t) 60000) q none

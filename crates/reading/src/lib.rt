@@ -1,0 +1,139 @@
+// The text program's question, read from bytes. No entry: the program above calls it.
+use lines::Entries;
+use lines::Number;
+use lines::Place;
+use lines::read_line;
+use lines::read_row;
+use lines::read_value;
+ghost use mathlib.Core.Path.{_≡_};
+ghost use lib.ListN.{length, drop};
+ghost use Rattle.lines.specs.Told.{row-told};
+ghost use Rattle.reading.specs.Reading.{rows, header, tables};
+ghost use Rattle.reading.specs.Told.{start-told, tables-told, Square, Tables, Lent, Answered};
+
+// The numbers of a question: the values of its first four lines.
+pub struct Header {
+    pub k: u32,
+    pub allowance: u32,
+    pub locations: usize,
+    pub depot: u32,
+}
+
+// The lines before the legs, and the place after them.
+enum Start {
+    Read(Header, usize),
+    Malformed,
+}
+
+// A question and how many stops it has; its tables and stops are in lent places.
+pub enum Reading {
+    Question(Header, usize),
+    Malformed,
+}
+
+// The lines before the legs.
+fn read_header(text: &[u8]) -> Start
+    ensures { λ r. ⌜ header (now (text .entry)) ≡ start-told (now (text .entry)) r ⌝ }
+{
+    let Number::Read(k, after_k) = read_value(text, 0, b"k=") else {
+        return Start::Malformed;
+    };
+    let Number::Read(allowance, after_allowance) = read_value(text, after_k, b"allowance=") else {
+        return Start::Malformed;
+    };
+    let Number::Read(locations, after_locations) = read_value(text, after_allowance, b"locations=")
+    else {
+        return Start::Malformed;
+    };
+    let Number::Read(depot, rest) = read_value(text, after_locations, b"depot=") else {
+        return Start::Malformed;
+    };
+    if locations < 1 {
+        return Start::Malformed;
+    }
+    if locations > 96 {
+        return Start::Malformed;
+    }
+    let locations = locations as usize;
+    Start::Read(
+        Header {
+            k,
+            allowance,
+            locations,
+            depot,
+        },
+        rest,
+    )
+}
+
+// The lines of the legs, row after row.
+fn read_rows(text: &[u8], at: usize, locations: usize, legs: &mut [u32]) -> Place
+    requires { ⌜ Square locations (now legs) ⌝ }
+    ensures { λ r. ⌜ rows locations locations (drop at (now (text .entry))) ≡ row-told (now (text .entry)) (now (legs .exit)) r ⌝ }
+{
+    let mut at = at;
+    let mut row = 0;
+    while row < locations {
+        let start = row * locations;
+        let end = start + locations;
+        let Place::At(next) = read_row(text, at, b"legs=", &mut legs[start..end]) else {
+            return Place::Nowhere;
+        };
+        at = next;
+        row += 1;
+    }
+    Place::At(at)
+}
+
+// The legs and the deadlines.
+fn read_tables(
+    text: &[u8],
+    at: usize,
+    locations: usize,
+    legs: &mut [u32],
+    latest: &mut [u32],
+) -> Place
+    requires { ⌜ Tables locations (now legs) (now latest) ⌝ }
+    ensures { λ r. ⌜ tables locations (drop at (now (text .entry))) ≡ tables-told (now (text .entry)) (now (legs .exit)) (now (latest .exit)) r ⌝ }
+{
+    let Place::At(next) = read_rows(text, at, locations, legs) else {
+        return Place::Nowhere;
+    };
+    read_row(text, next, b"latest=", latest)
+}
+
+// The whole text: its tables and stops into the lent places, its numbers as the answer.
+pub fn read_question(
+    text: &[u8],
+    legs: &mut [u32],
+    latest: &mut [u32],
+    stops: &mut [u32],
+) -> Reading
+    requires { ⌜ Lent (now legs) (now latest) (now stops) ⌝ }
+    ensures { λ r. ⌜ Answered (now (text .entry)) (now (legs .exit)) (now (latest .exit)) (now (stops .exit)) r ⌝ }
+{
+    if text.len() > 60000 {
+        return Reading::Malformed;
+    }
+    let Start::Read(header, at) = read_header(text) else {
+        return Reading::Malformed;
+    };
+    let locations = header.locations;
+    let cells = locations * locations;
+    let Place::At(round) = read_tables(
+        text,
+        at,
+        locations,
+        &mut legs[..cells],
+        &mut latest[..locations],
+    ) else {
+        return Reading::Malformed;
+    };
+    let Entries::Read(count, end) = read_line(text, round, b"round=", stops) else {
+        return Reading::Malformed;
+    };
+    if end < text.len() {
+        return Reading::Malformed;
+    }
+    Reading::Question(header, count)
+}
