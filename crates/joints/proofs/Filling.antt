@@ -4,9 +4,8 @@ use mathlib.Core.Logic.{_≢_}
 use mathlib.Core.List.{List}
 use Prim.Native.Nat.{ℕ, _+_, _-_, _*_, _^_, _≤_, _<_}
 use native.Mathlib.Omega.{arith}
-use native.Mathlib.Decide.{decLt}
 use borrow.Author.Count.{below-more}
-use lib.ListN.{length, getD, set, replicate, length-set, getD-replicate, List·getD-eq-default}
+use lib.ListN.{length, getD, set, length-set}
 use lib.Seq.{getD-set-same, getD-set-other}
 use Rattle.theory.specs.Costs.{first-of, inner}
 use Rattle.costs.specs.RouteCosts.{leg}
@@ -22,14 +21,6 @@ padded-set table a b v p n h s =
       padding = getD-set-other table (16 * a + b) 136 v 0 (λ q. n (omega arith)) ∙ p .padding;
       small = λ c. set-small table (16 * a + b) v c (2 ^ 40) s (λ q. p .small c);
     }
-
--- A new table, for the callers that make one.
-pub empty-padded : Padded (replicate 160 0)
-empty-padded = record { places = refl; padding = refl; small = λ c. by c (decLt c 160) }
-  where
-    by : (c : ℕ) → Dec (c < 160) → getD (replicate 160 0) c 0 ≤ 2 ^ 40
-    by c (yes h) = rw (getD-replicate {A = ℕ} 160 c 0 0 h) (omega arith)
-    by c (no h) = rw (List·getD-eq-default {A = ℕ} (replicate 160 0) 0 {n = c} (omega arith)) (omega arith)
 
 -- The first b cells of row a are filled, and the other rows are as they were.
 pub record Cells (d : ℕ → ℕ → ℕ) (entry inside : ℕ → ℕ) (from a : ℕ) (before table : List ℕ) (b : ℕ) : Type 0 where

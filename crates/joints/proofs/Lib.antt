@@ -2,4 +2,4 @@ pub mod States
 pub mod Chain
 mod Rows
 mod Ends
-pub mod Filling
+mod Filling

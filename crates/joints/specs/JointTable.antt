@@ -8,7 +8,7 @@ use lib.Dec.{eqb}
 use lib.ListN.{length, getD, set}
 use Rattle.theory.specs.Costs.{last-of, first-of, inner, forward, backward}
 use Rattle.theory.specs.Tables.{legs-only, LegTable, Measurable, CutSet}
-use Rattle.costs.specs.RouteCosts.{leg, Sums, head-end, tail-start}
+use Rattle.costs.specs.RouteCosts.{leg, Sums, Spanned, span, head-end, tail-start}
 use Rattle.joints.specs.States.{state-count, placed-in}
 
 -- A table of 10 rows of 16 places.
@@ -85,26 +85,17 @@ pub record Joinable (locations : ℕ) (legs : List ℕ) (depot : ℕ) (route for
 
 -- ---- the parts of the filling
 
--- Running sums that rise along the route.
-pub record Rises (route sums : List ℕ) : Type 0 where
-  pub places : length sums ≡ 512
-  pub rise : (s t : ℕ) → s ≤ t → t < length route → getD sums s 0 ≤ getD sums t 0
-
 -- Places for each state's entry, exit and inner legs.
 pub record EndPlaces (entries exits inside : List ℕ) : Type 0 where
   pub entry-places : length entries ≡ 8
   pub exit-places : length exits ≡ 8
   pub inside-places : length inside ≡ 8
 
--- A segment route[start..end] with two states s and s + 1.
+-- A segment route[start..end], and places for its two states s and s + 1.
 pub record SegmentFits (route forward-sums backward-sums : List ℕ) (start end s : ℕ) (entries exits inside : List ℕ) : Type 0 where
-  pub filled : start < end
   pub within : end ≤ length route
-  pub short : length route ≤ 512
-  pub forward-places : length forward-sums ≡ 512
-  pub forward-rise : getD forward-sums start 0 ≤ getD forward-sums (end - 1) 0
-  pub backward-places : length backward-sums ≡ 512
-  pub backward-rise : getD backward-sums start 0 ≤ getD backward-sums (end - 1) 0
+  pub forwards : Spanned forward-sums start end
+  pub backwards : Spanned backward-sums start end
   pub room : s + 1 < 8
   pub places : EndPlaces entries exits inside
 
@@ -112,21 +103,18 @@ pub record SegmentFits (route forward-sums backward-sums : List ℕ) (start end 
 pub record SegmentEnds (route forward-sums backward-sums : List ℕ) (start end s : ℕ) (entries exits inside entries′ exits′ inside′ : List ℕ) : Type 0 where
   pub entered : entries′ ≡ set (set entries s (getD route start 0)) (s + 1) (getD route (end - 1) 0)
   pub left : exits′ ≡ set (set exits s (getD route (end - 1) 0)) (s + 1) (getD route start 0)
-  pub legs : inside′ ≡ set (set inside s (getD forward-sums (end - 1) 0 - getD forward-sums start 0)) (s + 1) (getD backward-sums (end - 1) 0 - getD backward-sums start 0)
+  pub legs : inside′ ≡ set (set inside s (span forward-sums start end)) (s + 1) (span backward-sums start end)
 
 -- The segments of a cut set, and the places for their states.
 pub record EndsFillable (route forward-sums backward-sums cuts entries exits inside : List ℕ) : Type 0 where
   pub cut-set : CutSet (length cuts) (length route) cuts
-  pub forwards : Rises route forward-sums
-  pub backwards : Rises route backward-sums
+  pub forwards : (i : ℕ) → 1 ≤ i → i < length cuts → Spanned forward-sums (getD cuts (i - 1) 0) (getD cuts i 0)
+  pub backwards : (i : ℕ) → 1 ≤ i → i < length cuts → Spanned backward-sums (getD cuts (i - 1) 0) (getD cuts i 0)
   pub places : EndPlaces entries exits inside
 
 -- The legs inside a state's segment, from the running sums of its direction.
 abbrev pub inner-sum : List ℕ → List ℕ → List ℕ → ℕ → ℕ
-inner-sum forward-sums backward-sums cuts s =
-    cond (eqb (s % 2) 1)
-    (getD backward-sums (getD cuts (1 + s / 2) 0 - 1) 0 - getD backward-sums (getD cuts (s / 2) 0) 0)
-    (getD forward-sums (getD cuts (1 + s / 2) 0 - 1) 0 - getD forward-sums (getD cuts (s / 2) 0) 0)
+inner-sum forward-sums backward-sums cuts s = span (cond (eqb (s % 2) 1) backward-sums forward-sums) (getD cuts (s / 2) 0) (getD cuts (1 + s / 2) 0)
 
 -- Each state's entry, exit and inner legs in their places.
 pub record StateEnds (route forward-sums backward-sums cuts : List ℕ) (count : ℕ) (entries exits inside : List ℕ) : Type 0 where

@@ -5,7 +5,7 @@ ghost use mathlib.Core.Bool.{cond};
 ghost use mathlib.Core.List.{[], _∷_};
 ghost use Prim.Native.Nat.{_+_, _<_, _≤_};
 ghost use lib.Dec.{ltb};
-ghost use lib.ListN.{length, getD};
+ghost use lib.ListN.{length, getD, set};
 ghost use Rattle.joints.specs.States.{state-count, state-of, standing-row, row, MiddleOrder, StateAt, Rowable, RowPut, StateRows};
 ghost use Rattle.joints.specs.JointTable.{chain, Chainable, JointOf, Joinable, SegmentFits, SegmentEnds, EndsFillable, StateEnds, FillableRow, FilledRow, FillableStates, FilledStates, Standing, FourStates, CellAt, Cell};
 
@@ -60,6 +60,15 @@ pub fn fill_rows(k: usize, orders: &[u8], masks: &[u8], rows: &mut [u8; 1532])
     }
 }
 
+// Two stops as s and s + 1.
+fn put_two(ends: &mut [u32; 8], s: usize, first: u32, second: u32)
+    requires { ⌜ (length (now ends) ≡ 8) × (s + 1 < 8) ⌝ }
+    ensures { λ _. ⌜ now (ends .exit) ≡ set (set (now (ends .entry)) s first) (s + 1) second ⌝ }
+{
+    ends[s] = first;
+    ends[s + 1] = second;
+}
+
 // The two states of route[start..end], as s and s + 1.
 fn put_ends(
     route: &[u32],
@@ -77,12 +86,10 @@ fn put_ends(
 {
     let front = route[start];
     let back = route[end - 1];
-    entries[s] = front;
-    entries[s + 1] = back;
-    exits[s] = back;
-    exits[s + 1] = front;
-    inside[s] = forward[end - 1] - forward[start];
-    inside[s + 1] = backward[end - 1] - backward[start];
+    put_two(entries, s, front, back);
+    put_two(exits, s, back, front);
+    inside[s] = costs::inner(forward, start, end);
+    inside[s + 1] = costs::inner(backward, start, end);
 }
 
 // Where each state of a middle segment is entered and left, and the legs inside it.

@@ -1,44 +1,44 @@
 -- `joints::put_row` meets its contract: four stores are one row. Assumes nothing.
-use borrow.Author.Needs.{needs}
+use native.Mathlib.Omega.{arith}
 use Rattle.joints.proofs.Rows.{row-put}
 use Rattle.joints.proofs.put_row.Statement.{statement}
 use Rattle.joints.proofs.put_row.Tie as tie
 
 mul-at : tie.Need-mul-at
-mul-at c = search needs
+mul-at c = omega arith
 
 state-at-requires : tie.Need-state-at-requires
-state-at-requires c κs = search needs
+state-at-requires c κs = (c .before .pre .0, omega arith)
 
 element-write-rows : tie.Need-element-write-rows
-element-write-rows c = search needs
+element-write-rows c = omega arith
 
 state-at-requires-2 : tie.Need-state-at-requires-2
-state-at-requires-2 c κs = search needs
+state-at-requires-2 c κs = (c .before .before .pre .0, omega arith)
 
 add-rows : tie.Need-add-rows
-add-rows c = search needs
+add-rows c = omega arith
 
 element-write-rows-2 : tie.Need-element-write-rows-2
-element-write-rows-2 c = search needs
+element-write-rows-2 c = omega arith
 
 state-at-requires-3 : tie.Need-state-at-requires-3
-state-at-requires-3 c κs = search needs
+state-at-requires-3 c κs = (c .before .before .before .pre .0, omega arith)
 
 add-rows-2 : tie.Need-add-rows-2
-add-rows-2 c = search needs
+add-rows-2 c = omega arith
 
 element-write-rows-3 : tie.Need-element-write-rows-3
-element-write-rows-3 c = search needs
+element-write-rows-3 c = omega arith
 
 state-at-requires-4 : tie.Need-state-at-requires-4
-state-at-requires-4 c κs = search needs
+state-at-requires-4 c κs = (c .before .before .before .before .pre .0, omega arith)
 
 add-rows-3 : tie.Need-add-rows-3
-add-rows-3 c = search needs
+add-rows-3 c = omega arith
 
 element-write-rows-4 : tie.Need-element-write-rows-4
-element-write-rows-4 c = search needs
+element-write-rows-4 c = omega arith
 
 returns : tie.Need-returns
 returns c =
