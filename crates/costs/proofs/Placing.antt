@@ -9,7 +9,7 @@ use lib.Seq.{slice}
 use Rattle.theory.specs.Route.{reverse-if}
 use Rattle.theory.specs.Costs.{inner}
 use Rattle.theory.proofs.Delta.{placed-inner}
-use Rattle.costs.specs.RouteCosts.{leg, running, Leg, Sums, RouteCosts, PlacedAfter}
+use Rattle.costs.specs.RouteCosts.{leg, running, Leg, Sums, Spanned, RouteCosts, PlacedAfter}
 use Rattle.costs.proofs.Segments.{first-placed, last-placed}
 
 -- Reversed, a segment is read off the backward sums, entered at its last stop and left at its first.
@@ -25,13 +25,13 @@ module _ {locations : ℕ} {legs route forward-sums backward-sums : List ℕ} (c
       pick true = costs .backwards
       pick false = costs .forwards
 
-  inner-sum : getD sums start 0 + inner (leg locations legs) (reverse-if b (slice start end route)) ≡ getD sums (end - 1) 0
+  pub inner-sum : getD sums start 0 + inner (leg locations legs) (reverse-if b (slice start end route)) ≡ getD sums (end - 1) 0
   inner-sum =
       let e : suc (end - 1) ≡ end = omega arith in
       rw (held .each start (omega arith), held .each (end - 1) (omega arith)) (rw e at (placed-inner (leg locations legs) route b start (end - 1) (omega arith) (omega arith)))
 
-  pub inner-asked : (length sums ≡ 512) × ((start < end) × (end ≤ 512) × (getD sums start 0 ≤ getD sums (end - 1) 0))
-  inner-asked = (held .places, (h, omega (arith, costs .stops .short), omega (arith, inner-sum)))
+  pub inner-asked : Spanned sums start end
+  inner-asked = record { places = held .places; filled = h; within = omega (arith, costs .stops .short); rise = omega (arith, inner-sum) }
 
   pub inner-small : getD sums (end - 1) 0 - getD sums start 0 ≤ 511 * 1000000
   inner-small = omega (arith, held .small (end - 1) (omega arith), costs .stops .short)

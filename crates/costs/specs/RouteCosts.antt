@@ -56,6 +56,17 @@ pub record Summed (route : List ℕ) (sum : ℕ → ℕ) (before after : List �
   pub sums : Sums route sum after
   pub beyond : (t : ℕ) → length route ≤ t → getD after t 0 ≡ getD before t 0
 
+-- A segment whose first and last stop have their running sums.
+pub record Spanned (sums : List ℕ) (start end : ℕ) : Type 0 where
+  pub places : length sums ≡ 512
+  pub filled : start < end
+  pub within : end ≤ 512
+  pub rise : getD sums start 0 ≤ getD sums (end - 1) 0
+
+-- From the first stop of a segment to its last one.
+abbrev pub span : List ℕ → ℕ → ℕ → ℕ
+span sums start end = getD sums (end - 1) 0 - getD sums start 0
+
 -- What the delta reads beside the cuts: the table, the route and its running sums.
 pub record RouteCosts (locations : ℕ) (legs route forward-sums backward-sums : List ℕ) : Type 0 where
   pub table : LegTable locations legs

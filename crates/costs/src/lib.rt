@@ -8,7 +8,7 @@ ghost use lib.Seq.{slice};
 ghost use Rattle.theory.specs.Route.{segments, reverses, reverse-if};
 ghost use Rattle.theory.specs.Costs.{last-of, first-of, forward, backward};
 ghost use Rattle.theory.specs.Tables.{legs-only, LegTable, Stops, Measurable, CutSet};
-ghost use Rattle.costs.specs.RouteCosts.{leg, running, KnownLeg, Leg, Length, InnerLeg, Summable, Summed, RouteCosts, PlacedAfter, Costable, Cost, Deltable, delta-of};
+ghost use Rattle.costs.specs.RouteCosts.{leg, running, KnownLeg, Leg, Length, InnerLeg, Summable, Summed, Spanned, span, RouteCosts, PlacedAfter, Costable, Cost, Deltable, delta-of};
 
 // The leg between two locations.
 pub fn route_distance(locations: usize, legs: &[u32], from: u32, to: u32) -> u64
@@ -123,10 +123,9 @@ pub fn tail_start(depot: u32, route: &[u32], cuts: &[usize]) -> u32
 }
 
 // The inner legs of route[start..end], not empty, from the running sums of one direction.
-fn inner(sums: &[u64; 512], start: usize, end: usize) -> u64
-    requires { ⌜ length (now sums) ≡ 512 ⌝ }
-    requires { ⌜ (start < end) × (end ≤ 512) × (getD (now sums) start 0 ≤ getD (now sums) (end - 1) 0) ⌝ }
-    ensures { λ r. ⌜ r ≡ getD (now (sums .entry)) (end - 1) 0 - getD (now (sums .entry)) start 0 ⌝ }
+pub fn inner(sums: &[u64; 512], start: usize, end: usize) -> u64
+    requires { ⌜ Spanned (now sums) start end ⌝ }
+    ensures { λ r. ⌜ r ≡ span (now (sums .entry)) start end ⌝ }
 {
     sums[end - 1] - sums[start]
 }

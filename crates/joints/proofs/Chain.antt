@@ -1,11 +1,11 @@
 -- The chain of a pattern's row is the way through its placed segments, so that chains compare as the lengths do. Assumes nothing.
-use mathlib.Core.Path.{_≡_, refl, sym, ap, ap₂, _∙_}
+use mathlib.Core.Path.{_≡_, refl, ap, _∙_}
 use mathlib.Core.List.{List, [], _∷_, _++_, map, List·Memᴰ, List·Memᴰ·head, List·Memᴰ·tail, Memᴰ·of-map}
-use Prim.Native.Nat.{ℕ, zero, suc, _+_, _-_, _*_, _/_, _%_, _^_, _≤_, _<_}
+use Prim.Native.Nat.{ℕ, zero, suc, _+_, _-_, _/_, _%_, _≤_, _<_}
 use native.Mathlib.Omega.{arith}
 use lib.Dec.{eqb, ltb}
 use lib.ListN.{length, getD, replicate}
-use lib.Seq.{slice, length-slice}
+use lib.Seq.{length-slice}
 use Rattle.theory.specs.Moves.{Pattern, Rising, upfrom, total}
 use Rattle.theory.specs.Route.{Problem, segments, placed, reconnected, tour-length}
 use Rattle.theory.specs.Costs.{last-of, first-of, inner, through}

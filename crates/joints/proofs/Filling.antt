@@ -1,18 +1,16 @@
 -- The joint table, filled cell by cell and row by row. Assumes nothing.
-use mathlib.Core.Path.{_≡_, refl, sym, ap, _∙_}
+use mathlib.Core.Path.{_≡_, refl, _∙_}
 use mathlib.Core.Logic.{_≢_}
-use mathlib.Core.List.{List, [], _∷_}
-use Prim.Native.Nat.{ℕ, zero, suc, _+_, _-_, _*_, _^_, _≤_, _<_}
+use mathlib.Core.List.{List}
+use Prim.Native.Nat.{ℕ, _+_, _-_, _*_, _^_, _≤_, _<_}
 use native.Mathlib.Omega.{arith}
 use borrow.Author.Count.{below-more}
 use lib.ListN.{length, getD, set, length-set}
 use lib.Seq.{getD-set-same, getD-set-other}
-use Rattle.theory.specs.Route.{segments}
-use Rattle.theory.specs.Costs.{last-of, first-of, inner, forward, backward}
-use Rattle.theory.specs.Tables.{Stops, CutSet, Measurable}
-use Rattle.costs.specs.RouteCosts.{leg, Sums}
+use Rattle.theory.specs.Costs.{first-of, inner}
+use Rattle.costs.specs.RouteCosts.{leg}
 use Rattle.joints.specs.States.{state-count, placed-in}
-use Rattle.joints.specs.JointTable.{cell, Padded, JointRow, JointTable, joint-table, Joinable, StateEnds, Fillable, FilledRow, FillableStates, FilledStates}
+use Rattle.joints.specs.JointTable.{cell, Padded, JointRow, JointTable, Joinable, StateEnds, Fillable, FilledRow, FilledStates}
 use Rattle.joints.proofs.Rows.{set-small}
 use Rattle.joints.proofs.Ends.{inside-is, inside-small, entry-known, exit-known}
 
@@ -68,19 +66,19 @@ row-kept : {d : ℕ → ℕ → ℕ} {entry inside : ℕ → ℕ} {count tail : 
     ((y : ℕ) → y < 16 → cell after x y ≡ cell before x y) → JointRow d entry inside count tail after x exit
 row-kept r h k = record { next = λ b l. k b (omega arith) ∙ r .next b l; last = k 8 (omega arith) ∙ r .last }
 
-pub rows-more : (locations : ℕ) (legs : List ℕ) (tail count : ℕ) (entries exits inside : List ℕ) {before after : List ℕ} {a from : ℕ} → count ≤ 8 → from ≡ getD exits a 0 →
+pub rows-more : (exits : List ℕ) {locations : ℕ} {legs : List ℕ} {tail count : ℕ} {entries inside before after : List ℕ} {a from : ℕ} → count ≤ 8 → from ≡ getD exits a 0 →
     ((x : ℕ) → x < a → JointRow (leg locations legs) (λ s. getD entries s 0) (λ s. getD inside s 0) count tail before x (getD exits x 0)) →
     FilledRow locations legs from tail count entries inside a before after →
     (x : ℕ) → x < a + 1 → JointRow (leg locations legs) (λ s. getD entries s 0) (λ s. getD inside s 0) count tail after x (getD exits x 0)
-rows-more locations legs tail count entries exits inside {before} {after} {a} {from} few e h f =
+rows-more exits {locations} {legs} {tail} {count} {entries} {inside} {before} {after} {a} few e h f =
     below-more (λ x. JointRow (leg locations legs) (λ s. getD entries s 0) (λ s. getD inside s 0) count tail after x (getD exits x 0)) a
     (λ x l. row-kept (h x l) few (λ y k. f .others x y k (λ q. omega arith)))
     (rw e at (f .filled))
 
 -- ---- the whole table
 
-module _ (locations : ℕ) (legs : List ℕ) (depot : ℕ) (r forwards backwards cs table : List ℕ) (given : Joinable locations legs depot r forwards backwards cs table)
-    (entries exits inside : List ℕ) (ends : StateEnds r forwards backwards cs (state-count (length cs)) entries exits inside) where
+module _ {locations : ℕ} {legs : List ℕ} {depot : ℕ} {r forwards backwards cs table : List ℕ} (given : Joinable locations legs depot r forwards backwards cs table)
+    {entries exits inside : List ℕ} (ends : StateEnds r forwards backwards cs (state-count (length cs)) entries exits inside) where
   abbrev count : ℕ
   count = state-count (length cs)
 
@@ -95,12 +93,12 @@ module _ (locations : ℕ) (legs : List ℕ) (depot : ℕ) (r forwards backwards
         few = few-states;
         entry-places = ends .places .entry-places;
         inside-places = ends .places .inside-places;
-        entries-known = λ s l. rw (ends .entry s l) (entry-known locations legs r cs forwards backwards (given .cut-set) (given .measurable .stops) (given .forwards) (given .backwards) s l);
-        inside-small = λ s l. rw (ends .legs s l) (inside-small locations legs r cs forwards backwards (given .cut-set) (given .measurable .stops) (given .forwards) (given .backwards) s l);
+        entries-known = λ s l. rw (ends .entry s l) (entry-known given s l);
+        inside-small = λ s l. rw (ends .legs s l) (inside-small given s l);
       }
 
   pub exits-known : (s : ℕ) → s < count → getD exits s 0 < locations
-  exits-known s l = rw (ends .exit s l) (exit-known locations legs r cs forwards backwards (given .cut-set) (given .measurable .stops) (given .forwards) (given .backwards) s l)
+  exits-known s l = rw (ends .exit s l) (exit-known given s l)
 
   of-parts : {tail : ℕ} {t : List ℕ} {a x : ℕ} → JointRow (leg locations legs) (λ s. getD entries s 0) (λ s. getD inside s 0) count tail t a x →
       JointRow (leg locations legs) (λ s. first-of (placed-in cs r s) 0) (λ s. inner (leg locations legs) (placed-in cs r s)) count tail t a x
@@ -108,11 +106,7 @@ module _ (locations : ℕ) (legs : List ℕ) (depot : ℕ) (r forwards backwards
       record {
         next = λ b l.
             w .next b l
-            ∙ rw (
-              ends .entry b l,
-              ends .legs b l,
-              inside-is locations legs r cs forwards backwards (given .cut-set) (given .measurable .stops) (given .forwards) (given .backwards) b l,
-            );
+            ∙ rw (ends .entry b l, ends .legs b l, inside-is given b l);
         last = w .last;
       }
 

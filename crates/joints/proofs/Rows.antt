@@ -1,19 +1,19 @@
 -- The rows of patterns, put one after the other. Assumes nothing.
-use mathlib.Core.Path.{_≡_, refl, sym, ap, _∙_}
+use mathlib.Core.Path.{_≡_, ap, _∙_}
 use mathlib.Core.Logic.{_≢_}
 use mathlib.Core.List.{List, [], _∷_, _++_}
-use Prim.Native.Nat.{ℕ, zero, suc, _+_, _-_, _*_, _≤_, _<_}
+use Prim.Native.Nat.{ℕ, suc, _+_, _-_, _*_, _≤_, _<_}
 use native.Mathlib.Omega.{arith}
 use native.Mathlib.Numerals.{add-one}
 use native.Mathlib.Decide.{ℕ-discrete, decLt}
 use borrow.Author.Count.{below-more}
 use lib.ListN.{length, getD, set, take, drop, length-set, length-append, List·getD-eq-default}
-use lib.Seq.{slice, slice-cons, slice-empty, sets, sets-eq, set-out, take-at, drop-at, take-set-le, length-take-le, getD-set-same, getD-set-other}
+use lib.Seq.{slice, slice-cons, slice-empty, sets-eq, set-out, take-at, drop-at, take-set-le, length-take-le, getD-set-same, getD-set-other}
 use Rattle.theory.specs.Moves.{Pattern}
 use Rattle.theory.proofs.Rows.{lent-row, lent-at, listed-for-k}
 use Rattle.costs.specs.RouteCosts.{Middle}
 use Rattle.costs.proofs.Orders.{pattern-middle}
-use Rattle.joints.specs.States.{states, row, Segments, RowPut, Rowable, pattern-row, StateRows}
+use Rattle.joints.specs.States.{states, row, MiddleOrder, RowPut, Rowable, pattern-row, StateRows}
 use Rattle.joints.specs.JointTable.{chain}
 use Rattle.joints.proofs.States.{state-at, four-states}
 
@@ -42,10 +42,10 @@ slice-four rows at v₀ v₁ v₂ v₃ h =
 earlier-row : (l : List ℕ) (x j v : ℕ) → 4 * x + 4 ≤ j → row (set l j v) x ≡ row l x
 earlier-row l x j v h = ap (drop (4 * x)) (take-set-le (4 * x + 4) l j v h)
 
-pub row-put : (k : ℕ) (order : List ℕ) (mask i : ℕ) (rows : List ℕ) (v₀ v₁ v₂ v₃ : ℕ) → Segments k order → i < 383 → length rows ≡ 1532 →
+pub row-put : {k : ℕ} {order : List ℕ} {mask i : ℕ} {rows : List ℕ} {v₀ v₁ v₂ v₃ : ℕ} → MiddleOrder k order → i < 383 → length rows ≡ 1532 →
     (v₀ ≡ state-at k order mask 0) × (v₀ ≤ 8) → (v₁ ≡ state-at k order mask 1) × (v₁ ≤ 8) → (v₂ ≡ state-at k order mask 2) × (v₂ ≤ 8) →
     (v₃ ≡ state-at k order mask 3) × (v₃ ≤ 8) → RowPut k order mask i rows (put-four rows (4 * i) v₀ v₁ v₂ v₃)
-row-put k order mask i rows v₀ v₁ v₂ v₃ s h n e₀ e₁ e₂ e₃ =
+row-put {k} {order} {mask} {i} {rows} {v₀} {v₁} {v₂} {v₃} s h n e₀ e₁ e₂ e₃ =
     let r₁ : List ℕ = set rows (4 * i) v₀ in
     let r₂ : List ℕ = set r₁ (4 * i + 1) v₁ in
     let r₃ : List ℕ = set r₂ (4 * i + 2) v₂ in
@@ -85,11 +85,11 @@ row-chain J rows i v n h ea eb ec ed e = rw (row-read rows (4 * i) (omega arith)
 
 -- ---- the rows of a list of patterns
 
-module _ (k : ℕ) (orders masks rows₀ : List ℕ) (given : Rowable k orders masks rows₀) (i : ℕ) (h : i < length masks) where
+module _ {k : ℕ} {orders masks rows₀ : List ℕ} (given : Rowable k orders masks rows₀) (i : ℕ) (h : i < length masks) where
   abbrev none : Pattern
   none = record { order = []; mask = 0 }
 
-  pub row-segments : Segments k (lent-row k orders i)
+  pub row-segments : MiddleOrder k (lent-row k orders i)
   row-segments =
       let p = pattern-row k orders masks i in
       let m : Middle k (p .order) = pattern-middle k (p .order) (p .mask) (given .least) (listed-for-k k orders masks (given .patterns) i none h) in
@@ -104,5 +104,5 @@ module _ (k : ℕ) (orders masks rows₀ : List ℕ) (given : Rowable k orders m
         small = λ c l. p .small c l (λ b. w .small c b);
       }
 
-pub no-rows : (k : ℕ) (orders masks rows : List ℕ) → Rowable k orders masks rows → StateRows k orders masks 0 rows
-no-rows k orders masks rows given = record { places = given .places; each = λ i h. absurd (omega arith); small = λ c h. absurd (omega arith) }
+pub no-rows : {k : ℕ} {orders masks rows : List ℕ} → Rowable k orders masks rows → StateRows k orders masks 0 rows
+no-rows given = record { places = given .places; each = λ i h. absurd (omega arith); small = λ c h. absurd (omega arith) }

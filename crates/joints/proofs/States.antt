@@ -1,14 +1,14 @@
 -- The states of the middle segments: which segment a state places, and the row of an order. Assumes nothing.
-use mathlib.Core.Path.{_≡_, refl, sym, ap, ap₂, _∙_}
+use mathlib.Core.Path.{_≡_, refl, ap₂}
 use mathlib.Core.Bool.{Bool, true, false, cond}
-use mathlib.Core.List.{List, [], _∷_, _++_, map, List·Memᴰ, List·Memᴰ·head, List·Memᴰ·tail}
+use mathlib.Core.List.{List, [], _∷_, map, List·Memᴰ, List·Memᴰ·head, List·Memᴰ·tail}
 use Prim.Native.Nat.{ℕ, zero, suc, _+_, _-_, _*_, _/_, _%_, _≤_, _<_}
 use native.Mathlib.Omega.{arith}
 use native.Mathlib.Decide.{ℕ-discrete}
 use borrow.Author.Tests.{eq-eqb, ne-eqb}
 use lib.Dec.{eqb, ltb}
-use lib.ListN.{length, getD, replicate}
-use lib.Seq.{slice, slice-cons, slice-empty}
+use lib.ListN.{length, getD}
+use lib.Seq.{slice-cons, slice-empty}
 use Rattle.theory.specs.Moves.{upfrom}
 use Rattle.theory.specs.Route.{segments, reverses, reverse-if, placed}
 use Rattle.joints.specs.States.{state-count, state-of, placed-in, states, standing-row}

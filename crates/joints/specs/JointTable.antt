@@ -1,15 +1,14 @@
 -- The joint table of a cut set: what it costs to go on from one state to another, shared by all patterns on the cut set.
 use mathlib.Core.Path.{_≡_}
-use mathlib.Core.Bool.{Bool, cond}
+use mathlib.Core.Bool.{cond}
 use mathlib.Core.Logic.{_≢_}
 use mathlib.Core.List.{List, [], _∷_}
-use Prim.Native.Nat.{ℕ, zero, suc, _+_, _-_, _*_, _/_, _%_, _^_, _≤_, _<_}
+use Prim.Native.Nat.{ℕ, _+_, _-_, _*_, _/_, _%_, _^_, _≤_, _<_}
 use lib.Dec.{eqb}
 use lib.ListN.{length, getD, set}
-use Rattle.theory.specs.Route.{Problem}
 use Rattle.theory.specs.Costs.{last-of, first-of, inner, forward, backward}
 use Rattle.theory.specs.Tables.{legs-only, LegTable, Measurable, CutSet}
-use Rattle.costs.specs.RouteCosts.{leg, Sums, head-end, tail-start}
+use Rattle.costs.specs.RouteCosts.{leg, Sums, Spanned, span, head-end, tail-start}
 use Rattle.joints.specs.States.{state-count, placed-in}
 
 -- A table of 10 rows of 16 places.
@@ -34,15 +33,18 @@ pub record Chainable (table rows : List ℕ) (i : ℕ) : Type 0 where
   pub within : i < 383
   pub known : (c : ℕ) → 4 * i ≤ c → c < 4 * i + 4 → getD rows c 0 ≤ 8
 
+-- A place of the table.
 pub record CellAt (table : List ℕ) (a b : ℕ) : Type 0 where
   pub padded : Padded table
   pub row : a < 10
   pub column : b < 10
 
+-- What stands there.
 pub record Cell (table : List ℕ) (a b r : ℕ) : Type 0 where
   pub is : r ≡ cell table a b
   pub small : r ≤ 2 ^ 40
 
+-- A table, and four states of a row.
 pub record FourStates (table : List ℕ) (a b c d : ℕ) : Type 0 where
   pub padded : Padded table
   pub first : a ≤ 8
@@ -50,6 +52,7 @@ pub record FourStates (table : List ℕ) (a b c d : ℕ) : Type 0 where
   pub third : c ≤ 8
   pub fourth : d ≤ 8
 
+-- A table, and the number of cuts.
 pub record Standing (table : List ℕ) (k : ℕ) : Type 0 where
   pub padded : Padded table
   pub least : 2 ≤ k
@@ -60,15 +63,15 @@ pub record JointRow (d : ℕ → ℕ → ℕ) (entry inside : ℕ → ℕ) (coun
   pub next : (b : ℕ) → b < count → cell table a b ≡ d exit (entry b) + inside b
   pub last : cell table a 8 ≡ d exit tail
 
--- The rows of the head and of the states 0 to count - 1, each a part of the route as it is placed.
+-- The rows of the head and of the states 0 to count - 1; a state is a part of the route, as it is placed.
 pub record JointTable (d : ℕ → ℕ → ℕ) (part : ℕ → List ℕ) (count head tail : ℕ) (table : List ℕ) : Type 0 where
   pub padded : Padded table
   pub from-head : JointRow d (λ s. first-of (part s) 0) (λ s. inner d (part s)) count tail table 9 head
   pub from-each : (a : ℕ) → a < count → JointRow d (λ s. first-of (part s) 0) (λ s. inner d (part s)) count tail table a (last-of 0 (part a))
 
--- "Cut 0 makes the depot the head's end, cut n the tail's start."
-abbrev pub joint-table : ℕ → List ℕ → ℕ → List ℕ → List ℕ → List ℕ → Type 0
-joint-table locations legs depot route cuts table =
+-- The joint table of a cut set. "Cut 0 makes the depot the head's end, cut n the tail's start."
+abbrev pub JointOf : ℕ → List ℕ → ℕ → List ℕ → List ℕ → List ℕ → Type 0
+JointOf locations legs depot route cuts table =
     JointTable (leg locations legs) (placed-in cuts route) (state-count (length cuts)) (head-end (legs-only locations legs depot) route cuts)
     (tail-start (legs-only locations legs depot) route cuts) table
 
@@ -82,51 +85,40 @@ pub record Joinable (locations : ℕ) (legs : List ℕ) (depot : ℕ) (route for
 
 -- ---- the parts of the filling
 
--- Running sums that rise along the route.
-pub record Rises (route sums : List ℕ) : Type 0 where
-  pub places : length sums ≡ 512
-  pub rise : (s t : ℕ) → s ≤ t → t < length route → getD sums s 0 ≤ getD sums t 0
-
 -- Places for each state's entry, exit and inner legs.
-pub record Ends (entries exits inside : List ℕ) : Type 0 where
+pub record EndPlaces (entries exits inside : List ℕ) : Type 0 where
   pub entry-places : length entries ≡ 8
   pub exit-places : length exits ≡ 8
   pub inside-places : length inside ≡ 8
 
--- A segment route[start..end] with two states s and s + 1.
-pub record Segment (route forward-sums backward-sums : List ℕ) (start end s : ℕ) (entries exits inside : List ℕ) : Type 0 where
-  pub filled : start < end
+-- A segment route[start..end], and places for its two states s and s + 1.
+pub record SegmentFits (route forward-sums backward-sums : List ℕ) (start end s : ℕ) (entries exits inside : List ℕ) : Type 0 where
   pub within : end ≤ length route
-  pub short : length route ≤ 512
-  pub forward-places : length forward-sums ≡ 512
-  pub forward-rise : getD forward-sums start 0 ≤ getD forward-sums (end - 1) 0
-  pub backward-places : length backward-sums ≡ 512
-  pub backward-rise : getD backward-sums start 0 ≤ getD backward-sums (end - 1) 0
+  pub forwards : Spanned forward-sums start end
+  pub backwards : Spanned backward-sums start end
   pub room : s + 1 < 8
-  pub places : Ends entries exits inside
+  pub places : EndPlaces entries exits inside
 
 -- Reversed, a segment is entered at its last stop, left at its first, and its inner legs are the backward ones.
 pub record SegmentEnds (route forward-sums backward-sums : List ℕ) (start end s : ℕ) (entries exits inside entries′ exits′ inside′ : List ℕ) : Type 0 where
   pub entered : entries′ ≡ set (set entries s (getD route start 0)) (s + 1) (getD route (end - 1) 0)
   pub left : exits′ ≡ set (set exits s (getD route (end - 1) 0)) (s + 1) (getD route start 0)
-  pub legs : inside′ ≡ set (set inside s (getD forward-sums (end - 1) 0 - getD forward-sums start 0)) (s + 1) (getD backward-sums (end - 1) 0 - getD backward-sums start 0)
+  pub legs : inside′ ≡ set (set inside s (span forward-sums start end)) (s + 1) (span backward-sums start end)
 
 -- The segments of a cut set, and the places for their states.
-pub record Segmented (route forward-sums backward-sums cuts entries exits inside : List ℕ) : Type 0 where
+pub record EndsFillable (route forward-sums backward-sums cuts entries exits inside : List ℕ) : Type 0 where
   pub cut-set : CutSet (length cuts) (length route) cuts
-  pub forwards : Rises route forward-sums
-  pub backwards : Rises route backward-sums
-  pub places : Ends entries exits inside
+  pub forwards : (i : ℕ) → 1 ≤ i → i < length cuts → Spanned forward-sums (getD cuts (i - 1) 0) (getD cuts i 0)
+  pub backwards : (i : ℕ) → 1 ≤ i → i < length cuts → Spanned backward-sums (getD cuts (i - 1) 0) (getD cuts i 0)
+  pub places : EndPlaces entries exits inside
 
+-- The legs inside a state's segment, from the running sums of its direction.
 abbrev pub inner-sum : List ℕ → List ℕ → List ℕ → ℕ → ℕ
-inner-sum forward-sums backward-sums cuts s =
-    cond (eqb (s % 2) 1)
-    (getD backward-sums (getD cuts (1 + s / 2) 0 - 1) 0 - getD backward-sums (getD cuts (s / 2) 0) 0)
-    (getD forward-sums (getD cuts (1 + s / 2) 0 - 1) 0 - getD forward-sums (getD cuts (s / 2) 0) 0)
+inner-sum forward-sums backward-sums cuts s = span (cond (eqb (s % 2) 1) backward-sums forward-sums) (getD cuts (s / 2) 0) (getD cuts (1 + s / 2) 0)
 
 -- Each state's entry, exit and inner legs in their places.
 pub record StateEnds (route forward-sums backward-sums cuts : List ℕ) (count : ℕ) (entries exits inside : List ℕ) : Type 0 where
-  pub places : Ends entries exits inside
+  pub places : EndPlaces entries exits inside
   pub entry : (s : ℕ) → s < count → getD entries s 0 ≡ first-of (placed-in cuts route s) 0
   pub exit : (s : ℕ) → s < count → getD exits s 0 ≡ last-of 0 (placed-in cuts route s)
   pub legs : (s : ℕ) → s < count → getD inside s 0 ≡ inner-sum forward-sums backward-sums cuts s
@@ -149,17 +141,20 @@ pub record FillableRow (locations : ℕ) (legs : List ℕ) (from tail count : �
   pub within : a < 10
   pub not-tail : a ≢ 8
 
+-- Row a filled, and the other rows as they were.
 pub record FilledRow (locations : ℕ) (legs : List ℕ) (from tail count : ℕ) (entries inside : List ℕ) (a : ℕ) (before after : List ℕ) : Type 0 where
   pub padded : Padded after
   pub filled : JointRow (leg locations legs) (λ s. getD entries s 0) (λ s. getD inside s 0) count tail after a from
   pub others : (x y : ℕ) → y < 16 → x ≢ a → cell after x y ≡ cell before x y
 
+-- With the exits of the states, whose rows can be filled.
 pub record FillableStates (locations : ℕ) (legs : List ℕ) (tail count : ℕ) (entries exits inside : List ℕ) (table : List ℕ) : Type 0 where
   pub fillable : Fillable locations legs tail count entries inside
   pub padded : Padded table
   pub exit-places : length exits ≡ 8
   pub exits-known : (s : ℕ) → s < count → getD exits s 0 < locations
 
+-- The rows of the states filled.
 pub record FilledStates (locations : ℕ) (legs : List ℕ) (tail count : ℕ) (entries exits inside : List ℕ) (after : List ℕ) : Type 0 where
   pub padded : Padded after
   pub each : (a : ℕ) → a < count → JointRow (leg locations legs) (λ s. getD entries s 0) (λ s. getD inside s 0) count tail after a (getD exits a 0)

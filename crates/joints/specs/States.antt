@@ -2,8 +2,8 @@
 -- the tail, 9 the head.
 use mathlib.Core.Path.{_≡_}
 use mathlib.Core.Bool.{cond}
-use mathlib.Core.List.{List, [], _∷_, _++_, map}
-use Prim.Native.Nat.{ℕ, zero, suc, _+_, _-_, _*_, _/_, _%_, _≤_, _<_}
+use mathlib.Core.List.{List, [], _++_, map}
+use Prim.Native.Nat.{ℕ, _+_, _-_, _*_, _/_, _%_, _≤_, _<_}
 use lib.Dec.{eqb}
 use lib.ListN.{length, getD, replicate}
 use lib.Seq.{slice}
@@ -44,7 +44,7 @@ pub record StateAt (mask segment r : ℕ) : Type 0 where
   pub small : r < 8
 
 -- The places 1 to k - 1 of an order for k cuts hold middle segments.
-pub record Segments (k : ℕ) (order : List ℕ) : Type 0 where
+pub record MiddleOrder (k : ℕ) (order : List ℕ) : Type 0 where
   pub least : 2 ≤ k
   pub most : k ≤ 5
   pub middle : Middle k order
@@ -63,7 +63,7 @@ pub record Rowable (k : ℕ) (orders masks rows : List ℕ) : Type 0 where
   pub patterns : PatternRows k orders masks
   pub places : length rows ≡ 1532
 
--- The pattern of an index.
+-- The pattern of an index, as `move-at` has it.
 abbrev pub pattern-row : ℕ → List ℕ → List ℕ → ℕ → Pattern
 pattern-row k orders masks i = getD (pattern-rows k orders masks) i (record { order = []; mask = 0 })
 

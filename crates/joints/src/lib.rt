@@ -2,12 +2,12 @@
 // as rows of states, so that a candidate costs the sum of five cells. It holds no entry: crate search calls it.
 ghost use mathlib.Core.Path.{_≡_};
 ghost use mathlib.Core.Bool.{cond};
-ghost use mathlib.Core.List.{[], _∷_, _++_};
-ghost use Prim.Native.Nat.{_+_, _-_, _*_, _<_, _≤_};
+ghost use mathlib.Core.List.{[], _∷_};
+ghost use Prim.Native.Nat.{_+_, _<_, _≤_};
 ghost use lib.Dec.{ltb};
-ghost use lib.ListN.{length, getD, take, drop};
-ghost use Rattle.joints.specs.States.{state-count, state-of, states, standing-row, row, Segments, StateAt, Rowable, RowPut, StateRows};
-ghost use Rattle.joints.specs.JointTable.{chain, Padded, Chainable, joint-table, Joinable, Segment, SegmentEnds, Segmented, StateEnds, FillableRow, FilledRow, FillableStates, FilledStates, Standing, FourStates, CellAt, Cell};
+ghost use lib.ListN.{length, getD, set};
+ghost use Rattle.joints.specs.States.{state-count, state-of, standing-row, row, MiddleOrder, StateAt, Rowable, RowPut, StateRows};
+ghost use Rattle.joints.specs.JointTable.{chain, Chainable, JointOf, Joinable, SegmentFits, SegmentEnds, EndsFillable, StateEnds, FillableRow, FilledRow, FillableStates, FilledStates, Standing, FourStates, CellAt, Cell};
 
 // The state in which the mask places a middle segment.
 fn state(mask: u8, segment: u8) -> u8
@@ -22,7 +22,7 @@ fn state(mask: u8, segment: u8) -> u8
 
 // The state at place p of a pattern's row: that of the middle segment there, or beyond the last one the tail.
 fn state_at(k: usize, order: &[u8], mask: u8, p: usize) -> u8
-    requires { ⌜ Segments k (now order) ⌝ }
+    requires { ⌜ MiddleOrder k (now order) ⌝ }
     requires { ⌜ p < 4 ⌝ }
     ensures { λ r. ⌜ (r ≡ cond (ltb (p + 1) k) (state-of mask (getD (now (order .entry)) (p + 1) 0)) 8) × (r ≤ 8) ⌝ }
 {
@@ -34,7 +34,7 @@ fn state_at(k: usize, order: &[u8], mask: u8, p: usize) -> u8
 
 // The row of one pattern as row i.
 fn put_row(k: usize, order: &[u8], mask: u8, i: usize, rows: &mut [u8; 1532])
-    requires { ⌜ Segments k (now order) ⌝ }
+    requires { ⌜ MiddleOrder k (now order) ⌝ }
     requires { ⌜ (i < 383) × (length (now rows) ≡ 1532) ⌝ }
     ensures { λ _. ⌜ RowPut k (now (order .entry)) mask i (now (rows .entry)) (now (rows .exit)) ⌝ }
 {
@@ -60,6 +60,15 @@ pub fn fill_rows(k: usize, orders: &[u8], masks: &[u8], rows: &mut [u8; 1532])
     }
 }
 
+// Two stops as s and s + 1.
+fn put_two(ends: &mut [u32; 8], s: usize, first: u32, second: u32)
+    requires { ⌜ (length (now ends) ≡ 8) × (s + 1 < 8) ⌝ }
+    ensures { λ _. ⌜ now (ends .exit) ≡ set (set (now (ends .entry)) s first) (s + 1) second ⌝ }
+{
+    ends[s] = first;
+    ends[s + 1] = second;
+}
+
 // The two states of route[start..end], as s and s + 1.
 fn put_ends(
     route: &[u32],
@@ -72,17 +81,15 @@ fn put_ends(
     exits: &mut [u32; 8],
     inside: &mut [u64; 8],
 )
-    requires { ⌜ Segment (now route) (now forward) (now backward) start end s (now entries) (now exits) (now inside) ⌝ }
+    requires { ⌜ SegmentFits (now route) (now forward) (now backward) start end s (now entries) (now exits) (now inside) ⌝ }
     ensures { λ _. ⌜ SegmentEnds (now (route .entry)) (now (forward .entry)) (now (backward .entry)) start end s (now (entries .entry)) (now (exits .entry)) (now (inside .entry)) (now (entries .exit)) (now (exits .exit)) (now (inside .exit)) ⌝ }
 {
     let front = route[start];
     let back = route[end - 1];
-    entries[s] = front;
-    entries[s + 1] = back;
-    exits[s] = back;
-    exits[s + 1] = front;
-    inside[s] = forward[end - 1] - forward[start];
-    inside[s + 1] = backward[end - 1] - backward[start];
+    put_two(entries, s, front, back);
+    put_two(exits, s, back, front);
+    inside[s] = costs::inner(forward, start, end);
+    inside[s + 1] = costs::inner(backward, start, end);
 }
 
 // Where each state of a middle segment is entered and left, and the legs inside it.
@@ -95,7 +102,7 @@ fn fill_ends(
     exits: &mut [u32; 8],
     inside: &mut [u64; 8],
 )
-    requires { ⌜ Segmented (now route) (now forward) (now backward) (now cuts) (now entries) (now exits) (now inside) ⌝ }
+    requires { ⌜ EndsFillable (now route) (now forward) (now backward) (now cuts) (now entries) (now exits) (now inside) ⌝ }
     ensures { λ _. ⌜ StateEnds (now (route .entry)) (now (forward .entry)) (now (backward .entry)) (now (cuts .entry)) (state-count (length (now (cuts .entry)))) (now (entries .exit)) (now (exits .exit)) (now (inside .exit)) ⌝ }
 {
     let mut i = 1;
@@ -183,7 +190,7 @@ pub fn fill_joint(
     joint: &mut [u64; 160],
 )
     requires { ⌜ Joinable locations (now legs) depot (now route) (now forward) (now backward) (now cuts) (now joint) ⌝ }
-    ensures { λ _. ⌜ joint-table locations (now (legs .entry)) depot (now (route .entry)) (now (cuts .entry)) (now (joint .exit)) ⌝ }
+    ensures { λ _. ⌜ JointOf locations (now (legs .entry)) depot (now (route .entry)) (now (cuts .entry)) (now (joint .exit)) ⌝ }
 {
     let mut entries = [0u32; 8];
     let mut exits = [0u32; 8];

@@ -1,29 +1,28 @@
 -- The scan's test of a candidate, from its chain in the joint table and its deadlines. Assumes nothing.
 use mathlib.Core.Path.{_≡_, refl, sym, ap, _∙_}
 use mathlib.Core.Bool.{Bool, true, false, _&&_}
-use mathlib.Core.List.{List, []}
-use Prim.Native.Nat.{ℕ, suc, _+_, _-_, _*_, _≤_, _<_}
+use mathlib.Core.List.{List}
+use Prim.Native.Nat.{ℕ, _+_, _-_, _≤_, _<_}
 use native.Mathlib.Omega.{arith}
 use native.Mathlib.Decide.{decLt}
 use borrow.Author.Count.{below-more}
 use borrow.Author.Tests.{lt-ltb, le-ltb}
 use lib.Dec.{ltb}
-use lib.ListN.{length, getD}
+use lib.ListN.{length}
 use Rattle.theory.specs.Scan.{improves}
-use Rattle.theory.specs.Polish.{search-of, move-at}
-use Rattle.theory.specs.Route.{Problem, reconnected, feasible, tour-length}
-use Rattle.theory.specs.Tables.{problem, CutSet, PatternRows, pattern-rows}
+use Rattle.theory.specs.Route.{feasible}
+use Rattle.theory.specs.Tables.{problem, pattern-rows}
 use Rattle.theory.proofs.Rows.{listed-for-k}
-use Rattle.joints.specs.States.{row, states, standing-row, StateRows}
-use Rattle.joints.specs.JointTable.{chain, joint-table}
+use Rattle.joints.specs.States.{row, standing-row}
+use Rattle.joints.specs.JointTable.{chain}
 use Rattle.joints.proofs.Chain.{shorter}
-use Rattle.search.specs.Gain.{FirstGain, candidate, gains, Rival, Judged, Chains, NextShorter, Tabled, FirstKept}
+use Rattle.search.specs.Gain.{candidate, gains, Checkable, Judged, Chains, NextShorter, Tabled, FirstKept}
 
 and-false : (b : Bool) → (b && false) ≡ false
 and-false true = refl
 and-false false = refl
 
-module _ (locations : ℕ) (legs latest : List ℕ) (depot : ℕ) (r cs orders masks rows J spare : List ℕ) (limit : ℕ)
+module _ {locations : ℕ} {legs latest : List ℕ} {depot : ℕ} {r cs orders masks rows J spare : List ℕ} {limit : ℕ}
     (given : Tabled locations legs latest depot r cs orders masks rows J spare limit) where
   abbrev gain : ℕ → Bool
   gain i = gains locations legs latest depot r cs orders masks i
@@ -61,8 +60,8 @@ module _ (locations : ℕ) (legs latest : List ℕ) (depot : ℕ) (r cs orders m
         known = λ c l. given .state-rows .small c (omega (arith, given .allowed));
       }
 
-  pub rival : (i : ℕ) {spare′ : List ℕ} → i < limit → length spare′ ≡ 512 → Rival locations legs latest depot r cs orders masks i spare′
-  rival i h n = record { timed = given .timed; cut-set = given .cut-set; patterns = given .patterns; listed = omega (arith, given .allowed); places = n }
+  pub checkable : (i : ℕ) {spare′ : List ℕ} → i < limit → length spare′ ≡ 512 → Checkable locations legs latest depot r cs orders masks i spare′
+  checkable i h n = record { of = record { cut-set = given .cut-set; patterns = given .patterns; listed = omega (arith, given .allowed) }; timed = given .timed; places = n }
 
   -- None improves before the next one that is shorter.
   pub passed-on : (s from : ℕ) {i : ℕ} → s ≡ standing → ((x : ℕ) → x < from → gain x ≡ false) → NextShorter J rows s from limit i → (x : ℕ) → x < i → gain x ≡ false

@@ -2,7 +2,7 @@
 use mathlib.Core.Path.{_≡_}
 use mathlib.Core.Bool.{Bool, true, false}
 use mathlib.Core.List.{List}
-use Prim.Native.Nat.{ℕ, suc, _*_, _≤_, _<_}
+use Prim.Native.Nat.{ℕ, _*_, _≤_, _<_}
 use lib.ListN.{length, getD, take}
 use Rattle.theory.specs.Moves.{Pattern}
 use Rattle.theory.specs.Scan.{improves}
@@ -12,7 +12,7 @@ use Rattle.theory.specs.Costs.{forward, backward}
 use Rattle.theory.specs.Tables.{problem, Timed, CutSet, PatternRows, pattern-rows}
 use Rattle.costs.specs.RouteCosts.{leg, Sums}
 use Rattle.joints.specs.States.{row, StateRows}
-use Rattle.joints.specs.JointTable.{chain, Padded, joint-table}
+use Rattle.joints.specs.JointTable.{chain, Padded, JointOf}
 
 -- What the step reads: tables, the route with its running sums, k cuts of it, and rows of patterns of which the first `limit` are still allowed.
 pub record Searchable (locations : ℕ) (legs latest : List ℕ) (depot : ℕ) (route forward-sums backward-sums cuts orders masks : List ℕ) (limit : ℕ) : Type 0 where
@@ -55,18 +55,26 @@ gains locations legs latest depot route cuts orders masks i =
     improves (search-of (problem locations legs latest depot) (pattern-rows (length cuts) orders masks) (length cuts) (length route)) route
     (move-at (pattern-rows (length cuts) orders masks) cuts i)
 
-pub record Buildable (route cuts orders masks : List ℕ) (i : ℕ) (out : List ℕ) : Type 0 where
+-- The cut set and the pattern that make a candidate.
+pub record Candidate (route cuts orders masks : List ℕ) (i : ℕ) : Type 0 where
   pub cut-set : CutSet (length cuts) (length route) cuts
   pub patterns : PatternRows (length cuts) orders masks
   pub listed : i < length masks
+
+-- Places for it.
+pub record Buildable (route cuts orders masks : List ℕ) (i : ℕ) (out : List ℕ) : Type 0 where
+  pub of : Candidate route cuts orders masks i
   pub room : length out ≡ length route
 
--- A candidate whose deadlines can be checked.
-pub record Rival (locations : ℕ) (legs latest : List ℕ) (depot : ℕ) (route cuts orders masks : List ℕ) (i : ℕ) (spare : List ℕ) : Type 0 where
+-- At the front of `spare` stands a route, as long as this one, whose deadlines can be checked.
+pub record TimedFront (locations : ℕ) (legs latest : List ℕ) (depot : ℕ) (route spare : List ℕ) : Type 0 where
+  pub room : length route ≤ length spare
+  pub timed : Timed locations legs latest depot (take (length route) spare)
+
+-- A candidate that can be built and checked.
+pub record Checkable (locations : ℕ) (legs latest : List ℕ) (depot : ℕ) (route cuts orders masks : List ℕ) (i : ℕ) (spare : List ℕ) : Type 0 where
+  pub of : Candidate route cuts orders masks i
   pub timed : Timed locations legs latest depot route
-  pub cut-set : CutSet (length cuts) (length route) cuts
-  pub patterns : PatternRows (length cuts) orders masks
-  pub listed : i < length masks
   pub places : length spare ≡ 512
 
 -- "A round keeps every deadline when none of its stops is late", of the candidate.
@@ -97,9 +105,10 @@ pub record Tabled (locations : ℕ) (legs latest : List ℕ) (depot : ℕ) (rout
   pub patterns : PatternRows (length cuts) orders masks
   pub allowed : limit ≤ length masks
   pub state-rows : StateRows (length cuts) orders masks (length masks) rows
-  pub joined : joint-table locations legs depot route cuts table
+  pub joined : JointOf locations legs depot route cuts table
   pub places : length spare ≡ 512
 
+-- Its answer.
 pub record FirstKept (P : Problem) (ps : List Pattern) (k : ℕ) (route cuts : List ℕ) (limit i : ℕ) (spare : List ℕ) : Type 0 where
   pub first : FirstGain P ps k route cuts limit i
   pub built : i < limit → take (length route) spare ≡ reconnected (move-at ps cuts i) route

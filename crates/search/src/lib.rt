@@ -1,9 +1,10 @@
 // The inner step of the scan: the first pattern on a cut set that improves the route and keeps every deadline. No entry: crate polishing calls it.
 use theory::Deadline;
 ghost use mathlib.Core.Path.{_≡_};
-ghost use lib.ListN.{length};
+ghost use lib.ListN.{length, take};
+ghost use Rattle.theory.specs.Route.{feasible};
 ghost use Rattle.theory.specs.Tables.{problem, pattern-rows};
-ghost use Rattle.search.specs.Gain.{candidate, Buildable, Rival, Judged, Chains, NextShorter, Tabled, FirstKept, Gainable, Gained};
+ghost use Rattle.search.specs.Gain.{candidate, Buildable, TimedFront, Checkable, Judged, Chains, NextShorter, Tabled, FirstKept, Gainable, Gained};
 
 // The candidate of pattern i.
 fn build_candidate(
@@ -23,6 +24,26 @@ fn build_candidate(
     reconnection::reconnect(route, cuts, &orders[at..end], masks[i], out);
 }
 
+// Whether the candidate, which is as long as the route and stands at the front of `spare`, keeps every deadline.
+fn is_feasible(
+    locations: usize,
+    legs: &[u32],
+    latest: &[u32],
+    depot: u32,
+    route: &[u32],
+    spare: &[u32],
+) -> bool
+    requires { ⌜ TimedFront locations (now legs) (now latest) depot (now route) (now spare) ⌝ }
+    ensures { λ r. ⌜ r ≡ feasible (problem locations (now (legs .entry)) (now (latest .entry)) depot) (take (length (now (route .entry))) (now (spare .entry))) ⌝ }
+{
+    let n = route.len();
+    let answer = deadlines::check_deadlines(locations, legs, latest, depot, &spare[..n]);
+    let Deadline::Late(_) = answer else {
+        return true;
+    };
+    false
+}
+
 // Whether the candidate of pattern i, built in `spare`, keeps every deadline.
 fn keeps_deadlines(
     locations: usize,
@@ -36,16 +57,12 @@ fn keeps_deadlines(
     i: usize,
     spare: &mut [u32],
 ) -> bool
-    requires { ⌜ Rival locations (now legs) (now latest) depot (now route) (now cuts) (now orders) (now masks) i (now spare) ⌝ }
+    requires { ⌜ Checkable locations (now legs) (now latest) depot (now route) (now cuts) (now orders) (now masks) i (now spare) ⌝ }
     ensures { λ r. ⌜ Judged (problem locations (now (legs .entry)) (now (latest .entry)) depot) (now (route .entry)) (now (cuts .entry)) (now (orders .entry)) (now (masks .entry)) i r (now (spare .exit)) ⌝ }
 {
     let n = route.len();
     build_candidate(route, cuts, orders, masks, i, &mut spare[..n]);
-    let answer = deadlines::check_deadlines(locations, legs, latest, depot, &spare[..n]);
-    let Deadline::Late(_) = answer else {
-        return true;
-    };
-    false
+    is_feasible(locations, legs, latest, depot, route, spare)
 }
 
 // The first pattern from `from` on that costs less than `standing`, or `limit`.

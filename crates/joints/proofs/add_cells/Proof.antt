@@ -1,52 +1,39 @@
-use Rattle.joints.specs.JointTable.{chain}
+-- `joints::add_cells` meets its contract: five cells are the chain of four states. Assumes nothing.
 use native.Mathlib.Omega.{arith}
-use borrow.Author.Needs.{needs}
+use Rattle.joints.specs.JointTable.{chain}
 use Rattle.joints.proofs.add_cells.Statement.{statement}
 use Rattle.joints.proofs.add_cells.Tie as tie
-use Rattle.joints.proofs.add_cells.Reads as reads
-use Rattle.joints.proofs.add_cells.Lts as lts
-use Rattle.joints.proofs.cell.Reads as cell-reads
 
--- src/lib.rt:239:17
 cell-requires : tie.Need-cell-requires
-cell-requires c κs = search needs
+cell-requires c κs = record { padded = c .pre .padded; row = omega arith; column = omega arith }
 
--- src/lib.rt:239:37
 cell-requires-2 : tie.Need-cell-requires-2
-cell-requires-2 c κs = search needs
+cell-requires-2 c κs = record { padded = c .before .pre .padded; row = omega arith; column = omega arith }
 
--- src/lib.rt:239:17
 add-first : tie.Need-add-first
-add-first c = search needs
+add-first c = omega arith
 
--- src/lib.rt:240:13
 cell-requires-3 : tie.Need-cell-requires-3
-cell-requires-3 c κs = search needs
+cell-requires-3 c κs = record { padded = c .before .before .pre .padded; row = omega arith; column = omega arith }
 
--- src/lib.rt:240:5
 add-result : tie.Need-add-result
-add-result c = search needs
+add-result c = omega arith
 
--- src/lib.rt:240:33
 cell-requires-4 : tie.Need-cell-requires-4
-cell-requires-4 c κs = search needs
+cell-requires-4 c κs = record { padded = c .before .before .before .pre .padded; row = omega arith; column = omega arith }
 
--- src/lib.rt:240:5
 add-result-2 : tie.Need-add-result-2
-add-result-2 c = search needs
+add-result-2 c = omega arith
 
--- src/lib.rt:240:53
 cell-requires-5 : tie.Need-cell-requires-5
-cell-requires-5 c κs = search needs
+cell-requires-5 c κs = record { padded = c .before .before .before .before .pre .padded; row = omega arith; column = omega arith }
 
--- src/lib.rt:240:5
 add-result-3 : tie.Need-add-result-3
-add-result-3 c = search needs
+add-result-3 c = omega arith
 
--- src/lib.rt:235:1
 returns : tie.Need-returns
 unfolding chain
-returns c = search needs
+returns c = omega arith
 
 pub add-cells-spec : {M : Type 1} → statement M
 add-cells-spec =

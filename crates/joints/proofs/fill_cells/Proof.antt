@@ -1,15 +1,12 @@
-use Prim.Native.Nat.{_+_, _^_}
-use Prim.Native.Nat.{_-_, _≤_}
+-- `joints::fill_cells` meets its contract. The invariant: the row's cells below b are filled, and the other rows are as they were. Assumes nothing.
+use Prim.Native.Nat.{_+_, _-_, _^_, _≤_}
+use native.Mathlib.Omega.{arith}
+use borrow.Author.Needs.{needs}
 use lib.ListN.{getD}
 use Rattle.costs.specs.RouteCosts.{leg}
 use Rattle.joints.proofs.Filling.{Cells, cells-none, cells-more, cells-all, tail-padded, tail-others}
-use native.Mathlib.Omega.{arith}
-use borrow.Author.Needs.{needs}
 use Rattle.joints.proofs.fill_cells.Statement.{statement}
 use Rattle.joints.proofs.fill_cells.Tie as tie
-use Rattle.joints.proofs.fill_cells.Reads as reads
-use Rattle.joints.proofs.fill_cells.Lts as lts
-use Rattle.costs.proofs.route_distance.Reads as route-distance-reads
 
 abbrev Inv-loop : tie.InvT-loop
 Inv-loop locations legs from tail count entries inside a joint₀ row b₀ joint b = (b ≤ count) × Cells (leg locations legs) (λ s. getD entries s 0) (λ s. getD inside s 0) from a joint₀ joint b
@@ -17,66 +14,52 @@ Inv-loop locations legs from tail count entries inside a joint₀ row b₀ joint
 abbrev μ-loop : tie.MeasureT-loop
 μ-loop locations legs from tail count entries inside a joint₀ row b₀ joint b = count - b
 
--- src/lib.rt:134:15
 mul-row : tie.Need-mul-row Inv-loop μ-loop
 mul-row c = search needs
 
--- src/lib.rt:136:5
 loop-holds : tie.Need-loop-holds Inv-loop μ-loop
 loop-holds c =
     let s = c .before in
     (omega arith, cells-none _ _ _ (s .args .from) (s .args .a) (s .args .joint .now) (s .pre .padded))
 
--- src/lib.rt:137:71
 mul-route-distance : tie.Need-mul-route-distance Inv-loop μ-loop
 mul-route-distance c = search needs
 
--- src/lib.rt:137:71
 element-copy-out-route-distance : tie.Need-element-copy-out-route-distance Inv-loop μ-loop
 element-copy-out-route-distance c = search needs
 
--- src/lib.rt:137:26
 route-distance-requires : tie.Need-route-distance-requires Inv-loop μ-loop
 route-distance-requires c κs =
     let s = c .before .before .before .before in
     let f = s .pre .fillable in
     record { table = f .leg-table; from-known = s .pre .from-known; to-known = f .entries-known (c .before .before .loop .b) (c .before .loop-test .taken) }
 
--- src/lib.rt:137:85
 mul-joint : tie.Need-mul-joint Inv-loop μ-loop
 mul-joint c = search needs
 
--- src/lib.rt:137:85
 element-copy-out-joint : tie.Need-element-copy-out-joint Inv-loop μ-loop
 element-copy-out-joint c = search needs
 
--- src/lib.rt:137:26
 add-joint : tie.Need-add-joint Inv-loop μ-loop
 add-joint c =
     let f = c .before .before .before .before .before .before .pre .fillable in
     omega (arith, c .before .route-distance .ensures .small, f .inside-small (c .before .before .before .before .loop .b) (c .before .before .before .loop-test .taken))
 
--- src/lib.rt:137:15
 add-joint-2 : tie.Need-add-joint-2 Inv-loop μ-loop
 add-joint-2 c = search needs
 
--- src/lib.rt:137:9
 mul-joint-2 : tie.Need-mul-joint-2 Inv-loop μ-loop
 mul-joint-2 c = search needs
 
--- src/lib.rt:137:9
 element-write-joint : tie.Need-element-write-joint Inv-loop μ-loop
 element-write-joint c = search needs
 
--- src/lib.rt:138:9
 add-b : tie.Need-add-b Inv-loop μ-loop
 add-b c = search needs
 
--- src/lib.rt:136:5
 loop-less : tie.Need-loop-less Inv-loop μ-loop
 loop-less c = search needs
 
--- src/lib.rt:136:5
 loop-again : tie.Need-loop-again Inv-loop μ-loop
 loop-again c =
     let s = c .before .before .before .before .before .before in
@@ -86,23 +69,18 @@ loop-again c =
     let v = c .before .route-distance .result + getD (s .args .inside .now) (l .b) 0 in
     (omega arith, cells-more (l .inv .1) v (s .pre .within) (s .pre .not-tail) (omega (arith, d .small, s .pre .fillable .inside-small (l .b) h)) (omega (arith, s .pre .fillable .few, h)) (omega (arith, d .is)))
 
--- src/lib.rt:140:22
 route-distance-requires-2 : tie.Need-route-distance-requires-2 Inv-loop μ-loop
 route-distance-requires-2 c κs = search needs
 
--- src/lib.rt:140:11
 add-joint-3 : tie.Need-add-joint-3 Inv-loop μ-loop
 add-joint-3 c = search needs
 
--- src/lib.rt:140:5
 mul-joint-3 : tie.Need-mul-joint-3 Inv-loop μ-loop
 mul-joint-3 c = search needs
 
--- src/lib.rt:140:5
 element-write-joint-2 : tie.Need-element-write-joint-2 Inv-loop μ-loop
 element-write-joint-2 c = search needs
 
--- src/lib.rt:120:1
 returns : tie.Need-returns Inv-loop μ-loop
 returns c =
     let s = c .before .before .before .before in

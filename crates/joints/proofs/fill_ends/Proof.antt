@@ -1,15 +1,13 @@
+-- `joints::fill_ends` meets its contract. The invariant: the states of the segments passed have their ends and inner legs. Assumes nothing.
 use mathlib.Core.Path.{_≡_}
-use Rattle.joints.proofs.Ends.{no-ends, segment-asked, more-ends}
 use Prim.Native.Nat.{_-_, _*_, _≤_}
-use lib.ListN.{length}
-use Rattle.joints.specs.JointTable.{StateEnds}
 use native.Mathlib.Omega.{arith}
 use borrow.Author.Needs.{needs}
+use lib.ListN.{length}
+use Rattle.joints.specs.JointTable.{StateEnds}
+use Rattle.joints.proofs.Ends.{no-ends, segment-asked, more-ends}
 use Rattle.joints.proofs.fill_ends.Statement.{statement}
 use Rattle.joints.proofs.fill_ends.Tie as tie
-use Rattle.joints.proofs.fill_ends.Reads as reads
-use Rattle.joints.proofs.fill_ends.Lts as lts
-use Rattle.joints.proofs.put_ends.Reads as put-ends-reads
 
 abbrev Inv-loop : tie.InvT-loop
 Inv-loop route forward backward cuts entries₀ exits₀ inside₀ i₀ entries exits inside i = (1 ≤ i) × (i ≤ length cuts) × StateEnds route forward backward cuts (2 * (i - 1)) entries exits inside
@@ -17,64 +15,51 @@ Inv-loop route forward backward cuts entries₀ exits₀ inside₀ i₀ entries 
 abbrev μ-loop : tie.MeasureT-loop
 μ-loop route forward backward cuts entries₀ exits₀ inside₀ i₀ entries exits inside i = length cuts - i
 
--- src/lib.rt:102:5
 loop-holds : tie.Need-loop-holds Inv-loop μ-loop
 loop-holds c =
     let s = c .before .before in
-    (omega arith, omega (arith, s .pre .cut-set .least), no-ends (s .args .cuts .now) (s .args .route .now) (s .pre .cut-set) (s .args .forward .now) (s .args .backward .now) _ _ _ (s .pre))
+    (omega arith, omega (arith, s .pre .cut-set .least), no-ends (s .pre))
 
--- src/lib.rt:103:17
 mul-s : tie.Need-mul-s Inv-loop μ-loop
 mul-s c = search needs
 
--- src/lib.rt:103:17
 sub-s : tie.Need-sub-s Inv-loop μ-loop
 sub-s c = search needs
 
--- src/lib.rt:108:18
 sub-put-ends : tie.Need-sub-put-ends Inv-loop μ-loop
 sub-put-ends c = search needs
 
--- src/lib.rt:108:13
 mul-put-ends : tie.Need-mul-put-ends Inv-loop μ-loop
 mul-put-ends c = search needs
 
--- src/lib.rt:108:13
 shared-slice-read-put-ends : tie.Need-shared-slice-read-put-ends Inv-loop μ-loop
 shared-slice-read-put-ends c = search needs
 
--- src/lib.rt:109:13
 mul-put-ends-2 : tie.Need-mul-put-ends-2 Inv-loop μ-loop
 mul-put-ends-2 c = search needs
 
--- src/lib.rt:109:13
 shared-slice-read-put-ends-2 : tie.Need-shared-slice-read-put-ends-2 Inv-loop μ-loop
 shared-slice-read-put-ends-2 c = search needs
 
--- src/lib.rt:104:9
 put-ends-requires : tie.Need-put-ends-requires Inv-loop μ-loop
 put-ends-requires c κs =
     let s = c .before .before .before .before .before .before .before .before .before in
     let l = c .before .before .before .before .before .before .loop in
-    segment-asked (s .args .cuts .now) (s .args .route .now) (s .pre .cut-set) (s .args .forward .now) (s .args .backward .now) _ _ _ (s .pre) (l .i) (l .inv .0) (c .before .before .before .before .before .loop-test .taken) (l .inv .2 .places)
+    segment-asked (s .pre) (l .i) (l .inv .0) (c .before .before .before .before .before .loop-test .taken) (l .inv .2 .places)
 
--- src/lib.rt:115:9
 add-i : tie.Need-add-i Inv-loop μ-loop
 add-i c = search needs
 
--- src/lib.rt:102:5
 loop-less : tie.Need-loop-less Inv-loop μ-loop
 loop-less c = search needs
 
--- src/lib.rt:102:5
 loop-again : tie.Need-loop-again Inv-loop μ-loop
 loop-again c =
     let s = c .before .before .before .before .before .before .before .before .before .before in
     let l = c .before .before .before .before .before .before .before .loop in
     let h = c .before .before .before .before .before .before .loop-test .taken in
-    (omega arith, omega arith, more-ends (s .args .cuts .now) (s .args .route .now) (s .pre .cut-set) (s .args .forward .now) (s .args .backward .now) _ _ _ (s .pre) (l .i) (l .inv .0) h (l .inv .2) (c .put-ends .ensures))
+    (omega arith, omega arith, more-ends (s .pre) (l .i) (l .inv .0) h (l .inv .2) (c .put-ends .ensures))
 
--- src/lib.rt:89:1
 returns : tie.Need-returns Inv-loop μ-loop
 returns c =
     let s = c .before .before .before .before in

@@ -1,16 +1,14 @@
+-- `joints::fill_rows` meets its contract. The invariant: the first i rows are those of the first i patterns. Assumes nothing.
 use mathlib.Core.Path.{_≡_}
-use Rattle.theory.proofs.Rows.{lent-within}
-use Rattle.joints.proofs.Rows.{no-rows, row-segments, more-rows}
 use Prim.Native.Nat.{_+_, _-_, _*_, _≤_}
-use lib.ListN.{length}
-use Rattle.joints.specs.States.{StateRows}
 use native.Mathlib.Omega.{arith}
 use borrow.Author.Needs.{needs}
+use lib.ListN.{length}
+use Rattle.theory.proofs.Rows.{lent-within}
+use Rattle.joints.specs.States.{StateRows}
+use Rattle.joints.proofs.Rows.{no-rows, row-segments, more-rows}
 use Rattle.joints.proofs.fill_rows.Statement.{statement}
 use Rattle.joints.proofs.fill_rows.Tie as tie
-use Rattle.joints.proofs.fill_rows.Reads as reads
-use Rattle.joints.proofs.fill_rows.Lts as lts
-use Rattle.joints.proofs.put_row.Reads as put-row-reads
 
 abbrev Inv-loop : tie.InvT-loop
 Inv-loop k orders masks rows₀ width i₀ rows i = (i ≤ length masks) × StateRows k orders masks i rows
@@ -24,65 +22,52 @@ within c =
     let s = c .before .before .before .before in
     lent-within (s .args .k) (s .args .orders .now) (s .args .masks .now) (c .before .loop .i) (s .pre .patterns .long) (c .loop-test .taken)
 
--- src/lib.rt:53:17
 add-width : tie.Need-add-width Inv-loop μ-loop
 add-width c = search needs
 
--- src/lib.rt:55:5
 loop-holds : tie.Need-loop-holds Inv-loop μ-loop
 loop-holds c =
     let s = c .before .before in
-    (omega arith, no-rows (s .args .k) (s .args .orders .now) (s .args .masks .now) (s .args .rows .now) (s .pre))
+    (omega arith, no-rows (s .pre))
 
--- src/lib.rt:56:18
 mul-at : tie.Need-mul-at Inv-loop μ-loop
 mul-at c = omega (arith, within c)
 
--- src/lib.rt:57:19
 add-end : tie.Need-add-end Inv-loop μ-loop
 add-end c = omega (arith, within c)
 
--- src/lib.rt:58:20
 sub-put-row : tie.Need-sub-put-row Inv-loop μ-loop
 sub-put-row c = search needs
 
--- src/lib.rt:58:20
 part-put-row-start : tie.Need-part-put-row-start Inv-loop μ-loop
 part-put-row-start c = search needs
 
--- src/lib.rt:58:20
 part-put-row-end : tie.Need-part-put-row-end Inv-loop μ-loop
 part-put-row-end c = within c
 
--- src/lib.rt:58:38
 shared-slice-read-put-row : tie.Need-shared-slice-read-put-row Inv-loop μ-loop
 shared-slice-read-put-row c = search needs
 
--- src/lib.rt:58:9
 put-row-requires : tie.Need-put-row-requires Inv-loop μ-loop
 put-row-requires c κs =
     let s = c .before .before .before .before .before .before .before in
     let l = c .before .before .before .before .loop in
     let h = c .before .before .before .loop-test .taken in
-    (row-segments (s .args .k) (s .args .orders .now) (s .args .masks .now) (s .args .rows .now) (s .pre) (l .i) h, (omega (arith, s .pre .patterns .few, h), l .inv .1 .places))
+    (row-segments (s .pre) (l .i) h, (omega (arith, s .pre .patterns .few, h), l .inv .1 .places))
 
--- src/lib.rt:59:9
 add-i : tie.Need-add-i Inv-loop μ-loop
 add-i c = search needs
 
--- src/lib.rt:55:5
 loop-less : tie.Need-loop-less Inv-loop μ-loop
 loop-less c = search needs
 
--- src/lib.rt:55:5
 loop-again : tie.Need-loop-again Inv-loop μ-loop
 loop-again c =
     let s = c .before .before .before .before .before .before .before .before in
     let l = c .before .before .before .before .before .loop in
     let h = c .before .before .before .before .loop-test .taken in
-    (omega arith, more-rows (s .args .k) (s .args .orders .now) (s .args .masks .now) (s .args .rows .now) (s .pre) (l .i) h (l .inv .1) (c .put-row .ensures))
+    (omega arith, more-rows (s .pre) (l .i) h (l .inv .1) (c .put-row .ensures))
 
--- src/lib.rt:49:1
 returns : tie.Need-returns Inv-loop μ-loop
 returns c =
     let s = c .before .before .before .before in

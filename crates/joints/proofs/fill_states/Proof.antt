@@ -1,16 +1,14 @@
+-- `joints::fill_states` meets its contract. The invariant: the rows below a are filled. Assumes nothing.
 use mathlib.Core.Path.{_≡_, refl}
 use Prim.Native.Nat.{ℕ, _-_, _≤_, _<_}
+use native.Mathlib.Omega.{arith}
+use borrow.Author.Needs.{needs}
 use lib.ListN.{getD}
 use Rattle.costs.specs.RouteCosts.{leg}
 use Rattle.joints.specs.JointTable.{Padded, JointRow}
 use Rattle.joints.proofs.Filling.{rows-more}
-use native.Mathlib.Omega.{arith}
-use borrow.Author.Needs.{needs}
 use Rattle.joints.proofs.fill_states.Statement.{statement}
 use Rattle.joints.proofs.fill_states.Tie as tie
-use Rattle.joints.proofs.fill_states.Reads as reads
-use Rattle.joints.proofs.fill_states.Lts as lts
-use Rattle.joints.proofs.fill_cells.Reads as fill-cells-reads
 
 abbrev Inv-loop : tie.InvT-loop
 Inv-loop locations legs tail count entries exits inside joint₀ a₀ joint a =
@@ -21,19 +19,15 @@ Inv-loop locations legs tail count entries exits inside joint₀ a₀ joint a =
 abbrev μ-loop : tie.MeasureT-loop
 μ-loop locations legs tail count entries exits inside joint₀ a₀ joint a = count - a
 
--- src/lib.rt:158:5
 loop-holds : tie.Need-loop-holds Inv-loop μ-loop
 loop-holds c = (omega arith, c .before .pre .padded, λ x h. absurd (omega arith))
 
--- src/lib.rt:162:13
 mul-fill-cells : tie.Need-mul-fill-cells Inv-loop μ-loop
 mul-fill-cells c = search needs
 
--- src/lib.rt:162:13
 element-copy-out-fill-cells : tie.Need-element-copy-out-fill-cells Inv-loop μ-loop
 element-copy-out-fill-cells c = search needs
 
--- src/lib.rt:159:9
 fill-cells-requires : tie.Need-fill-cells-requires Inv-loop μ-loop
 fill-cells-requires c κs =
     let s = c .before .before .before .before .before in
@@ -41,23 +35,19 @@ fill-cells-requires c κs =
     let h = c .before .before .loop-test .taken in
     record { fillable = s .pre .fillable; padded = l .inv .1; from-known = s .pre .exits-known (l .a) h; within = omega (arith, s .pre .fillable .few, h); not-tail = λ q. omega (arith, s .pre .fillable .few, h) }
 
--- src/lib.rt:170:9
 add-a : tie.Need-add-a Inv-loop μ-loop
 add-a c = search needs
 
--- src/lib.rt:158:5
 loop-less : tie.Need-loop-less Inv-loop μ-loop
 loop-less c = search needs
 
--- src/lib.rt:158:5
 loop-again : tie.Need-loop-again Inv-loop μ-loop
 loop-again c =
     let s = c .before .before .before .before .before .before in
     let l = c .before .before .before .before .loop in
     let f = c .fill-cells .ensures in
-    (omega arith, f .padded, rows-more (s .args .locations) (s .args .legs .now) (s .args .tail) (s .args .count) (s .args .entries .now) (s .args .exits .now) (s .args .inside .now) (s .pre .fillable .few) refl (l .inv .2) f)
+    (omega arith, f .padded, rows-more (s .args .exits .now) (s .pre .fillable .few) refl (l .inv .2) f)
 
--- src/lib.rt:144:1
 returns : tie.Need-returns Inv-loop μ-loop
 returns c =
     let s = c .before .before .before in

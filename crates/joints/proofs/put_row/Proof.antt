@@ -1,65 +1,49 @@
-use Rattle.joints.proofs.Rows.{row-put}
+-- `joints::put_row` meets its contract: four stores are one row. Assumes nothing.
 use native.Mathlib.Omega.{arith}
-use borrow.Author.Needs.{needs}
+use Rattle.joints.proofs.Rows.{row-put}
 use Rattle.joints.proofs.put_row.Statement.{statement}
 use Rattle.joints.proofs.put_row.Tie as tie
-use Rattle.joints.proofs.put_row.Reads as reads
-use Rattle.joints.proofs.put_row.Lts as lts
-use Rattle.joints.proofs.state_at.Reads as state-at-reads
 
--- src/lib.rt:41:14
 mul-at : tie.Need-mul-at
-mul-at c = search needs
+mul-at c = omega arith
 
--- src/lib.rt:42:16
 state-at-requires : tie.Need-state-at-requires
-state-at-requires c κs = search needs
+state-at-requires c κs = (c .before .pre .0, omega arith)
 
--- src/lib.rt:42:5
 element-write-rows : tie.Need-element-write-rows
-element-write-rows c = search needs
+element-write-rows c = omega arith
 
--- src/lib.rt:43:20
 state-at-requires-2 : tie.Need-state-at-requires-2
-state-at-requires-2 c κs = search needs
+state-at-requires-2 c κs = (c .before .before .pre .0, omega arith)
 
--- src/lib.rt:43:10
 add-rows : tie.Need-add-rows
-add-rows c = search needs
+add-rows c = omega arith
 
--- src/lib.rt:43:5
 element-write-rows-2 : tie.Need-element-write-rows-2
-element-write-rows-2 c = search needs
+element-write-rows-2 c = omega arith
 
--- src/lib.rt:44:20
 state-at-requires-3 : tie.Need-state-at-requires-3
-state-at-requires-3 c κs = search needs
+state-at-requires-3 c κs = (c .before .before .before .pre .0, omega arith)
 
--- src/lib.rt:44:10
 add-rows-2 : tie.Need-add-rows-2
-add-rows-2 c = search needs
+add-rows-2 c = omega arith
 
--- src/lib.rt:44:5
 element-write-rows-3 : tie.Need-element-write-rows-3
-element-write-rows-3 c = search needs
+element-write-rows-3 c = omega arith
 
--- src/lib.rt:45:20
 state-at-requires-4 : tie.Need-state-at-requires-4
-state-at-requires-4 c κs = search needs
+state-at-requires-4 c κs = (c .before .before .before .before .pre .0, omega arith)
 
--- src/lib.rt:45:10
 add-rows-3 : tie.Need-add-rows-3
-add-rows-3 c = search needs
+add-rows-3 c = omega arith
 
--- src/lib.rt:45:5
 element-write-rows-4 : tie.Need-element-write-rows-4
-element-write-rows-4 c = search needs
+element-write-rows-4 c = omega arith
 
--- src/lib.rt:36:1
 returns : tie.Need-returns
 returns c =
     let s = c .before .before .before .before .before in
-    row-put (s .args .k) (s .args .order .now) (s .args .mask) (s .args .i) (s .args .rows .now) _ _ _ _ (s .pre .0) (s .pre .1 .0) (s .pre .1 .1)
+    row-put (s .pre .0) (s .pre .1 .0) (s .pre .1 .1)
     (c .before .before .before .state-at .ensures) (c .before .before .state-at2 .ensures) (c .before .state-at3 .ensures) (c .state-at4 .ensures)
 
 pub put-row-spec : {M : Type 1} → statement M

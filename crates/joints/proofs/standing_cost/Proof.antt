@@ -1,42 +1,32 @@
+-- `joints::standing_cost` meets its contract: one case for each number of cuts. Assumes nothing.
 use mathlib.Core.Path.{_≡_}
-use Rattle.joints.proofs.States.{standing-two, standing-three, standing-four, standing-five}
 use native.Mathlib.Omega.{arith}
 use borrow.Author.Needs.{needs}
+use Rattle.joints.proofs.States.{standing-two, standing-three, standing-four, standing-five}
 use Rattle.joints.proofs.standing_cost.Statement.{statement}
 use Rattle.joints.proofs.standing_cost.Tie as tie
-use Rattle.joints.proofs.standing_cost.Reads as reads
-use Rattle.joints.proofs.standing_cost.Lts as lts
-use Rattle.joints.proofs.add_cells.Reads as add-cells-reads
 
--- src/lib.rt:268:14
 add-cells-requires : tie.Need-add-cells-requires
 add-cells-requires c κs = search needs
 
--- src/lib.rt:269:14
 add-cells-requires-2 : tie.Need-add-cells-requires-2
 add-cells-requires-2 c κs = search needs
 
--- src/lib.rt:270:14
 add-cells-requires-3 : tie.Need-add-cells-requires-3
 add-cells-requires-3 c κs = search needs
 
--- src/lib.rt:271:14
 add-cells-requires-4 : tie.Need-add-cells-requires-4
 add-cells-requires-4 c κs = search needs
 
--- src/lib.rt:263:1
 returns : tie.Need-returns
 returns c = rw (c .before .match .keys1, standing-two) (c .add-cells .ensures)
 
--- src/lib.rt:263:1
 returns-2 : tie.Need-returns-2
 returns-2 c = rw (c .before .match .keys2, standing-three) (c .add-cells2 .ensures)
 
--- src/lib.rt:263:1
 returns-3 : tie.Need-returns-3
 returns-3 c = rw (c .before .match .keys3, standing-four) (c .add-cells3 .ensures)
 
--- src/lib.rt:263:1
 returns-4 : tie.Need-returns-4
 returns-4 c =
     let s = c .before .before in

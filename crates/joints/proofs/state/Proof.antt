@@ -1,41 +1,32 @@
+-- `joints::state` meets its contract: one case for each direction. Assumes nothing.
 use mathlib.Core.Path.{sym, _∙_}
-use Rattle.joints.proofs.States.{reversed-state, straight-state}
 use native.Mathlib.Omega.{arith}
 use borrow.Author.Needs.{needs}
+use Rattle.joints.proofs.States.{reversed-state, straight-state}
 use Rattle.joints.proofs.state.Statement.{statement}
 use Rattle.joints.proofs.state.Tie as tie
-use Rattle.joints.proofs.state.Reads as reads
-use Rattle.joints.proofs.state.Lts as lts
-use Rattle.costs.proofs.should_reverse.Reads as should-reverse-reads
 
--- src/lib.rt:17:8
 should-reverse-requires : tie.Need-should-reverse-requires
 should-reverse-requires c κs = search needs
 
--- src/lib.rt:18:16
 mul-result : tie.Need-mul-result
 mul-result c = search needs
 
--- src/lib.rt:18:16
 sub-result : tie.Need-sub-result
 sub-result c = search needs
 
--- src/lib.rt:18:9
 returns : tie.Need-returns
 returns c =
     let s = c .before .before in
     let e = reversed-state (s .args .mask) (s .args .segment) (sym (c .before .should-reverse .ensures) ∙ c .if1 .taken) (s .pre .0) in
     record { is = e; small = omega arith }
 
--- src/lib.rt:20:5
 mul-result-2 : tie.Need-mul-result-2
 mul-result-2 c = search needs
 
--- src/lib.rt:20:5
 sub-result-2 : tie.Need-sub-result-2
 sub-result-2 c = search needs
 
--- src/lib.rt:13:1
 returns-2 : tie.Need-returns-2
 returns-2 c =
     let s = c .before .before in

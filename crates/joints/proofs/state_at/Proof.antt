@@ -1,39 +1,31 @@
+-- `joints::state_at` meets its contract: a middle segment's state, or the tail. Assumes nothing.
 use Prim.Native.Nat.{_+_}
-use borrow.Author.Tests.{lt-ltb, le-ltb}
 use native.Mathlib.Omega.{arith}
+use borrow.Author.Tests.{lt-ltb, le-ltb}
 use borrow.Author.Needs.{needs}
 use Rattle.joints.proofs.state_at.Statement.{statement}
 use Rattle.joints.proofs.state_at.Tie as tie
-use Rattle.joints.proofs.state_at.Reads as reads
-use Rattle.joints.proofs.state_at.Lts as lts
-use Rattle.joints.proofs.state.Reads as state-reads
 
--- src/lib.rt:29:8
 add-if1 : tie.Need-add-if1
 add-if1 c = search needs
 
--- src/lib.rt:30:34
 add-state : tie.Need-add-state
 add-state c = search needs
 
--- src/lib.rt:30:28
 shared-slice-read-state : tie.Need-shared-slice-read-state
 shared-slice-read-state c = search needs
 
--- src/lib.rt:30:9
 state-requires : tie.Need-state-requires
 state-requires c κs =
     let s = c .before .before .before in
     let m = s .pre .0 .middle in
     (m .least (s .args .p + 1) (omega arith) (c .before .if1 .taken), omega (arith, m .most (s .args .p + 1) (omega arith) (c .before .if1 .taken), s .pre .0 .most))
 
--- src/lib.rt:30:9
 returns : tie.Need-returns
 returns c =
     let s = c .before .before .before .before in
     (rw (lt-ltb (s .args .p + 1) (s .args .k) (c .before .before .if1 .taken)) (c .state .ensures .is), omega (arith, c .state .ensures .small))
 
--- src/lib.rt:24:1
 returns-2 : tie.Need-returns-2
 returns-2 c =
     let s = c .before .before in
