@@ -88,16 +88,6 @@ pub fn backward_sums(locations: usize, legs: &[u32], route: &[u32], sums: &mut [
     running_sums(locations, legs, route, true, sums);
 }
 
-// Whether bit `segment` of the mask is set.
-pub fn should_reverse(mask: u8, segment: usize) -> bool
-    ensures { λ r. ⌜ r ≡ reverses mask segment ⌝ }
-{
-    if segment > 7 {
-        return false;
-    }
-    (mask >> segment) % 2 == 1
-}
-
 // The stop before the first cut; cut 0 makes the depot the head's end.
 pub fn head_end(depot: u32, route: &[u32], cuts: &[usize]) -> u32
     requires { ⌜ CutSet (length (now cuts)) (length (now route)) (now cuts) ⌝ }
@@ -187,7 +177,7 @@ fn place_segment(
 {
     let start = cuts[segment - 1];
     let end = cuts[segment];
-    let reversed = should_reverse(mask, segment);
+    let reversed = reconnection::should_reverse(mask, segment);
     place(
         locations,
         legs,

@@ -14,7 +14,7 @@ fn state(mask: u8, segment: u8) -> u8
     requires { ⌜ (1 ≤ segment) × (segment ≤ 4) ⌝ }
     ensures { λ r. ⌜ StateAt mask segment r ⌝ }
 {
-    if costs::should_reverse(mask, segment as usize) {
+    if reconnection::should_reverse(mask, segment as usize) {
         return 2 * segment - 1;
     }
     2 * segment - 2

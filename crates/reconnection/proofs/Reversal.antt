@@ -1,4 +1,4 @@
--- The places of a reversed list, and a byte's bits by cases. Assumes nothing.
+-- The places of a reversed list. Assumes nothing.
 use mathlib.Core.Path.{_≡_, refl, _∙_}
 use mathlib.Core.Bool.{Bool, true, false}
 use mathlib.Core.List.{List, [], _∷_, _++_, reverse, reverse-cons}
@@ -22,7 +22,3 @@ getD-reverse (x ∷ l) i h = rw reverse-cons (go (ltb i (length l)) refl (getD-r
         let k : length l ≤ i = ltb-false _ _ e in
         let f : suc (length l) - 1 - i ≡ 0 = omega arith in
         getD-at (reverse l) x [] 0 i (length-reverse l ∙ omega arith) ∙ rw f
-
--- A number that is at least k and is not k is above k: one case of a `match` passed.
-pub above : (k i : ℕ) → k ≤ i → (i ≡ k → ⊥) → k < i
-above k i h n = omega arith

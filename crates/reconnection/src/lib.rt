@@ -41,19 +41,14 @@ fn segment_start(cuts: &[usize], n: usize, i: usize) -> usize
     n
 }
 
-// Whether the mask reverses segment i.
-pub fn should_reverse(mask: u8, i: usize) -> bool
-    requires { ⌜ i ≤ 5 ⌝ }
-    ensures { λ r. ⌜ r ≡ reverses mask i ⌝ }
+// Whether bit `segment` of the mask is set.
+pub fn should_reverse(mask: u8, segment: usize) -> bool
+    ensures { λ r. ⌜ r ≡ reverses mask segment ⌝ }
 {
-    match i {
-        0 => mask / 1 % 2 == 1,
-        1 => mask / 2 % 2 == 1,
-        2 => mask / 4 % 2 == 1,
-        3 => mask / 8 % 2 == 1,
-        4 => mask / 16 % 2 == 1,
-        _ => mask / 32 % 2 == 1,
+    if segment > 7 {
+        return false;
     }
+    (mask >> segment) % 2 == 1
 }
 
 // The part a..b of the route into out from `at` on, reversed where `flip` says so.

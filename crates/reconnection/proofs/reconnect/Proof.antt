@@ -47,7 +47,7 @@ segment-start-requires-2 : tie.Need-segment-start-requires-2 Inv-loop μ-loop
 segment-start-requires-2 c κs = omega (arith, segment-named (c .before .before))
 
 should-reverse-requires : tie.Need-should-reverse-requires Inv-loop μ-loop
-should-reverse-requires c κs = omega (arith, segment-named (c .before .before .before), c .before .before .before .before .before .before .before .before .before .pre .cut-set .most)
+should-reverse-requires c κs = search needs
 
 room-of : (c : tie.After-should-reverse Inv-loop μ-loop) → (c .before .before .segment-start .result ≤ c .before .segment-start2 .result)
     × (c .before .segment-start2 .result ≤ length (c .before .before .before .before .before .before .before .before .before .before .args .route .now))
