@@ -20,5 +20,6 @@ pub mod ffi;
 pub mod generate;
 pub mod judge;
 pub mod oracle;
+pub mod planted;
 pub mod random;
 pub mod short;

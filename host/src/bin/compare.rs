@@ -1,11 +1,12 @@
 //! compare [seed] [cases] [family index]: feeds the library and the Rust the same cases and compares all that a caller sees.
-//! Family and index, as a difference prints them, run that one case again. Exit 1 on a difference.
+//! Family and index, as a difference prints them, run that one case again, given the same seed and cases. Exit 1 on a difference.
 
 use host::bounds::{bound_cases, text_case};
 use host::case::Case;
 use host::damage::{damaged_case, DAMAGE_SETS};
 use host::generate::random_case;
 use host::judge::{expected, judge, Reply};
+use host::planted::{planted_case, PATTERNS};
 use host::random::Random;
 use host::short::each_short_case;
 use std::env;
@@ -15,11 +16,12 @@ const SEED: u64 = 1965;
 const CASES: u64 = 200_000;
 const MOST_PRINTED: u64 = 10;
 
-const FAMILIES: [&str; 4] = ["short", "bounds", "random", "damaged"];
+const FAMILIES: [&str; 5] = ["short", "bounds", "random", "damaged", "planted"];
 const SHORT: usize = 0;
 const BOUNDS: usize = 1;
 const RANDOM: usize = 2;
 const DAMAGED: usize = 3;
+const PLANTED: usize = 4;
 
 struct Settings {
     seed: u64,
@@ -92,6 +94,7 @@ fn main() -> ExitCode {
     run_bounds(&mut tally, &settings);
     run_random(&mut tally, &settings);
     run_damaged(&mut tally, &settings);
+    run_planted(&mut tally, &settings);
     print_tally(&tally);
     ExitCode::from(u8::from(tally.differences > 0))
 }
@@ -171,6 +174,16 @@ fn run_damaged(tally: &mut Tally, settings: &Settings) {
             tally.report(DAMAGED, index, &case, &fault);
         }
         tally.compare(DAMAGED, index, &case);
+    }
+}
+
+/// Every pattern at least once.
+fn run_planted(tally: &mut Tally, settings: &Settings) {
+    let cases = (settings.cases / 100).max(PATTERNS);
+    for index in (0..cases).filter(|&index| settings.wants(PLANTED, index)) {
+        if let Some(case) = planted_case(&mut settings.random(PLANTED, index), index) {
+            tally.compare(PLANTED, index, &case);
+        }
     }
 }
 
