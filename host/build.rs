@@ -64,9 +64,9 @@ fn link_archive(root: &Path) -> Result<(), String> {
     if ours && !archive.exists() {
         build_archive(root)?;
     }
-    if !archive.exists() {
-        return Err(format!("{} is missing", archive.display()));
-    }
+    let archive =
+        fs::canonicalize(&archive).map_err(|fault| format!("{}: {fault}", archive.display()))?;
+    let place = archive.parent().unwrap_or(root);
     println!("cargo:rerun-if-changed={}", archive.display());
     println!("cargo:rustc-link-search=native={}", place.display());
     println!("cargo:rustc-link-lib=static=mittenschist");

@@ -11,7 +11,7 @@ use std::process::ExitCode;
 use std::time::{Duration, Instant};
 
 const CANDIDATES: u64 = 2_000_000;
-const TURNS: usize = 3;
+const TURNS: usize = 5;
 const SIZES: [(usize, &[usize]); 4] = [
     (2, &[20, 64, 128, 512]),
     (3, &[20, 64, 128, 512]),
