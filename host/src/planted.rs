@@ -1,0 +1,74 @@
+//! Cases in which one route alone is on time: the one that a chosen pattern makes of the route handed in. Its legs take one second,
+//! all others more, and each stop is due when it is reached. The count of candidates then shows where the scan found it, which
+//! random cases seldom show of the later patterns.
+
+use crate::case::Case;
+use crate::heuristic::r#move::k_opt_reconnection::{enumerate_reconnections, KOptReconnection};
+use crate::random::Random;
+
+/// The patterns of all k together.
+pub const PATTERNS: u64 = 1 + 7 + 47 + 383;
+
+/// A case for the pattern of this index, those of k = 2 first.
+pub fn planted_case(random: &mut Random, index: u64) -> Option<Case> {
+    let all = (2..=5).flat_map(enumerate_reconnections);
+    let pattern = all.into_iter().nth((index % PATTERNS) as usize)?;
+    let bounds = segment_bounds(random, &pattern);
+    let stops = *bounds.last()?;
+    let route: Vec<u32> = (1..=stops as u32).collect();
+    let target = rejoined(&route, &bounds, &pattern);
+    Some(on_time_only(random, pattern.k(), route, &target))
+}
+
+/// Where each segment begins and the last one ends. A segment that is reversed has two stops, so that it shows; the others have
+/// one or two.
+fn segment_bounds(random: &mut Random, pattern: &KOptReconnection) -> Vec<usize> {
+    let head = random.index(2);
+    let mut bounds = vec![0, head];
+    for segment in 1..pattern.k() {
+        let reversed = pattern.should_reverse(segment);
+        let stops = if reversed { 2 } else { random.within(1, 2) };
+        bounds.push(bounds[segment] + stops);
+    }
+    bounds.push(bounds[pattern.k()] + 1 - head);
+    bounds
+}
+
+fn rejoined(route: &[u32], bounds: &[usize], pattern: &KOptReconnection) -> Vec<u32> {
+    let mut target = Vec::with_capacity(route.len());
+    for position in 0..pattern.segment_count() {
+        let segment = pattern.segment_at(position);
+        let mut stops = route[bounds[segment]..bounds[segment + 1]].to_vec();
+        if pattern.should_reverse(segment) {
+            stops.reverse();
+        }
+        target.extend(stops);
+    }
+    target
+}
+
+fn on_time_only(random: &mut Random, k: usize, route: Vec<u32>, target: &[u32]) -> Case {
+    let locations = route.len() + 1;
+    let mut legs: Vec<u32> = (0..locations * locations)
+        .map(|_| 2 + random.below(9) as u32)
+        .collect();
+    let mut latest = vec![u32::MAX; locations];
+    let mut place = 0;
+    for (due, &stop) in (1..).zip(target) {
+        legs[place * locations + stop as usize] = 1;
+        latest[stop as usize] = due;
+        place = stop as usize;
+    }
+    legs[place * locations] = 1;
+    let allowance = u64::MAX;
+    Case {
+        k,
+        allowance,
+        locations,
+        legs,
+        latest,
+        depot: 0,
+        route,
+        room: 5,
+    }
+}
