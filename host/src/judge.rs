@@ -3,8 +3,12 @@
 use crate::case::Case;
 use crate::{ffi, oracle};
 use std::fmt::Debug;
+use std::thread;
 
 const GUARD: usize = 8;
+
+/// The stack on which the host calls the library.
+const SMALL_STACK: usize = 128 * 1024;
 
 /// Everything a caller sees after a call.
 #[derive(Debug, PartialEq, Eq)]
@@ -113,8 +117,24 @@ fn given(case: &Case) -> Result<Reply, String> {
 
 /// The expected reply, and where the library's differs from it, if it does.
 pub fn judge(case: &Case) -> (Reply, Option<String>) {
-    let expected = expected(case);
-    let difference = match given(case) {
+    compared(expected(case), given(case))
+}
+
+/// As `judge`, with the library called on a thread with a small stack. A call that needs more ends the whole run.
+pub fn judge_on_small_stack(case: &Case) -> (Reply, Option<String>) {
+    let given = thread::scope(|scope| {
+        thread::Builder::new()
+            .stack_size(SMALL_STACK)
+            .spawn_scoped(scope, || given(case))
+            .expect("a thread")
+            .join()
+            .expect("a reply")
+    });
+    compared(expected(case), given)
+}
+
+fn compared(expected: Reply, given: Result<Reply, String>) -> (Reply, Option<String>) {
+    let difference = match given {
         Err(fault) => Some(fault),
         Ok(given) if given == expected => None,
         Ok(given) => Some(told(&expected, &given)),

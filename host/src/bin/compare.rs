@@ -5,7 +5,7 @@ use host::bounds::{bound_cases, text_case};
 use host::case::Case;
 use host::damage::{damaged_case, DAMAGE_SETS};
 use host::generate::random_case;
-use host::judge::{expected, judge, Reply};
+use host::judge::{expected, judge, judge_on_small_stack, Reply};
 use host::planted::{planted_case, PATTERNS};
 use host::random::Random;
 use host::short::each_short_case;
@@ -52,7 +52,10 @@ struct Tally {
 
 impl Tally {
     fn compare(&mut self, family: usize, index: u64, case: &Case) {
-        let (reply, difference) = judge(case);
+        let (reply, difference) = match family {
+            BOUNDS => judge_on_small_stack(case),
+            _ => judge(case),
+        };
         self.compared[family] += 1;
         self.note(&reply);
         if let Some(found) = difference {
