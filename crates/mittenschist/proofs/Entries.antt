@@ -1,13 +1,12 @@
 -- What every entry's proof shares: its reply and its lent memory where it is refused and where it is taken. Assumes nothing.
-use mathlib.Core.Path.{_≡_, refl, sym, ap, _∙_}
+use mathlib.Core.Path.{_≡_, refl, sym, _∙_}
 use mathlib.Core.Bool.{Bool, true, false, cond}
-use mathlib.Core.List.{List, [], _∷_}
+use mathlib.Core.List.{List}
 use Prim.Native.Nat.{ℕ, zero, suc}
 use native.Mathlib.Omega.{arith}
-use lib.Dec.{eqb}
 use borrow.Author.Tests.{ne-eqb, eq-eqb}
 use Rattle.theory.specs.Refusals.{Rule, number, refusal, cut-count}
-use Rattle.theory.specs.Answers.{Answer, reply, refused}
+use Rattle.theory.specs.Answers.{reply, refused}
 use Rattle.theory.proofs.Refusals.{Passes, known, accepted}
 use Rattle.theory.proofs.Judged.{cut-count-fine}
 use Rattle.patterns.specs.Enumeration.{CutCount}

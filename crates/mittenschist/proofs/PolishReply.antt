@@ -1,9 +1,8 @@
 -- The replies of the entry `mittenschist_polish_route`, over plain values. Assumes nothing.
 use mathlib.Core.Path.{_≡_, refl, sym, ap, _∙_}
-use mathlib.Core.List.{List, [], _∷_, _++_}
+use mathlib.Core.List.{List, _++_}
 use Prim.Native.Nat.{ℕ, _≤_}
 use lib.ListN.{length, drop}
-use Rattle.theory.specs.Scan.{Reply}
 use Rattle.theory.specs.Moves.{patterns}
 use Rattle.theory.specs.Route.{Problem, tour-length}
 use Rattle.theory.specs.Polish.{polish}

@@ -1,8 +1,8 @@
 -- The replies of the entry `reconnection_at`, over plain values. Assumes nothing.
 use mathlib.Core.Path.{_≡_, refl, sym, _∙_}
-use mathlib.Core.List.{List, _++_}
+use mathlib.Core.List.{_++_}
 use Prim.Native.Nat.{ℕ, _+_, _-_}
-use lib.ListN.{length, replicate}
+use lib.ListN.{replicate}
 use Rattle.theory.specs.Refusals.{refusal}
 use Rattle.theory.specs.declared.KOptReconnection.{KOptReconnection}
 use Rattle.theory.proofs.Refusals.{known}

@@ -1,23 +1,22 @@
 -- What each entry promises: the rules by which it refuses, and a record that equates its reply and all lent memory with a definition.
 use mathlib.Core.Path.{_≡_}
-use mathlib.Core.Bool.{Bool, true, false, cond}
+use mathlib.Core.Bool.{cond}
 use mathlib.Core.List.{List, [], _∷_, _++_}
 use Prim.Native.Nat.{ℕ, _+_, _-_}
 use lib.Dec.{eqb}
 use lib.ListN.{length, getD, drop, replicate}
-use Rattle.theory.specs.Moves.{Pattern, Move, patterns, next-cuts}
-use Rattle.theory.specs.Route.{Problem, tour-length, reconnected}
+use Rattle.theory.specs.Moves.{Pattern, patterns, next-cuts}
+use Rattle.theory.specs.Route.{tour-length, reconnected}
 use Rattle.theory.specs.Polish.{move-at, polish, Demand3}
 use Rattle.theory.specs.Tables.{problem, legs-only}
 use Rattle.theory.specs.Refusals.{Rule, refusal, cut-count, leg-table, deadline-list, leg-sizes, known-stops, stop-count, pattern-index, cut-positions, room, problem-rules}
-use Rattle.theory.specs.Answers.{Answer, reply, step-answer, length-answer, delta-answer, feasibility-answer, Verdict, five-numbers, handed-back}
+use Rattle.theory.specs.Answers.{reply, step-answer, length-answer, delta-answer, feasibility-answer, Verdict, five-numbers, handed-back}
 use Rattle.moves.specs.Moves.{length-change}
 use Rattle.cuts.specs.Step.{found, or-kept}
 use Rattle.theory.specs.declared.CutStep.{CutStep}
 use Rattle.theory.specs.declared.RouteLength.{RouteLength}
 use Rattle.theory.specs.declared.LengthDelta.{LengthDelta}
 use Rattle.theory.specs.declared.Feasibility.{Feasibility}
-use Rattle.theory.specs.declared.KOptReconnection.{KOptReconnection}
 use Rattle.theory.specs.declared.ReconnectionAt.{ReconnectionAt}
 
 -- One thing where no rule applies, another where the call is refused.

@@ -1,14 +1,12 @@
 -- The pattern that the index names, as the struct holds it: an order of the segments and a mask for k cuts. Assumes nothing.
-use mathlib.Core.Path.{_≡_, refl, sym, ap, _∙_}
-use mathlib.Core.List.{List, [], _∷_, _++_, List·Memᴰ}
-use Prim.Native.Nat.{ℕ, zero, suc, _+_, _-_, _≤_, _<_}
+use mathlib.Core.Path.{_≡_, sym, _∙_}
+use mathlib.Core.List.{List, [], List·Memᴰ}
+use Prim.Native.Nat.{ℕ, zero, suc, _+_, _≤_, _<_}
 use native.Mathlib.Numerals.{add-one}
 use native.Mathlib.Omega.{arith}
-use lib.ListN.{length, getD, take, drop, length-append, length-take, length-replicate}
+use lib.ListN.{length, take, length-append, length-take}
 use lib.Seq.{take-at}
-use Rattle.theory.specs.Moves.{Pattern, patterns, total, upfrom}
-use Rattle.theory.specs.Route.{reconnected}
-use Rattle.theory.specs.Polish.{move-at}
+use Rattle.theory.specs.Moves.{Pattern, patterns}
 use Rattle.theory.specs.Tables.{CutSet, Order, ForK}
 use Rattle.theory.specs.declared.KOptReconnection.{KOptReconnection}
 use Rattle.theory.proofs.Moves.{rearranges}

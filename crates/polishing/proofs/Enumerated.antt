@@ -1,15 +1,15 @@
 -- The enumeration's rows, as they are lent to polishing, are document 01's patterns. Assumes nothing.
-use mathlib.Core.Path.{_≡_, refl, sym, ap, ap₂, _∙_}
-use mathlib.Core.List.{List, [], _∷_, _++_, map, flatten, append-nil, List·Memᴰ, Memᴰ·of-map}
+use mathlib.Core.Path.{_≡_, sym, ap, ap₂, _∙_}
+use mathlib.Core.List.{List, [], map, append-nil, List·Memᴰ, Memᴰ·of-map}
 use Prim.Native.Nat.{ℕ, zero, suc, _+_, _-_, _*_, _^_, _≤_, _<_}
 use native.Mathlib.Nat.{mul-le-mul, pow-suc}
 use lib.Pow.{pow-pos}
 use native.Mathlib.Numerals.{add-one}
 use native.Mathlib.Omega.{arith}
-use lib.ListN.{length, take, drop, length-map, length-take, length-append}
+use lib.ListN.{length, take, length-map, length-append}
 use lib.Seq.{take-at}
 use Rattle.theory.specs.Moves.{Pattern, patterns, factorial}
-use Rattle.theory.specs.Tables.{Timed, PatternRows, pattern-rows, ForK}
+use Rattle.theory.specs.Tables.{pattern-rows, ForK}
 use Rattle.theory.proofs.Index.{length-pattern}
 use Rattle.theory.proofs.ForK.{pattern-for-k}
 use Rattle.theory.proofs.Rows.{rows-of}

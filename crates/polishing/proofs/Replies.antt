@@ -1,14 +1,14 @@
 -- What polishing answers, from what the scan counted. Assumes nothing.
 use mathlib.Core.Path.{_≡_, refl, sym, ap, _∙_}
-use mathlib.Core.Bool.{Bool, true, false}
+use mathlib.Core.Bool.{true, false}
 use mathlib.Core.List.{List}
 use Prim.Native.Nat.{ℕ, _+_, _≤_, _<_}
 use native.Mathlib.Omega.{arith}
 use lib.ListN.{length}
 use Rattle.theory.specs.Moves.{total}
 use Rattle.theory.specs.Route.{tour-length}
-use Rattle.theory.specs.Polish.{polish-with, Demand3, ForCuts}
-use Rattle.theory.specs.Tables.{problem, legs-only, Measurable, PatternRows, pattern-rows}
+use Rattle.theory.specs.Polish.{polish-with, ForCuts}
+use Rattle.theory.specs.Tables.{problem, legs-only, Measurable, pattern-rows}
 use Rattle.theory.specs.Answers.{Polishes, reply-of, counts-of}
 use Rattle.theory.specs.declared.Polished.{Polished}
 use Rattle.theory.proofs.ForK.{rows-for-cuts}

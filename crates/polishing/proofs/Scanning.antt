@@ -1,12 +1,11 @@
 -- The scan's loop, over plain lists: what holds at each turn, and what each end of a turn gives. Assumes nothing.
-use mathlib.Core.Path.{_≡_, refl, sym, ap, _∙_}
+use mathlib.Core.Path.{_≡_, refl, sym}
 use mathlib.Core.Bool.{true, false, true≢false}
 use mathlib.Core.Option.{Option, none, some}
-use mathlib.Core.List.{List, [], _∷_, _++_}
+use mathlib.Core.List.{List, [], _∷_}
 use Prim.Native.Nat.{ℕ, zero, suc, _+_, _-_, min, _≤_, _<_}
 use native.Mathlib.Omega.{arith}
-use lib.ListN.{length, getD, take, drop, replicate}
-use lib.Seq.{take-at}
+use lib.ListN.{length, getD, take, replicate}
 use Rattle.theory.specs.Scan.{improves}
 use Rattle.theory.specs.Moves.{upfrom, next-cuts}
 use Rattle.theory.specs.Route.{Problem, reconnected}

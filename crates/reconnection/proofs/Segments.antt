@@ -1,15 +1,14 @@
 -- Segments by their bounds, and one turn of the loop that puts them together. Assumes nothing.
 use mathlib.Core.Path.{_≡_, refl, sym, ap, _∙_}
-use mathlib.Core.Bool.{Bool, true, false}
+use mathlib.Core.Bool.{Bool}
 use mathlib.Core.List.{List, [], _∷_, _++_, append-nil, append-assoc, flatten}
 use Prim.Native.Nat.{ℕ, zero, suc, _+_, _-_, _<_, _≤_}
 use native.Mathlib.Numerals.{add-one}
 use native.Mathlib.Omega.{arith}
-use lib.ListN.{length, getD, take, drop, length-append, length-take, length-drop, length-reverse, drop-of-length-le, List·getD-append}
-use lib.Seq.{slice, drop-cons, getD-at, take-at, take-all}
+use lib.ListN.{length, getD, take, drop, length-append, length-take, length-drop, drop-of-length-le, List·getD-append}
+use lib.Seq.{drop-cons, getD-at, take-at, take-all}
 use Rattle.theory.specs.Moves.{Rising}
 use Rattle.theory.specs.Route.{segments, reverses, reverse-if, placed, joined, reconnected}
-use Rattle.theory.specs.Tables.{CutSet, Order}
 use Rattle.theory.proofs.Moves.{total-ones}
 use Rattle.theory.proofs.Orders.{in-range}
 use Rattle.theory.proofs.Route.{total-reconnected}

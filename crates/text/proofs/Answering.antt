@@ -1,10 +1,7 @@
 -- The answer to a question, over plain values: refused, or polished and printed. Assumes nothing.
 use mathlib.Core.Path.{_≡_, refl, sym, ap, _∙_}
-use mathlib.Core.Bool.{cond}
 use mathlib.Core.List.{List, _∷_}
 use Prim.Native.Nat.{ℕ}
-use lib.Dec.{eqb}
-use lib.ListN.{length}
 use borrow.Author.Tests.{ne-eqb, eq-eqb}
 use Rattle.theory.specs.Moves.{patterns}
 use Rattle.theory.specs.Route.{Problem, tour-length}
@@ -16,7 +13,7 @@ use Rattle.theory.specs.declared.Polished.the-variants.{Finished, Spent}
 use Rattle.theory.proofs.Refusals.{known, accepted}
 use Rattle.polishing.specs.Loop.{Polishable}
 use Rattle.polishing.proofs.Judged.{polishable-fine}
-use Rattle.printing.specs.Answer.{answer-text, refusal-text, Printed}
+use Rattle.printing.specs.Answer.{refusal-text, Printed}
 use Rattle.text.specs.Program.{reply-text, question-text, polished-text, question-of}
 
 text-is : (P : Problem) (route route′ : List ℕ) (answer : Polished) → counts-of answer .before ≡ tour-length P route → counts-of answer .after ≡ tour-length P route′ →

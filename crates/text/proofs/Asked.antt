@@ -1,5 +1,5 @@
 -- A text that was read: its question, the places of its tables, and what the program tells of it. Assumes nothing.
-use mathlib.Core.Path.{_≡_, refl, sym, ap, _∙_, subst}
+use mathlib.Core.Path.{_≡_, sym, ap, _∙_, subst}
 use mathlib.Core.List.{List}
 use mathlib.Core.Option.{none, some}
 use Prim.Native.Nat.{ℕ, _*_, _≤_}
@@ -7,7 +7,7 @@ use native.Mathlib.Omega.{arith}
 use native.Mathlib.Nat.{mul-le-mul}
 use lib.ListN.{length, take, drop, length-take, length-append}
 use lib.Seq.{take-at}
-use Rattle.reading.specs.Question.{Question, Held}
+use Rattle.reading.specs.Question.{Question}
 use Rattle.reading.specs.Reading.{read}
 use Rattle.reading.specs.Told.{Lent, Answered, question-told, stop-count}
 use Rattle.reading.specs.declared.Header.{Header}
@@ -15,7 +15,7 @@ use Rattle.reading.specs.declared.Reading.{Reading}
 use Rattle.reading.specs.declared.Reading.the-variants as R
 use Rattle.reading.proofs.Texts.{read-exactly}
 use Rattle.printing.specs.Answer.{refusal-text, Printed}
-use Rattle.text.specs.Program.{program, question-text, question-of, told, Shown}
+use Rattle.text.specs.Program.{program, question-text, question-of, Shown}
 
 pub still-lent : {legs latest stops legs′ latest′ stops′ : List ℕ} → Lent legs latest stops → length legs′ ≡ length legs → length latest′ ≡ length latest → length stops′ ≡ length stops →
     Lent legs′ latest′ stops′

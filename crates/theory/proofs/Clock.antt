@@ -1,16 +1,15 @@
 -- The deadline test as code makes it: a clock that runs along the route. Assumes nothing.
-use mathlib.Core.Path.{_≡_, refl, sym, ap, _∙_, subst}
+use mathlib.Core.Path.{_≡_, refl, sym}
 use mathlib.Core.Bool.{Bool, true, false, _&&_, and-eq-true-iff}
 use mathlib.Core.Logic.{_↔_}
 use mathlib.Core.List.{List, [], _∷_}
 use Prim.Native.Nat.{ℕ, zero, suc, _+_, _≤_, _<_}
 use native.Mathlib.Omega.{arith}
-use native.Mathlib.Nat.{add-assoc, zero-add}
 use lib.Dec.{leb}
 use lib.ListN.{length, getD, take, drop}
 use lib.Seq.{drop-cons, drop-length}
 use borrow.Author.Tests.{leb-true, le-leb}
-use Rattle.theory.specs.Route.{Problem, path, arrival, feasible, Feasible}
+use Rattle.theory.specs.Route.{Problem, path, arrival, feasible}
 use Rattle.theory.proofs.Route.{feasible-iff}
 
 -- From a at time t along the rest of the route: no stop is late.

@@ -1,10 +1,10 @@
 -- The delta is the length after minus the length before, and the running sums give the parts' inner legs. Assumes nothing.
-use mathlib.Core.Path.{_≡_, refl, sym, ap, ap₂, _∙_, subst}
-use mathlib.Core.List.{List, [], _∷_, _++_, map, flatten, reverse, reverseAux, append-assoc, append-nil, reverse-cons, reverse-append}
-use Prim.Native.Nat.{ℕ, zero, suc, _+_, _-_, _*_, _≤_, _<_}
+use mathlib.Core.Path.{_≡_, refl, sym, ap, ap₂, _∙_}
+use mathlib.Core.List.{List, [], _∷_, _++_, flatten, reverse, append-assoc, reverse-cons, reverse-append}
+use Prim.Native.Nat.{ℕ, suc, _+_, _≤_, _<_}
 use native.Mathlib.Omega.{arith}
-use lib.ListN.{length, getD, take, drop, length-append, take-append-drop}
-use lib.Seq.{slice, slice-cons, take-suc, drop-cons, take-take, take-add}
+use lib.ListN.{length, getD, take, take-append-drop}
+use lib.Seq.{slice, slice-cons, take-suc, take-take}
 use Rattle.theory.specs.Route.{Problem, path, tour-length}
 use Rattle.theory.specs.Costs.{last-of, first-of, inner, forward, backward, through}
 

@@ -1,16 +1,16 @@
 -- A move's delta: head and tail stay, and the ways through the middle segments, as they stood and as they stand, differ as the lengths do. Assumes nothing.
-use mathlib.Core.Path.{_≡_, refl, sym, ap, ap₂, _∙_, subst}
+use mathlib.Core.Path.{_≡_, refl, sym, ap, ap₂, _∙_}
 use mathlib.Core.Bool.{Bool, true, false, cond}
-use mathlib.Core.List.{List, [], _∷_, _++_, map, map-append, flatten, reverse, append-assoc, append-nil, List·Memᴰ, List·Memᴰ·head, List·Memᴰ·tail}
-use Prim.Native.Nat.{ℕ, zero, suc, _+_, _-_, _*_, _/_, _%_, _^_, _≤_, _<_}
+use mathlib.Core.List.{List, [], _∷_, _++_, map, map-append, flatten, append-assoc, append-nil, List·Memᴰ, List·Memᴰ·head, List·Memᴰ·tail}
+use Prim.Native.Nat.{ℕ, zero, suc, _+_, _*_, _/_, _%_, _^_, _≤_, _<_}
 use native.Mathlib.Omega.{arith}
 use native.Mathlib.Nat.{add-zero, add-suc, suc-add, zero-add, zero-div, div-eq-of-lt, pow-suc}
-use lib.ListN.{length, getD, take, drop, length-reverse, List·getD-append}
+use lib.ListN.{length, getD, length-reverse, List·getD-append}
 use lib.Seq.{slice}
 use lib.Dec.{ltb}
 use native.Mathlib.Decide.{decLt}
 use borrow.Author.Tests.{ne-eqb, lt-ltb, le-ltb}
-use Rattle.theory.specs.Moves.{upfrom, total, Pattern, Move, Rising}
+use Rattle.theory.specs.Moves.{upfrom, total, Pattern, Rising}
 use Rattle.theory.specs.Route.{segments, reverses, reverse-if, placed, joined, reconnected, Problem, path, tour-length}
 use Rattle.theory.specs.Costs.{last-of, first-of, inner, forward, backward, through}
 use Rattle.theory.proofs.Route.{flatten-segments, length-segments, length-segment}

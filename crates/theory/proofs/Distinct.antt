@@ -1,10 +1,10 @@
 -- No order, pattern or cut set is listed twice; in particular the arrangement that changes nothing is not among the patterns. Assumes nothing.
-use mathlib.Core.Path.{_≡_, refl, sym, ap, ap₂, _∙_, subst}
-use mathlib.Core.Logic.{_⊎_, inl, inr, ⊎-elim}
-use mathlib.Core.List.{List, [], _∷_, _++_, map, flatMap, tail, List·Memᴰ, List·Memᴰ·head, List·Memᴰ·tail, List·Memᴰ·cases-cons, List·Memᴰ·not-nil, List·Memᴰ·append-cases, Memᴰ·map, Memᴰ·of-map, Memᴰ·append-left, Memᴰ·append-right, Memᴰ·cast, head-eq-of-cons-eq, tail-eq-of-cons-eq, append-cancel-right, headD, map-map}
-use Prim.Native.Nat.{ℕ, zero, suc, _+_, _*_, _^_, _≤_, _<_}
+use mathlib.Core.Path.{_≡_, refl, sym, ap, _∙_, subst}
+use mathlib.Core.Logic.{⊎-elim}
+use mathlib.Core.List.{List, [], _∷_, _++_, map, flatMap, List·Memᴰ, List·Memᴰ·head, List·Memᴰ·tail, List·Memᴰ·cases-cons, List·Memᴰ·not-nil, List·Memᴰ·append-cases, Memᴰ·map, Memᴰ·of-map, Memᴰ·cast, tail-eq-of-cons-eq, append-cancel-right, headD, map-map}
+use Prim.Native.Nat.{ℕ, zero, suc, _+_, _^_}
 use native.Mathlib.Omega.{arith}
-use Rattle.theory.specs.Moves.{upfrom, picks, orders, Pattern, arrangements, patterns, combinations, cut-sets}
+use Rattle.theory.specs.Moves.{upfrom, picks, orders, arrangements, patterns, combinations}
 use Rattle.theory.proofs.Moves.{of-flatMap, listed-cuts, upfrom-range}
 use Rattle.theory.proofs.Orders.{arrangements-first}
 

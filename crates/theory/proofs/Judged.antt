@@ -1,14 +1,14 @@
 -- What a rule that does not apply says of the input: the conditions under which the crates above work. Assumes nothing.
-use mathlib.Core.Path.{_≡_, refl, sym, ap, _∙_}
-use mathlib.Core.Bool.{Bool, true, false, cond, not, _&&_, _||_, true≢false, false≢true}
+use mathlib.Core.Path.{_≡_, refl}
+use mathlib.Core.Bool.{Bool, true, false, not, _&&_, _||_, true≢false, false≢true}
 use mathlib.Core.List.{List, [], _∷_}
-use Prim.Native.Nat.{ℕ, zero, suc, _+_, _*_, _<_, _≤_}
+use Prim.Native.Nat.{ℕ, zero, suc, _*_, _<_, _≤_}
 use native.Mathlib.Omega.{arith}
 use lib.Dec.{leb, ltb, eqb}
 use lib.ListN.{length, getD}
 use borrow.Author.Tests.{ltb-false, leb-false, ltb-true, eqb-true, not-false}
 use Rattle.theory.specs.Moves.{patterns, Rising}
-use Rattle.theory.specs.Tables.{LegTable, Stops, Measurable, Timed, CutSet}
+use Rattle.theory.specs.Tables.{LegTable, Stops, Measurable, CutSet}
 use Rattle.theory.specs.Refusals.{some, rises, cut-count, leg-table, deadline-list, leg-sizes, known-stops, stop-count, pattern-index, cut-positions, room}
 
 and-true : (a b : Bool) → (a && b) ≡ true → (a ≡ true) × (b ≡ true)

@@ -1,15 +1,15 @@
 -- Demand 3 of polishing, from demand 3 of any search: the listed candidates are the rival's moves, and reconnecting rearranges. Assumes nothing.
-use mathlib.Core.Path.{_≡_, refl, sym, ap, ap₂, _∙_, subst}
+use mathlib.Core.Path.{_≡_, refl, sym, _∙_}
 use mathlib.Core.Bool.{Bool, true, false, true≢false}
-use mathlib.Core.Logic.{_↔_, _⊎_, inl, inr, ⊎-elim}
-use mathlib.Core.List.{List, [], _∷_, map, List·Memᴰ, Memᴰ·map, Memᴰ·of-map}
-use Prim.Native.Nat.{ℕ, zero, suc, _+_, _-_, _*_, _≤_, _<_}
+use mathlib.Core.Logic.{_⊎_, inl, inr, ⊎-elim}
+use mathlib.Core.List.{List, List·Memᴰ, Memᴰ·map, Memᴰ·of-map}
+use Prim.Native.Nat.{ℕ, suc, _≤_}
 use native.Mathlib.Omega.{arith}
 use native.Mathlib.Nat.{mul-comm}
 use native.Mathlib.Numerals.{add-one}
 use lib.ListN.{length}
-use Rattle.theory.specs.Scan.{Search, Reply, scan, LocallyOptimal, Searched}
-use Rattle.theory.specs.Moves.{Pattern, Move, patterns, cut-sets, candidates, Rising, binomial, total, upfrom}
+use Rattle.theory.specs.Scan.{LocallyOptimal}
+use Rattle.theory.specs.Moves.{Pattern, Move, patterns, cut-sets, candidates, Rising, total}
 use Rattle.theory.specs.Route.{Problem, reconnected, tour-length, feasible, Feasible, count}
 use Rattle.theory.specs.Polish.{search-of, polish-with, polish, KOptimal, ForCuts, Demand3}
 use Rattle.theory.proofs.Scan.{searched, scan-preserves}

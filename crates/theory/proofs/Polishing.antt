@@ -1,13 +1,13 @@
 -- Polishing in steps of one cut set: the loop's state, and one law for each way that a step ends. Assumes nothing.
-use mathlib.Core.Path.{_≡_, refl, sym, ap, _∙_}
+use mathlib.Core.Path.{_≡_, refl, _∙_}
 use mathlib.Core.Bool.{true, false}
 use mathlib.Core.Option.{none, some}
-use mathlib.Core.List.{List, [], _∷_}
-use Prim.Native.Nat.{ℕ, zero, suc, _+_, _≤_, _<_}
+use mathlib.Core.List.{List}
+use Prim.Native.Nat.{ℕ, _+_, _≤_, _<_}
 use native.Mathlib.Omega.{arith}
 use lib.ListN.{length}
-use Rattle.theory.specs.Scan.{Reply, improves}
-use Rattle.theory.specs.Moves.{Pattern, Move, upfrom, total, next-cuts}
+use Rattle.theory.specs.Scan.{improves}
+use Rattle.theory.specs.Moves.{Pattern, upfrom, total, next-cuts}
 use Rattle.theory.specs.Route.{Problem, reconnected}
 use Rattle.theory.specs.Polish.{search-of, polish-with, move-at, ForCuts}
 use Rattle.theory.specs.Tables.{CutSet}
@@ -15,7 +15,7 @@ use Rattle.theory.proofs.Index.{mem-getD}
 use Rattle.theory.proofs.Route.{total-reconnected}
 use Rattle.theory.proofs.Stops.{as-many}
 use Rattle.theory.proofs.Cuts.{first-set, next-set, enough}
-use Rattle.theory.proofs.Steps.{Left, At, start, spent, accept, step, done, pass-patterns}
+use Rattle.theory.proofs.Steps.{At, start, spent, accept, step, done, pass-patterns}
 
 module _ (P : Problem) (ps : List Pattern) (k A : ℕ) (r₀ : List ℕ) where
   -- At the cuts, with e examined and c accepted: what is left from the route r is the whole from the route handed in, of which r is a rearrangement.

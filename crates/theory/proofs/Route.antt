@@ -1,18 +1,18 @@
 -- Reconnecting rearranges the route; the length by segments; deadlines. Assumes nothing.
-use mathlib.Core.Path.{_≡_, refl, sym, ap, ap₂, _∙_, subst}
-use mathlib.Core.Bool.{Bool, true, false, _&&_, not, cond, and-eq-true-iff}
-use mathlib.Core.Logic.{_↔_, _⊎_, inl, inr, ⊎-elim}
-use mathlib.Core.List.{List, [], _∷_, _++_, map, flatten, reverse, reverseAux, append-assoc, append-nil, reverse-cons, reverse-append}
-use Prim.Native.Nat.{ℕ, zero, suc, _+_, _-_, _*_, _≤_, _<_}
+use mathlib.Core.Path.{_≡_, refl, ap, ap₂, _∙_}
+use mathlib.Core.Bool.{Bool, true, false, not, and-eq-true-iff}
+use mathlib.Core.Logic.{_↔_}
+use mathlib.Core.List.{List, [], _∷_, _++_, map, flatten, reverseAux, append-nil}
+use Prim.Native.Nat.{ℕ, zero, suc, _+_, _-_, _≤_, _<_}
 use native.Mathlib.Omega.{arith}
 use native.Mathlib.Decide.{ℕ-discrete}
 use borrow.Author.Tests.{ltb-false, le-ltb, not-true}
 use native.Mathlib.Nat.{le-of-suc-le-suc}
-use lib.ListN.{length, getD, take, drop, length-append, length-drop}
+use lib.ListN.{length, getD, drop, length-drop}
 use lib.Seq.{slice, length-slice}
 use Rattle.theory.specs.Moves.{upfrom, total, Pattern, Move, Rising}
-use Rattle.theory.specs.Route.{segments, reverses, reverse-if, placed, joined, reconnected, count, Problem, path, tour-length, arrival, late, every, feasible, Feasible}
-use Rattle.theory.proofs.Moves.{total-append, total-ones}
+use Rattle.theory.specs.Route.{segments, reverses, reverse-if, placed, joined, reconnected, Problem, arrival, late, every, feasible, Feasible}
+use Rattle.theory.proofs.Moves.{total-append}
 
 -- ---- reconnecting keeps every sum over the stops
 

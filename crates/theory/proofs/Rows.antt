@@ -1,15 +1,15 @@
 -- Patterns as lent rows: how many, which stands at an index, and that the rows of a list of patterns are that list. Assumes nothing.
-use mathlib.Core.Path.{_≡_, refl, sym, ap, ap₂, _∙_}
+use mathlib.Core.Path.{_≡_, refl, ap, _∙_}
 use mathlib.Core.List.{List, [], _∷_, _++_, map, flatten, append-assoc, List·Memᴰ, List·Memᴰ·head, List·Memᴰ·tail}
 use Prim.Native.Nat.{ℕ, zero, suc, _+_, _-_, _*_, _≤_, _<_}
 use native.Mathlib.Omega.{arith}
 use native.Mathlib.Nat.{mul-le-mul, le-refl, suc-mul}
 use native.Mathlib.Numerals.{add-one}
-use lib.ListN.{length, getD, take, drop, length-append}
+use lib.ListN.{length, getD, take, drop}
 use lib.Seq.{take-at, drop-at, drop-drop}
-use Rattle.theory.specs.Moves.{Pattern, patterns}
+use Rattle.theory.specs.Moves.{Pattern}
 use Rattle.theory.specs.Tables.{pattern-rows, PatternRows, ForK}
-use Rattle.theory.proofs.Index.{length-pattern, mem-getD}
+use Rattle.theory.proofs.Index.{mem-getD}
 
 pub length-rows : (k : ℕ) (orders masks : List ℕ) → length (pattern-rows k orders masks) ≡ length masks
 unfolding pattern-rows

@@ -1,9 +1,8 @@
 -- The definitions give the table's column of results. Assumes nothing.
 use mathlib.Core.Path.{_≡_, refl}
-use mathlib.Core.List.{List, map}
-use Prim.Native.Nat.{ℕ}
+use mathlib.Core.List.{map}
 use Rattle.theory.specs.Scan.{scan-from}
-use Rattle.theory.specs.Moves.{patterns, cut-sets, candidates}
+use Rattle.theory.specs.Moves.{cut-sets, candidates}
 use Rattle.theory.specs.Route.{tour-length, reconnected, feasible}
 use Rattle.theory.specs.Runs.{answer, runs}
 

@@ -4,14 +4,14 @@ use mathlib.Core.Path.{_≡_, refl, sym, ap, _∙_}
 use mathlib.Core.Bool.{true, false}
 use mathlib.Core.Logic.{⊎-elim}
 use mathlib.Core.Option.{none, some}
-use mathlib.Core.List.{List, [], _∷_, _++_, List·Memᴰ, List·Memᴰ·head, List·Memᴰ·tail, List·Memᴰ·cases-cons, List·Memᴰ·not-nil, Memᴰ·of-map, map, map-append, append-assoc}
-use Prim.Native.Nat.{ℕ, zero, suc, _+_, _-_, _≤_, _<_}
+use mathlib.Core.List.{List, [], _∷_, _++_, List·Memᴰ, List·Memᴰ·head, List·Memᴰ·tail, List·Memᴰ·cases-cons, List·Memᴰ·not-nil, Memᴰ·of-map, map}
+use Prim.Native.Nat.{ℕ, zero, suc, _+_, _≤_, _<_}
 use native.Mathlib.Omega.{arith}
 use native.Mathlib.Nat.{add-zero}
 use native.Mathlib.Numerals.{add-one}
-use lib.ListN.{length, getD, take, drop, length-map, length-take, take-append-drop}
-use Rattle.theory.specs.Scan.{Search, Reply, scan-from, improves}
-use Rattle.theory.specs.Moves.{Pattern, Move, upfrom, next-cuts, candidates, cut-sets}
+use lib.ListN.{length, getD, take, length-map, length-take}
+use Rattle.theory.specs.Scan.{Search, scan-from, improves}
+use Rattle.theory.specs.Moves.{Pattern, Move, upfrom, next-cuts}
 use Rattle.theory.specs.Route.{Problem, reconnected}
 use Rattle.theory.specs.Polish.{search-of, polish-with, move-at}
 use Rattle.theory.proofs.Scan.{scan-ended, scan-halted, scan-passed, scan-taken}

@@ -1,7 +1,7 @@
 -- The delta of document 01: the legs from the head's end through the middle segments to the tail's start, from running sums in both directions.
-use mathlib.Core.List.{List, [], _∷_, _++_, flatten, reverse}
-use Prim.Native.Nat.{ℕ, zero, suc, _+_}
-use lib.ListN.{length, take}
+use mathlib.Core.List.{List, [], _∷_, reverse}
+use Prim.Native.Nat.{ℕ, suc, _+_}
+use lib.ListN.{take}
 use Rattle.theory.specs.Route.{path}
 
 -- The last stop, or a where there is none.

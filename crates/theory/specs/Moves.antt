@@ -1,8 +1,7 @@
 -- The moves of document 01, after Lin (1965): patterns (an order of the segments and a mask of those reversed) and cut sets, both in the order in which
 -- the scan takes them. A segment is document 01's piece.
-use mathlib.Core.Path.{_≡_}
 use mathlib.Core.List.{List, [], _∷_, _++_, map, flatMap, tail}
-use Prim.Native.Nat.{ℕ, zero, suc, _+_, _-_, _*_, _^_, _≤_, _<_}
+use Prim.Native.Nat.{ℕ, zero, suc, _+_, _*_, _^_, _≤_}
 use lib.ListN.{length}
 use lib.Dec.{leb}
 use mathlib.Core.Option.{Option, none, some}

@@ -1,11 +1,9 @@
 -- The starred runs of document 01 as one table: what is asked, and what the document says.
-use mathlib.Core.Bool.{Bool, true, false}
-use mathlib.Core.List.{List, [], _∷_, _++_, map}
-use Prim.Native.Nat.{ℕ, zero, suc}
+use mathlib.Core.List.{List, [], _∷_, _++_}
+use Prim.Native.Nat.{ℕ}
 use lib.ListN.{length, getD}
-use Rattle.theory.specs.Scan.{Reply, scan-from}
-use Rattle.theory.specs.Moves.{Pattern, patterns, cut-sets, candidates}
-use Rattle.theory.specs.Route.{Problem, tour-length, reconnected, feasible}
+use Rattle.theory.specs.Moves.{patterns, cut-sets}
+use Rattle.theory.specs.Route.{Problem}
 use Rattle.theory.specs.Polish.{polish}
 use Rattle.theory.specs.Answers.{five-numbers}
 

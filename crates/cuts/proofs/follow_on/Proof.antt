@@ -1,11 +1,9 @@
 -- `cuts::follow_on` meets its contract. Assumes nothing.
-use mathlib.Core.Path.{_≡_, refl, sym, ap, _∙_}
-use mathlib.Core.List.{_++_}
-use Prim.Native.Nat.{ℕ, suc, _+_, _*_, _-_, _≤_, _<_}
+use mathlib.Core.Path.{_≡_, refl, ap, _∙_}
+use Prim.Native.Nat.{_-_, _≤_, _<_}
 use native.Mathlib.Omega.{arith}
 use borrow.Author.Needs.{needs}
-use lib.ListN.{length, take, length-set}
-use Rattle.theory.specs.Moves.{upfrom}
+use lib.ListN.{length, length-set}
 use Rattle.cuts.proofs.Cuts.{written, written-none, written-one, written-all}
 use Rattle.cuts.proofs.follow_on.Statement.{statement}
 use Rattle.cuts.proofs.follow_on.Tie as tie

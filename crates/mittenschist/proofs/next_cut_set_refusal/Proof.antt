@@ -1,5 +1,5 @@
 -- `mittenschist::next_cut_set_refusal` meets its contract: the checks in the one order. Assumes nothing.
-use mathlib.Core.Path.{sym, ap, ap₂, _∙_}
+use mathlib.Core.Path.{sym, ap₂, _∙_}
 use Rattle.theory.specs.Refusals.{either, refusal}
 use Rattle.theory.proofs.Refusals.{either-zero}
 use borrow.Author.Needs.{needs}

@@ -1,6 +1,6 @@
 -- `mittenschist::pattern_refusal` meets its contract. Assumes nothing.
-use mathlib.Core.Path.{sym, ap₂, _∙_}
-use Rattle.theory.specs.Refusals.{either, refusal}
+use mathlib.Core.Path.{sym, _∙_}
+use Rattle.theory.specs.Refusals.{refusal}
 use Rattle.theory.proofs.Refusals.{either-zero, applies-first, passed-over}
 use Rattle.mittenschist.proofs.Entries.{counted}
 use borrow.Author.Needs.{needs}

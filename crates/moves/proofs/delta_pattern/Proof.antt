@@ -2,7 +2,6 @@
 use mathlib.Core.Path.{_≡_, _∙_}
 use mir.Syntax.{w64}
 use mir.Val.{toZ, ofZ}
-use native.Mathlib.Omega.{arith}
 use borrow.Author.Needs.{needs}
 use Rattle.theory.specs.Tables.{legs-only}
 use Rattle.costs.specs.RouteCosts.{delta-of}

@@ -1,7 +1,7 @@
 -- `polishing::scan_cut_sets` meets its contract. The invariant: what is left from here is the whole scan, and the sums are those of the route at hand. Assumes
 -- nothing.
-use mathlib.Core.Path.{_≡_, refl, sym, ap, _∙_}
-use Prim.Native.Nat.{ℕ, _+_, _-_, _≤_, _<_}
+use mathlib.Core.Path.{_≡_, refl, sym, _∙_}
+use Prim.Native.Nat.{_-_}
 use lib.ListN.{length, take, drop, length-append, length-drop}
 use lib.Seq.{take-at}
 use borrow.Author.Tests.{not-true, not-false}
@@ -12,7 +12,6 @@ use Rattle.costs.specs.RouteCosts.{leg, Sums}
 use Rattle.joints.specs.JointTable.{Padded}
 use Rattle.polishing.proofs.Scanning.{no-cells, starts, below, same-size, timed, own-cuts, own-rows, own-states, candidate-stops, gains, moves-on, ends, stops-here}
 use native.Mathlib.Omega.{arith}
-use borrow.Author.Needs.{needs}
 use Rattle.polishing.proofs.scan_cut_sets.Statement.{statement}
 use Rattle.polishing.proofs.scan_cut_sets.Tie as tie
 

@@ -1,8 +1,8 @@
 -- `reconnection::reconnect` meets its contract. The invariant: what stands in `out` up to `at`, and what is still to be put, are the whole. Assumes nothing.
-use Prim.Native.Nat.{_≤_, _-_, _+_, _<_}
-use mathlib.Core.Path.{_≡_, refl, sym, ap, _∙_}
+use Prim.Native.Nat.{_≤_, _-_, _+_}
+use mathlib.Core.Path.{_≡_, refl, _∙_}
 use mathlib.Core.List.{_++_}
-use lib.ListN.{length, take, drop, getD}
+use lib.ListN.{length, take, getD}
 use Rattle.theory.specs.Route.{segments}
 use Rattle.reconnection.proofs.Segments.{whole, rest, from-start, named, segment-room, segment-put, all-put}
 use native.Mathlib.Omega.{arith}

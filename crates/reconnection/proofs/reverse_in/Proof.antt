@@ -1,7 +1,7 @@
-use Prim.Native.Nat.{_≤_, _-_, _+_, _<_}
-use mathlib.Core.Path.{_≡_, refl, sym, ap, _∙_}
+use Prim.Native.Nat.{_≤_, _-_}
+use mathlib.Core.Path.{_≡_, refl, _∙_}
 use mathlib.Core.List.{reverse}
-use lib.ListN.{length, set, getD, length-set, length-reverse}
+use lib.ListN.{length, length-set, length-reverse}
 use lib.Seq.{paste, paste-suc, paste-zero, take-length}
 use native.Mathlib.Numerals.{add-one}
 use Rattle.reconnection.proofs.Reversal.{getD-reverse}

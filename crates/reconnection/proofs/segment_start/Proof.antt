@@ -1,4 +1,4 @@
-use mathlib.Core.Path.{_≡_, sym}
+use mathlib.Core.Path.{sym}
 use Rattle.reconnection.proofs.Segments.{bound-cut, bound-end}
 use native.Mathlib.Omega.{arith}
 use borrow.Author.Needs.{needs}

@@ -1,7 +1,6 @@
 -- `refusals::check_cut_positions` meets its contract. Assumes nothing.
 use mathlib.Core.Path.{sym, _∙_}
 use borrow.Author.Tests.{ne-eqb, eq-eqb}
-use native.Mathlib.Omega.{arith}
 use borrow.Author.Needs.{needs}
 use Rattle.refusals.proofs.check_cut_positions.Statement.{statement}
 use Rattle.refusals.proofs.check_cut_positions.Tie as tie

@@ -1,7 +1,5 @@
 -- `refusals::check_deadline_list` meets its contract.  Assumes nothing.
-use borrow.Author.Tests.{lt-ltb, le-ltb, ne-eqb, eq-eqb}
-use native.Mathlib.Omega.{arith}
-use borrow.Author.Needs.{needs}
+use borrow.Author.Tests.{ne-eqb, eq-eqb}
 use Rattle.refusals.proofs.check_deadline_list.Statement.{statement}
 use Rattle.refusals.proofs.check_deadline_list.Tie as tie
 

@@ -1,7 +1,6 @@
 -- `refusals::check_known_stops` meets its contract. Assumes nothing.
 use mathlib.Core.Path.{sym, _∙_}
 use borrow.Author.Tests.{le-leb, lt-leb}
-use native.Mathlib.Omega.{arith}
 use borrow.Author.Needs.{needs}
 use Rattle.refusals.proofs.check_known_stops.Statement.{statement}
 use Rattle.refusals.proofs.check_known_stops.Tie as tie

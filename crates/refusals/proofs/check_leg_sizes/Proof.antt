@@ -1,6 +1,5 @@
 -- `refusals::check_leg_sizes` meets its contract. Assumes nothing.
 use mathlib.Core.Path.{sym, _∙_}
-use native.Mathlib.Omega.{arith}
 use borrow.Author.Needs.{needs}
 use Rattle.refusals.proofs.check_leg_sizes.Statement.{statement}
 use Rattle.refusals.proofs.check_leg_sizes.Tie as tie

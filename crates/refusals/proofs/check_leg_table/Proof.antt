@@ -2,7 +2,6 @@
 use borrow.Author.Tests.{lt-ltb, le-ltb, ne-eqb, eq-eqb}
 use native.Mathlib.Nat.{mul-le-mul}
 use native.Mathlib.Omega.{arith}
-use borrow.Author.Needs.{needs}
 use Rattle.refusals.proofs.check_leg_table.Statement.{statement}
 use Rattle.refusals.proofs.check_leg_table.Tie as tie
 

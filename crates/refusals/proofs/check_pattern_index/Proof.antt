@@ -1,5 +1,4 @@
 -- `refusals::check_pattern_index` meets its contract. Assumes nothing.
-use mathlib.Core.Path.{sym}
 use borrow.Author.Tests.{le-leb, lt-leb}
 use borrow.Author.Needs.{needs}
 use Rattle.refusals.proofs.check_pattern_index.Statement.{statement}

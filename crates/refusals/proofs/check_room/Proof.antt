@@ -1,7 +1,5 @@
 -- `refusals::check_room` meets its contract.  Assumes nothing.
-use borrow.Author.Tests.{lt-ltb, le-ltb, ne-eqb, eq-eqb}
-use native.Mathlib.Omega.{arith}
-use borrow.Author.Needs.{needs}
+use borrow.Author.Tests.{lt-ltb, le-ltb}
 use Rattle.refusals.proofs.check_room.Statement.{statement}
 use Rattle.refusals.proofs.check_room.Tie as tie
 

@@ -1,7 +1,5 @@
 -- `refusals::first` meets its contract.  Assumes nothing.
 use Rattle.refusals.proofs.Tests.{either-none, either-some}
-use native.Mathlib.Omega.{arith}
-use borrow.Author.Needs.{needs}
 use Rattle.refusals.proofs.first.Statement.{statement}
 use Rattle.refusals.proofs.first.Tie as tie
 

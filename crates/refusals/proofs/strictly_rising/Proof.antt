@@ -1,5 +1,5 @@
 -- `refusals::strictly_rising` meets its contract. The invariant: the test of the whole is that of the rest from the place before i on. Assumes nothing.
-use Prim.Native.Nat.{_≤_, _<_, _-_}
+use Prim.Native.Nat.{_<_, _-_}
 use mathlib.Core.Path.{_≡_, refl}
 use lib.ListN.{length, drop}
 use borrow.Author.Tests.{lt-ltb, le-ltb}
