@@ -22,26 +22,21 @@ Inv-loop locations legs depot route forward backward cuts order mask total₀ pr
 abbrev μ-loop : tie.MeasureT-loop
 μ-loop locations legs depot route forward backward cuts order mask total₀ previous₀ position₀ total previous position = length cuts - position
 
--- src/lib.rt:221:9
 head-end-requires : tie.Need-head-end-requires Inv-loop μ-loop
 head-end-requires c κs = c .before .before .before .before .pre .cut-set
 
--- src/lib.rt:223:5
 loop-holds : tie.Need-loop-holds Inv-loop μ-loop
 loop-holds c =
     let s = c .before .before .before .before .before in
     let e = c .head-end .ensures in
     (omega arith, omega (arith, s .pre .cut-set .least), rw e (head-known (s .args .cuts .now) (s .args .route .now) (s .pre .cut-set) (s .args .locations) (s .args .depot) (s .pre .costs .stops) (s .pre .depot-known)), omega arith, rw e (omega arith))
 
--- src/lib.rt:224:23
 shared-slice-read-segment : tie.Need-shared-slice-read-segment Inv-loop μ-loop
 shared-slice-read-segment c = search needs
 
--- src/lib.rt:224:23
 cast-segment : tie.Need-cast-segment Inv-loop μ-loop
 cast-segment c = omega (arith, c .shared-slice-known5 .given (c .before .before .loop .position))
 
--- src/lib.rt:225:13
 place-segment-requires : tie.Need-place-segment-requires Inv-loop μ-loop
 place-segment-requires c κs =
     let l = c .before .before .loop in
@@ -49,19 +44,15 @@ place-segment-requires c κs =
     let h = c .before .loop-test .taken in
     (s .pre .costs, (s .pre .cut-set, (s .pre .middle .least (l .position) (l .inv .0) h, s .pre .middle .most (l .position) (l .inv .0) h, l .inv .2)))
 
--- src/lib.rt:226:9
 add-total : tie.Need-add-total Inv-loop μ-loop
 add-total c = search needs
 
--- src/lib.rt:228:9
 add-position : tie.Need-add-position Inv-loop μ-loop
 add-position c = search needs
 
--- src/lib.rt:223:5
 loop-less : tie.Need-loop-less Inv-loop μ-loop
 loop-less c = search needs
 
--- src/lib.rt:223:5
 loop-again : tie.Need-loop-again Inv-loop μ-loop
 loop-again c =
     let p = c .before .place-segment .ensures in
@@ -75,11 +66,9 @@ loop-again c =
       place-next (s .args .locations) (s .args .legs .now) (s .args .depot) (s .args .route .now) (s .args .cuts .now) (s .args .order .now) (s .args .mask) (l .previous) (l .position) (l .total) _ h (s .pre .middle .long) (l .inv .4) p,
     )
 
--- src/lib.rt:230:9
 tail-start-requires : tie.Need-tail-start-requires Inv-loop μ-loop
 tail-start-requires c κs = c .before .before .before .before .before .before .before .pre .cut-set
 
--- src/lib.rt:231:13
 route-distance-requires : tie.Need-route-distance-requires Inv-loop μ-loop
 route-distance-requires c κs =
     let s = c .before .before .before .before .before .before .before .before in
@@ -89,11 +78,9 @@ route-distance-requires c κs =
       to-known = rw (c .tail-start .ensures) (tail-known (s .args .cuts .now) (s .args .route .now) (s .pre .cut-set) (s .args .locations) (s .args .depot) (s .pre .costs .stops) (s .pre .depot-known));
     }
 
--- src/lib.rt:231:5
 add-result : tie.Need-add-result Inv-loop μ-loop
 add-result c = search needs
 
--- src/lib.rt:206:1
 returns : tie.Need-returns Inv-loop μ-loop
 returns c =
     let l = c .before .before .before .loop in

@@ -7,8 +7,6 @@ use lib.ListN.{length, length-set}
 use Rattle.cuts.proofs.Cuts.{written, written-none, written-one, written-all}
 use Rattle.cuts.proofs.follow_on.Statement.{statement}
 use Rattle.cuts.proofs.follow_on.Tie as tie
-use Rattle.cuts.proofs.follow_on.Reads as reads
-use Rattle.cuts.proofs.follow_on.Lts as lts
 
 abbrev Inv-loop : tie.InvT-loop
 Inv-loop cuts₀ from first place₀ cuts place = (from ≤ place) × (place ≤ length cuts₀) × (length cuts ≡ length cuts₀) × (cuts ≡ written cuts₀ from first place)

@@ -7,21 +7,18 @@ use Rattle.mittenschist.proofs.route_feasible.Tie as tie
 check-problem-requires : tie.Need-check-problem-requires
 check-problem-requires c κs = search needs
 
--- src/lib.rt:193:9
 returns : tie.Need-returns
 returns c =
     let r = c .before .check-problem in
     let s = c .before .before .before .before .before in
     refused (s .args .locations) (s .args .legs .now) (s .args .latest .now) (s .args .depot) (s .args .route .now) (r .result) (r .ensures) (c .if1 .taken)
 
--- src/lib.rt:195:9
 check-deadlines-requires : tie.Need-check-deadlines-requires
 check-deadlines-requires c κs =
     let r = c .before .check-problem in
     let s = c .before .before .before .before .before in
     fine (s .args .locations) (s .args .legs .now) (s .args .latest .now) (s .args .depot) (s .args .route .now) (r .result) (r .ensures) (c .if1 .left)
 
--- src/lib.rt:182:1
 returns-2 : tie.Need-returns-2
 returns-2 c =
     let r = c .before .before .check-problem in

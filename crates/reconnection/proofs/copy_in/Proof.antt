@@ -1,3 +1,4 @@
+-- `reconnection::copy_in` meets its contract. The invariant: the part is copied up to the present place, and what lies beyond it stands.
 use Prim.Native.Nat.{_≤_, _-_}
 use mathlib.Core.Path.{_≡_, refl, _∙_}
 use lib.ListN.{length, length-set}
@@ -7,8 +8,6 @@ use native.Mathlib.Omega.{arith}
 use borrow.Author.Needs.{needs}
 use Rattle.reconnection.proofs.copy_in.Statement.{statement}
 use Rattle.reconnection.proofs.copy_in.Tie as tie
-use Rattle.reconnection.proofs.copy_in.Reads as reads
-use Rattle.reconnection.proofs.copy_in.Lts as lts
 
 abbrev Inv-loop : tie.InvT-loop
 Inv-loop src dst₀ at i₀ i-end dst i =

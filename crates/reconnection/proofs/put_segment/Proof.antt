@@ -7,10 +7,6 @@ use native.Mathlib.Omega.{arith}
 use borrow.Author.Needs.{needs}
 use Rattle.reconnection.proofs.put_segment.Statement.{statement}
 use Rattle.reconnection.proofs.put_segment.Tie as tie
-use Rattle.reconnection.proofs.put_segment.Reads as reads
-use Rattle.reconnection.proofs.put_segment.Lts as lts
-use Rattle.reconnection.proofs.copy_in.Reads as copy-in-reads
-use Rattle.reconnection.proofs.reverse_in.Reads as reverse-in-reads
 
 mul-reverse-in : tie.Need-mul-reverse-in
 mul-reverse-in c = search needs

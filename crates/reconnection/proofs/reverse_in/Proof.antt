@@ -1,3 +1,4 @@
+-- `reconnection::reverse_in` meets its contract. The invariant: the reversed part is put up to the present place, and what lies beyond it stands.
 use Prim.Native.Nat.{_≤_, _-_}
 use mathlib.Core.Path.{_≡_, refl, _∙_}
 use mathlib.Core.List.{reverse}
@@ -9,8 +10,6 @@ use native.Mathlib.Omega.{arith}
 use borrow.Author.Needs.{needs}
 use Rattle.reconnection.proofs.reverse_in.Statement.{statement}
 use Rattle.reconnection.proofs.reverse_in.Tie as tie
-use Rattle.reconnection.proofs.reverse_in.Reads as reads
-use Rattle.reconnection.proofs.reverse_in.Lts as lts
 
 abbrev Inv-loop : tie.InvT-loop
 Inv-loop src dst₀ at n i₀ dst i =

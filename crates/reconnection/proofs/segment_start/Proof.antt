@@ -1,11 +1,10 @@
+-- `reconnection::segment_start` meets its contract: a segment begins at 0, at a cut, or at the end of the route.
 use mathlib.Core.Path.{sym}
 use Rattle.reconnection.proofs.Segments.{bound-cut, bound-end}
 use native.Mathlib.Omega.{arith}
 use borrow.Author.Needs.{needs}
 use Rattle.reconnection.proofs.segment_start.Statement.{statement}
 use Rattle.reconnection.proofs.segment_start.Tie as tie
-use Rattle.reconnection.proofs.segment_start.Reads as reads
-use Rattle.reconnection.proofs.segment_start.Lts as lts
 
 returns : tie.Need-returns
 returns c = search needs

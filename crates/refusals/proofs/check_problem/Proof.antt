@@ -9,39 +9,30 @@ use Rattle.refusals.proofs.check_problem.Tie as tie
 check-leg-table-requires : tie.Need-check-leg-table-requires
 check-leg-table-requires c κs = search needs
 
--- src/lib.rt:173:9
 check-deadline-list-requires : tie.Need-check-deadline-list-requires
 check-deadline-list-requires c κs = search needs
 
--- src/lib.rt:174:9
 check-leg-sizes-requires : tie.Need-check-leg-sizes-requires
 check-leg-sizes-requires c κs = search needs
 
--- src/lib.rt:175:9
 check-known-stops-requires : tie.Need-check-known-stops-requires
 check-known-stops-requires c κs = search needs
 
--- src/lib.rt:176:9
 check-stop-count-requires : tie.Need-check-stop-count-requires
 check-stop-count-requires c κs = search needs
 
--- src/lib.rt:177:47
 first-requires : tie.Need-first-requires
 first-requires c κs = search needs
 
--- src/lib.rt:177:9
 first-requires-2 : tie.Need-first-requires-2
 first-requires-2 c κs = search needs
 
--- src/lib.rt:178:32
 first-requires-3 : tie.Need-first-requires-3
 first-requires-3 c κs = search needs
 
--- src/lib.rt:178:5
 first-requires-4 : tie.Need-first-requires-4
 first-requires-4 c κs = search needs
 
--- src/lib.rt:163:1
 returns : tie.Need-returns
 unfolding refusal
 returns c = c .first4 .ensures ∙ ap₂ either (c .before .before .before .before .before .before .before .before .check-leg-table .ensures) (c .before .first3 .ensures ∙ ap₂ either (c .before .before .before .before .before .before .before .check-deadline-list .ensures) (c .before .before .first2 .ensures ∙ ap₂ either (c .before .before .before .before .before .before .check-leg-sizes .ensures) (c .before .before .before .first .ensures ∙ ap₂ either (c .before .before .before .before .before .check-known-stops .ensures) (c .before .before .before .before .check-stop-count .ensures ∙ sym (either-zero _)))))
