@@ -140,22 +140,30 @@ fn show_text(text: &[u8]) {
     say(&bytes[..length]);
 }
 
-// Texts that are not of the form, one fault each.
-fn show_malformed() {
+// Texts that are not of the form, one fault each: of the lines,
+fn show_malformed_lines() {
     show_text(b"");
     show_text(b"k=2\nallowance=1\nlocations=1\ndepot=0\nlegs=0\nlatest=0\nround=0");
     show_text(b"k=2\r\nallowance=1\nlocations=1\ndepot=0\nlegs=0\nlatest=0\nround=0\n");
     show_text(b"k=2\n\nallowance=1\nlocations=1\ndepot=0\nlegs=0\nlatest=0\nround=0\n");
+    show_text(b"allowance=1\nk=2\nlocations=1\ndepot=0\nlegs=0\nlatest=0\nround=0\n");
+    show_text(b"k=9\nallowance=1\nlocations=1\ndepot=0\nlegs=0\nlatest=0\nround=0\nround=0\n");
+}
+
+// of the numbers,
+fn show_malformed_numbers() {
     show_text(b"k= 2\nallowance=1\nlocations=1\ndepot=0\nlegs=0\nlatest=0\nround=0\n");
     show_text(b"k=+2\nallowance=1\nlocations=1\ndepot=0\nlegs=0\nlatest=0\nround=0\n");
     show_text(b"k=02\nallowance=1\nlocations=1\ndepot=0\nlegs=0\nlatest=0\nround=0\n");
     show_text(b"k=2\nallowance=4294967296\nlocations=1\ndepot=0\nlegs=0\nlatest=0\nround=0\n");
-    show_text(b"allowance=1\nk=2\nlocations=1\ndepot=0\nlegs=0\nlatest=0\nround=0\n");
+}
+
+// and of the lists.
+fn show_malformed_lists() {
     show_text(b"k=2\nallowance=1\nlocations=1\ndepot=0\nlegs=0,0\nlatest=0\nround=0\n");
     show_text(b"k=2\nallowance=1\nlocations=97\ndepot=0\nlegs=0\nlatest=0\nround=0\n");
     show_text(b"k=2\nallowance=1\nlocations=1\ndepot=0\nlegs=0\nlatest=0\nround=0,\n");
     show_text(b"k=2\nallowance=1\nlocations=1\ndepot=0\nlegs=0\nlatest=0\nround=,\n");
-    show_text(b"k=9\nallowance=1\nlocations=1\ndepot=0\nlegs=0\nlatest=0\nround=0\nround=0\n");
 }
 
 // Texts of the form with a value beyond its bound, and two that are answered.
@@ -236,7 +244,9 @@ fn main() {
     show_t(6, 100, 1000001, 4294967295);
     show_long(&mut [0u32; 512]);
     show_long(&mut [0u32; 513]);
-    show_malformed();
+    show_malformed_lines();
+    show_malformed_numbers();
+    show_malformed_lists();
     show_judged();
     show_600_stops(b'0', b',');
     show_600_stops(b'1', b',');
