@@ -7,6 +7,7 @@ use Prim.Native.Nat.{ℕ, zero, suc, _<_}
 use lib.Dec.{eqb}
 use lib.ListN.{length, getD, take}
 use lib.IntN.{ℤ}
+use lib.Ieee.{Float}
 use Rattle.theory.specs.Moves.{Pattern}
 use Rattle.theory.specs.Route.{Problem, late, Feasible, tour-length}
 use Rattle.theory.specs.Scan.{Reply}
@@ -25,6 +26,14 @@ use Rattle.theory.specs.declared.KOptReconnection.{KOptReconnection}
 use Rattle.theory.specs.declared.Counts.{Counts}
 use Rattle.theory.specs.declared.Polished.{Polished}
 use Rattle.theory.specs.declared.Polished.the-variants as Polishing
+use Rattle.theory.specs.declared.Nearest.{Nearest}
+use Rattle.theory.specs.declared.Nearest.the-variants as Query
+use Rattle.theory.specs.declared.Listing.{Listing}
+use Rattle.theory.specs.declared.Listing.the-variants as Listed
+use Rattle.theory.specs.declared.Doable.{Doable}
+use Rattle.theory.specs.declared.Doable.the-variants as Do
+use Rattle.theory.specs.declared.RoundState.{RoundState}
+use Rattle.theory.specs.declared.RoundState.the-variants as Round
 
 -- 0 with the values, or a refusal number with none.
 pub record Answer (A : Type 0) : Type 0 where
@@ -74,6 +83,33 @@ feasibility-answer n (Judged.Checked d) = reply 0 (deadline-position n d ∷ [])
 -- What a written position says of a route.
 abbrev pub Verdict : Problem → List ℕ → ℕ → Type 0
 Verdict P route p = ((p ≡ length route) × Feasible P route) ⊎ LateAt P route p
+
+-- "The position with its distance, or none."
+abbrev pub nearest-values : Nearest → List (ℕ × Float)
+nearest-values (Query.Near p d) = (p, d) ∷ []
+nearest-values Query.Nothing = []
+
+-- The number of sets written, then 0 ended or 1 more.
+abbrev pub listing-answer : Listing → Answer ℕ
+listing-answer (Listed.Refused n) = refused n
+listing-answer (Listed.Ended c) = reply 0 (c ∷ 0 ∷ [])
+listing-answer (Listed.More c) = reply 0 (c ∷ 1 ∷ [])
+
+-- 0 no or 1 yes.
+abbrev pub doable-answer : Doable → Answer ℕ
+doable-answer (Do.Refused n) = refused n
+doable-answer Do.No = reply 0 (0 ∷ [])
+doable-answer Do.Yes = reply 0 (1 ∷ [])
+
+-- "Four numbers a round: state (0 not reached, 1 pinned, 2 short, 3 unchanged, 4 changed .., 5 spent), examined, accepted, applied (accepted in state 4,
+-- else 0); states 0 to 2 have 0 in all three."
+abbrev pub round-values : RoundState → List ℕ
+round-values Round.NotReached = 0 ∷ 0 ∷ 0 ∷ 0 ∷ []
+round-values Round.Pinned = 1 ∷ 0 ∷ 0 ∷ 0 ∷ []
+round-values Round.Short = 2 ∷ 0 ∷ 0 ∷ 0 ∷ []
+round-values (Round.Unchanged e) = 3 ∷ e ∷ 0 ∷ 0 ∷ []
+round-values (Round.Changed t) = 4 ∷ t .examined ∷ t .accepted ∷ t .accepted ∷ []
+round-values (Round.Spent t) = 5 ∷ t .examined ∷ t .accepted ∷ 0 ∷ []
 
 -- A pattern as the struct holds it: its order with 0 in the unused of six places.
 abbrev pub pattern-of : KOptReconnection → Pattern

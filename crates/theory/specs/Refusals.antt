@@ -5,13 +5,14 @@ use mathlib.Core.List.{List, [], _∷_}
 use Prim.Native.Nat.{ℕ, zero, suc, _*_}
 use lib.Dec.{leb, ltb, eqb}
 use lib.ListN.{length}
-use Rattle.theory.specs.Moves.{patterns}
+use lib.Ieee.{Float, nan, inf, fin}
+use Rattle.theory.specs.Moves.{patterns, total}
 
 abbrev pub Rule : Type 0
 Rule = ℕ × Bool
 
 -- Some element passes a test.
-unfoldable pub some : (ℕ → Bool) → List ℕ → Bool
+unfoldable pub some : {A : Type 0} → (A → Bool) → List A → Bool
 some t [] = false
 some t (x ∷ xs) = t x || some t xs
 
@@ -45,6 +46,21 @@ known-stops locations depot route = (4, leb locations depot || some (λ s. leb l
 abbrev pub stop-count : ℕ → Rule
 stop-count n = (5, ltb 512 n)
 
+-- 4 and 5 of the rounds of a run: every depot and every entry of the stops is judged, reached or not.
+abbrev pub known-rounds : ℕ → List ℕ → List ℕ → Rule
+known-rounds locations depots stops = (4, some (λ s. leb locations s) depots || some (λ s. leb locations s) stops)
+
+-- "5: a round .. above 512, more than 64 rounds, or lists of rounds whose sizes disagree."
+abbrev pub round-lists : List ℕ → List ℕ → List ℕ → ℕ → Rule
+round-lists lengths depots pins stops = (
+  5,
+  ltb 64 (length lengths)
+      || some (λ n. ltb 512 n) lengths
+      || not (eqb (length depots) (length lengths))
+      || not (eqb (length pins) (length lengths))
+      || not (eqb (total (λ n. n) lengths) stops),
+)
+
 -- "6: pattern index not below the count for k."
 abbrev pub pattern-index : ℕ → ℕ → Rule
 pattern-index k index = (6, leb (length (patterns k)) index)
@@ -53,9 +69,31 @@ pattern-index k index = (6, leb (length (patterns k)) index)
 abbrev pub cut-positions : ℕ → ℕ → List ℕ → Rule
 cut-positions k n cuts = (7, not (eqb (length cuts) k) || some (λ c. ltb n c) cuts || not (rises cuts))
 
+-- "Unequal lengths are 7": of the round numbers and the positions of the cuts.
+abbrev pub cut-lists : List ℕ → List ℕ → Rule
+cut-lists rounds positions = (7, not (eqb (length rounds) (length positions)))
+
+-- "8: a cut naming another round."
+abbrev pub own-round : ℕ → List ℕ → Rule
+own-round round rounds = (8, some (λ r. not (eqb r round)) rounds)
+
+unfoldable pub no-number : Float → Bool
+no-number nan = true
+no-number (inf s) = false
+no-number (fin s m e) = false
+
+-- "9: m or the neighbours outside their range, float table not n × n, or one of its entries no number."
+abbrev pub nearby-input : ℕ → List Float → ℕ → ℕ → Rule
+nearby-input n distances m neighbours =
+    (9, ltb m 1 || ltb 512 m || ltb 32 neighbours || not (eqb (length distances) (n * n)) || some no-number distances)
+
 -- "21: lent result .. too short": needed places, lent places.
 abbrev pub room : ℕ → ℕ → Rule
 room needed lent = (21, ltb lent needed)
+
+-- "22: undo with a journal length other than the round's."
+abbrev pub journal-length : ℕ → ℕ → Rule
+journal-length n journal = (22, not (eqb journal n))
 
 -- "The lowest number that applies to the call is given, and no other; 10 comes before all."
 abbrev pub order : List ℕ

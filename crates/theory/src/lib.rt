@@ -57,3 +57,39 @@ pub enum Polished {
     Finished(Counts),
     Spent(Counts),
 }
+
+// A nearest query: the position with its distance, or none is left.
+pub enum Nearest {
+    Near(usize, f64),
+    Nothing,
+}
+
+// A listing of cut sets: refused, or the number of sets written, with the walk ended or with more to come.
+pub enum Listing {
+    Refused(u32),
+    Ended(usize),
+    More(usize),
+}
+
+// Whether a move can be done: refused, no, or yes.
+pub enum Doable {
+    Refused(u32),
+    No,
+    Yes,
+}
+
+// What the polishing of a round in a run counts.
+pub struct Tally {
+    pub examined: u64,
+    pub accepted: u64,
+}
+
+// What a run did with a round. Unchanged has the number examined; nothing was accepted.
+pub enum RoundState {
+    NotReached,
+    Pinned,
+    Short,
+    Unchanged(u64),
+    Changed(Tally),
+    Spent(Tally),
+}
