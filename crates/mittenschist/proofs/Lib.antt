@@ -6,3 +6,4 @@ pub mod ReconnectReply
 pub mod DeltaReply
 pub mod FeasibleReply
 pub mod PolishReply
+pub mod Written

@@ -23,6 +23,15 @@ use Rattle.theory.specs.declared.ReconnectionAt.{ReconnectionAt}
 abbrev pub if-taken : {A : Type 0} → List Rule → A → A → A
 if-taken rules a b = cond (eqb (refusal rules) 0) a b
 
+-- The rules of a call that writes its values into a lent result: 21 where that has fewer places than are needed.
+abbrev pub with-room : List Rule → ℕ → ℕ → List Rule
+with-room rules needed lent = rules ++ (room needed lent ∷ [])
+
+-- The refusal number or 0; and the values in the first places of the lent result, whose places beyond keep their contents.
+pub record Written {A : Type 0} (rules : List Rule) (needed : ℕ) (values result : List A) (answer : ℕ) (result′ : List A) : Type 0 where
+  pub number-is : answer ≡ refusal (with-room rules needed (length result))
+  pub result-is : result′ ≡ if-taken (with-room rules needed (length result)) (values ++ drop needed result) result
+
 -- ---- pattern of an index
 
 abbrev pub pattern-rules : ℕ → ℕ → List Rule
@@ -46,6 +55,14 @@ next-cut-set-rules k n cuts = cut-count k ∷ stop-count n ∷ cut-positions k n
 pub record NextCutSetReply (k n : ℕ) (cuts : List ℕ) (answer : CutStep) (cuts′ : List ℕ) : Type 0 where
   pub reply-is : step-answer answer ≡ reply (refusal (next-cut-set-rules k n cuts)) (cond (found (next-cuts n cuts)) 1 0 ∷ [])
   pub cuts-are : cuts′ ≡ if-taken (next-cut-set-rules k n cuts) (or-kept (next-cuts n cuts) cuts) cuts
+
+-- 1 moved, or 0 and the cuts kept.
+abbrev pub step-values : ℕ → List ℕ → List ℕ
+step-values n cuts = cond (found (next-cuts n cuts)) 1 0 ∷ []
+
+pub record NextCutSetWritten (k n : ℕ) (cuts result : List ℕ) (answer : ℕ) (cuts′ result′ : List ℕ) : Type 0 where
+  pub written : Written (next-cut-set-rules k n cuts) 1 (step-values n cuts) result answer result′
+  pub cuts-are : cuts′ ≡ if-taken (with-room (next-cut-set-rules k n cuts) 1 (length result)) (or-kept (next-cuts n cuts) cuts) cuts
 
 -- ---- reconnect
 
@@ -87,6 +104,11 @@ pub record FeasibleReply (locations : ℕ) (legs latest : List ℕ) (depot : ℕ
   pub position : ℕ
   pub reply-is : feasibility-answer (length route) answer ≡ reply (refusal (problem-rules locations legs latest depot route)) (position ∷ [])
   pub verdict : refusal (problem-rules locations legs latest depot route) ≡ 0 → Verdict (problem locations legs latest depot) route position
+
+pub record FeasibleWritten (locations : ℕ) (legs latest : List ℕ) (depot : ℕ) (route result : List ℕ) (answer : ℕ) (result′ : List ℕ) : Type 0 where
+  pub position : ℕ
+  pub written : Written (problem-rules locations legs latest depot route) 1 (position ∷ []) result answer result′
+  pub verdict : answer ≡ 0 → Verdict (problem locations legs latest depot) route position
 
 -- ---- polishing
 

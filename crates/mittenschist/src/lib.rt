@@ -1,9 +1,18 @@
 // The entries. Each takes whatever it is handed, judges it, and refuses it or calls the crate below that does the work.
 ghost use mathlib.Core.Path.{_≡_};
-ghost use Rattle.theory.specs.Refusals.{refusal};
-ghost use Rattle.mittenschist.specs.Promises.{NextCutSetReply, next-cut-set-rules, RouteLengthReply, route-length-rules, pattern-rules, ReconnectionReply, reconnect-rules, ReconnectReply, delta-rules, DeltaReply, FeasibleReply, polish-rules, PolishReply};
+ghost use mathlib.Core.List.{[], _∷_};
+ghost use Prim.Native.Nat.{_+_};
+ghost use Rattle.theory.specs.Route.{tour-length};
+ghost use Rattle.theory.specs.Polish.{move-at};
+ghost use Rattle.theory.specs.Moves.{patterns};
+ghost use Rattle.theory.specs.Tables.{legs-only};
+ghost use Rattle.theory.specs.Refusals.{refusal, problem-rules};
+ghost use Rattle.theory.specs.Answers.{deadline-position};
+ghost use Rattle.moves.specs.Moves.{length-change, pattern-values};
+ghost use Rattle.mittenschist.specs.Promises.{NextCutSetReply, next-cut-set-rules, RouteLengthReply, route-length-rules, pattern-rules, ReconnectionReply, reconnect-rules, ReconnectReply, delta-rules, DeltaReply, FeasibleReply, polish-rules, PolishReply, Written, NextCutSetWritten, FeasibleWritten, with-room};
 ghost use lib.ListN.{length};
 use theory::CutStep;
+use theory::Deadline;
 use theory::Feasibility;
 use theory::KOptReconnection;
 use theory::LengthDelta;
@@ -216,4 +225,147 @@ pub extern "C" fn mittenschist_polish_route(
     let answer = polishing::polish_route(k, allowance, locations, legs, latest, depot, route);
     polishing::put_polished(answer, result);
     0
+}
+
+// The C functions of the other entries: the same refusals, then 21, and the values into the first places of the lent result.
+
+// One number into the first place of a lent result, or 21.
+fn give(value: u64, result: &mut [u64]) -> u32
+    ensures { λ r. ⌜ Written [] 1 (value ∷ []) (now (result .entry)) r (now (result .exit)) ⌝ }
+{
+    if result.len() < 1 {
+        return 21;
+    }
+    result[0] = value;
+    0
+}
+
+fn give_signed(value: i64, result: &mut [i64]) -> u32
+    ensures { λ r. ⌜ Written [] 1 (value ∷ []) (now (result .entry)) r (now (result .exit)) ⌝ }
+{
+    if result.len() < 1 {
+        return 21;
+    }
+    result[0] = value;
+    0
+}
+
+// k + 1 segment numbers, then the mask. Refuses 1, 6, 21.
+#[no_mangle]
+pub extern "C" fn mittenschist_reconnection_at(k: usize, pattern: usize, result: &mut [u64]) -> u32
+    ensures { λ r. ⌜ Written (pattern-rules k pattern) (k + 2) (pattern-values k pattern) (now (result .entry)) r (now (result .exit)) ⌝ }
+{
+    let bad_pattern = pattern_refusal(k, pattern);
+    if bad_pattern != 0 {
+        return bad_pattern;
+    }
+    let bad_room = refusals::check_room(k + 2, result.len());
+    if bad_room != 0 {
+        return bad_room;
+    }
+    moves::put_pattern(k, pattern, result);
+    0
+}
+
+// 1 and the next cuts, or 0 and the cuts kept. Refuses 1, 5, 7, 21.
+#[no_mangle]
+pub extern "C" fn mittenschist_next_cut_set(
+    k: usize,
+    n: usize,
+    cuts: &mut [usize],
+    result: &mut [u64],
+) -> u32
+    ensures { λ r. ⌜ NextCutSetWritten k n (now (cuts .entry)) (now (result .entry)) r (now (cuts .exit)) (now (result .exit)) ⌝ }
+{
+    let bad_cuts = next_cut_set_refusal(k, n, &cuts[..]);
+    let bad_room = refusals::check_room(1, result.len());
+    let refused = refusals::first(bad_cuts, bad_room);
+    if refused != 0 {
+        return refused;
+    }
+    if cuts::next_cut_set(cuts, n) {
+        result[0] = 1;
+        return 0;
+    }
+    result[0] = 0;
+    0
+}
+
+// Refuses 1, 5, 6, 7, 21.
+#[no_mangle]
+pub extern "C" fn mittenschist_reconnect(
+    k: usize,
+    pattern: usize,
+    cuts: &[usize],
+    route: &[u32],
+    out: &mut [u32],
+) -> u32
+    ensures { λ r. ⌜ ReconnectReply k pattern (now (cuts .entry)) (now (route .entry)) (now (out .entry)) r (now (out .exit)) ⌝ }
+{
+    reconnect(k, pattern, cuts, route, out)
+}
+
+// Refuses 2, 3, 4, 5, 21.
+#[no_mangle]
+pub extern "C" fn mittenschist_route_length(
+    locations: usize,
+    legs: &[u32],
+    depot: u32,
+    route: &[u32],
+    result: &mut [u64],
+) -> u32
+    ensures { λ r. ⌜ Written (route-length-rules locations (now (legs .entry)) depot (now (route .entry))) 1 (tour-length (legs-only locations (now (legs .entry)) depot) (now (route .entry)) ∷ []) (now (result .entry)) r (now (result .exit)) ⌝ }
+{
+    match route_length(locations, legs, depot, route) {
+        RouteLength::Refused(number) => number,
+        RouteLength::Seconds(seconds) => give(seconds, result),
+    }
+}
+
+// Refuses 1 to 7, 21.
+#[no_mangle]
+pub extern "C" fn mittenschist_delta(
+    k: usize,
+    pattern: usize,
+    cuts: &[usize],
+    locations: usize,
+    legs: &[u32],
+    depot: u32,
+    route: &[u32],
+    result: &mut [i64],
+) -> u32
+    ensures { λ r. ⌜ Written (delta-rules k pattern (now (cuts .entry)) locations (now (legs .entry)) depot (now (route .entry))) 1 (length-change (legs-only locations (now (legs .entry)) depot) (move-at (patterns k) (now (cuts .entry)) pattern) (now (route .entry)) ∷ []) (now (result .entry)) r (now (result .exit)) ⌝ }
+{
+    match delta(k, pattern, cuts, locations, legs, depot, route) {
+        LengthDelta::Refused(number) => number,
+        LengthDelta::Seconds(seconds) => give_signed(seconds, result),
+    }
+}
+
+// The position that says what the deadline check answered for a route of n stops.
+fn position_of(answer: Deadline, n: usize) -> u64
+    ensures { λ r. ⌜ r ≡ deadline-position n answer ⌝ }
+{
+    match answer {
+        Deadline::Kept => n as u64,
+        Deadline::Late(position) => position as u64,
+    }
+}
+
+// A late position, or the number of stops where every deadline is kept. Refuses 2, 3, 4, 5, 21.
+#[no_mangle]
+pub extern "C" fn mittenschist_route_feasible(
+    locations: usize,
+    legs: &[u32],
+    latest: &[u32],
+    depot: u32,
+    route: &[u32],
+    result: &mut [u64],
+) -> u32
+    ensures { λ r. ⌜ FeasibleWritten locations (now (legs .entry)) (now (latest .entry)) depot (now (route .entry)) (now (result .entry)) r (now (result .exit)) ⌝ }
+{
+    match route_feasible(locations, legs, latest, depot, route) {
+        Feasibility::Refused(number) => number,
+        Feasibility::Checked(answer) => give(position_of(answer, route.len()), result),
+    }
 }

@@ -236,7 +236,7 @@ unfolding either
 either-zero zero = refl
 either-zero (suc n) = refl
 
-either-assoc : (a b c : ℕ) → either (either a b) c ≡ either a (either b c)
+pub either-assoc : (a b c : ℕ) → either (either a b) c ≡ either a (either b c)
 unfolding either
 either-assoc zero b c = refl
 either-assoc (suc a) b c = refl
