@@ -4,7 +4,7 @@ use mathlib.Core.List.{List, _++_, append-nil}
 use Prim.Native.Nat.{ℕ, _+_, _≤_}
 use native.Mathlib.Omega.{arith}
 use lib.ListN.{length, take, drop, drop-of-length-le}
-use lib.Seq.{take-at}
+use lib.Seq.{take-at, take-all}
 use Rattle.theory.specs.Moves.{Move}
 use Rattle.theory.specs.Route.{reconnected}
 
@@ -15,6 +15,12 @@ all-over new old i h = rw (drop-of-length-le old h) (append-nil new)
 -- The copying loop counts from the place 0.
 pub from-start : (new old new′ : List ℕ) → new′ ≡ new ++ drop (0 + length new) old → new′ ≡ new ++ drop (length new) old
 from-start new old new′ e = let z : 0 + length new ≡ length new = omega arith in rw z at e
+
+-- A journal of as many stops, back over the route.
+pub put-back : (route journal route′ : List ℕ) → length journal ≡ length route → route′ ≡ take (length route) journal ++ drop (0 + length (take (length route) journal)) route → route′ ≡ journal
+put-back route journal route′ h e =
+    let t : take (length route) journal ≡ journal = take-all (length route) journal (omega (arith, h)) in
+    rw t at e ∙ all-over journal route (0 + length journal) (omega (arith, h))
 
 -- The first places of the journal are the stops that it received.
 pub first-places : (route journal journal′ : List ℕ) → journal′ ≡ route ++ drop (length route) journal → take (length route) journal′ ≡ route

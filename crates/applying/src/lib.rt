@@ -26,7 +26,8 @@ pub fn k_opt_undo_move(route: &mut [u32], journal: &[u32])
     requires { ⌜ Undoable (now route) (now journal) ⌝ }
     ensures { λ _. ⌜ Undone (now (journal .entry)) (now (route .exit)) ⌝ }
 {
-    reconnection::copy_in(journal, route, 0);
+    let n = route.len();
+    reconnection::copy_in(&journal[..n], route, 0);
 }
 
 // Whether a position lies beyond n.

@@ -2,7 +2,7 @@
 use mathlib.Core.Path.{ap, sym}
 use native.Mathlib.Omega.{arith}
 use borrow.Author.Needs.{needs}
-use lib.ListN.{length}
+use lib.ListN.{length-take}
 use Rattle.theory.specs.Moves.{patterns}
 use Rattle.theory.specs.Polish.{move-at}
 use Rattle.applying.proofs.Copies.{from-start, first-places, from-copy}
@@ -18,10 +18,7 @@ slice-reshare-prefix-reconnect-pattern c = search needs
 slice-aggregate-reconnect-pattern : tie.Need-slice-aggregate-reconnect-pattern
 slice-aggregate-reconnect-pattern c =
     let s = c .before .before .before .before .before .before .before .before .before in
-    let copied = c .before .before .before .copy-in in
-    let route = s .args .route .now in
-    let journal = s .args .journal .now in
-    sym (ap length (first-places route journal _ (from-start route journal _ (copied .ensures))))
+    simp length-take (omega (arith, s .pre .room, c .before .before .before .copy-in .kept .1 .0))
 
 reconnect-pattern-requires : tie.Need-reconnect-pattern-requires
 reconnect-pattern-requires c κs =
