@@ -1,8 +1,5 @@
 // Apply, undo, and whether a move can be done, with the cuts as two lists of numbers. No entry: the crates above call it.
 ghost use mathlib.Core.Path.{_≡_};
-ghost use mathlib.Core.Bool.{not};
-ghost use lib.Dec.{ltb, eqb};
-ghost use Rattle.theory.specs.Refusals.{some, rises};
 ghost use Rattle.applying.specs.Applying.{Appliable, Applied, Undoable, Undone, doable};
 
 // The old stops into the first places of the journal, and the pattern applied to the route at the positions.
@@ -30,48 +27,7 @@ pub fn k_opt_undo_move(route: &mut [u32], journal: &[u32])
     reconnection::copy_in(&journal[..n], route, 0);
 }
 
-// Whether a position lies beyond n.
-fn some_beyond(positions: &[usize], n: usize) -> bool
-    ensures { λ r. ⌜ r ≡ some (λ p. ltb n p) (now (positions .entry)) ⌝ }
-{
-    let mut i = 0;
-    while i < positions.len() {
-        if n < positions[i] {
-            return true;
-        }
-        i += 1;
-    }
-    false
-}
-
-// Whether a cut names another round.
-fn some_other(rounds: &[usize], round: usize) -> bool
-    ensures { λ r. ⌜ r ≡ some (λ s. not (eqb s round)) (now (rounds .entry)) ⌝ }
-{
-    let mut i = 0;
-    while i < rounds.len() {
-        if rounds[i] != round {
-            return true;
-        }
-        i += 1;
-    }
-    false
-}
-
-// Whether each position is below the next.
-fn strictly_rising(positions: &[usize]) -> bool
-    ensures { λ r. ⌜ r ≡ rises (now (positions .entry)) ⌝ }
-{
-    let mut i = 1;
-    while i < positions.len() {
-        if positions[i] <= positions[i - 1] {
-            return false;
-        }
-        i += 1;
-    }
-    true
-}
-
+// Whether a move can be done: unordered cuts pass where one names another round.
 pub fn k_opt_is_doable(
     k: usize,
     round: usize,
@@ -87,11 +43,11 @@ pub fn k_opt_is_doable(
     if positions.len() != k {
         return false;
     }
-    if some_beyond(positions, n) {
+    if refusals::some_beyond(positions, n) {
         return false;
     }
-    if some_other(rounds, round) {
+    if refusals::some_other(rounds, round) {
         return true;
     }
-    strictly_rising(positions)
+    refusals::strictly_rising(positions)
 }

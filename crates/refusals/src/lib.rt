@@ -49,7 +49,7 @@ fn some_unknown(stops: &[u32], locations: usize) -> bool
 }
 
 // Whether a cut lies beyond n.
-fn some_beyond(cuts: &[usize], n: usize) -> bool
+pub fn some_beyond(cuts: &[usize], n: usize) -> bool
     ensures { λ r. ⌜ r ≡ some (λ x. ltb n x) (now (cuts .entry)) ⌝ }
 {
     let mut i = 0;
@@ -63,7 +63,7 @@ fn some_beyond(cuts: &[usize], n: usize) -> bool
 }
 
 // Whether each cut is below the next.
-fn strictly_rising(cuts: &[usize]) -> bool
+pub fn strictly_rising(cuts: &[usize]) -> bool
     ensures { λ r. ⌜ r ≡ rises (now (cuts .entry)) ⌝ }
 {
     let mut i = 1;
@@ -77,7 +77,7 @@ fn strictly_rising(cuts: &[usize]) -> bool
 }
 
 // Whether a cut names another round.
-fn some_other(rounds: &[usize], round: usize) -> bool
+pub fn some_other(rounds: &[usize], round: usize) -> bool
     ensures { λ r. ⌜ r ≡ some (λ x. not (eqb x round)) (now (rounds .entry)) ⌝ }
 {
     let mut i = 0;
