@@ -7,3 +7,4 @@ pub mod DeltaReply
 pub mod FeasibleReply
 pub mod PolishReply
 pub mod Written
+pub mod MoveReplies

@@ -242,6 +242,10 @@ either-assoc zero b c = refl
 either-assoc (suc a) b c = refl
 
 -- Checks that are judged together, and then the others.
+pub three-then : (a b c rest : ℕ) → either (either a (either b c)) rest ≡ either a (either b (either c rest))
+unfolding either
+three-then a b c rest = simp either-assoc
+
 pub four-then : (a b c d rest : ℕ) → either (either a (either b (either c (either d 0)))) rest ≡ either a (either b (either c (either d rest)))
 unfolding either
 four-then a b c d rest = simp either-assoc
