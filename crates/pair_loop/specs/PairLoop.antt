@@ -1,0 +1,92 @@
+-- The pair loop of document 01: what it makes of a route, sentence by sentence. What it has come to is a reply; `finished` stays true until the allowance
+-- ends the loop.
+use mathlib.Core.Path.{_≡_}
+use mathlib.Core.Bool.{Bool, true, false, _&&_, cond}
+use mathlib.Core.List.{List, [], _∷_, _++_, reverse, foldl}
+use Prim.Native.Nat.{ℕ, zero, suc, _+_, _-_, _≤_}
+use lib.Dec.{ltb, eqb}
+use lib.ListN.{length, getD, take, drop}
+use lib.Seq.{slice}
+use Rattle.theory.specs.Moves.{upfrom}
+use Rattle.theory.specs.Route.{Problem, count, feasible}
+use Rattle.theory.specs.Scan.{Reply}
+use Rattle.pair_loop.specs.declared.PairLoop.{PairLoop}
+
+-- "The stop before i, or the depot."
+abbrev pub stop-before : Problem → List ℕ → ℕ → ℕ
+stop-before P r i = getD (P .depot ∷ r) i 0
+
+-- "The one after, or the depot."
+abbrev pub stop-after : Problem → List ℕ → ℕ → ℕ
+stop-after P r j = getD (r ++ (P .depot ∷ [])) (suc j) 0
+
+-- "Turn i..j": the stops i to j are reversed.
+unfoldable pub turned : ℕ → ℕ → List ℕ → List ℕ
+turned i j r = take i r ++ (reverse (slice i (suc j) r) ++ drop (suc j) r)
+
+-- "d(a,c) + d(b,e) < d(a,b) + d(c,e)"
+unfoldable pub shortens : Problem → (a b c e : ℕ) → Bool
+shortens P a b c e = ltb (P .leg a c + P .leg b e) (P .leg a b + P .leg c e)
+
+-- "c is stop j and e the one after, or the depot. If .., turn i..j; late, turn back": the turn stays exactly where it shortens and keeps every deadline.
+unfoldable pub accepts : Problem → (a b i : ℕ) → List ℕ → (j : ℕ) → Bool
+unfolding shortens turned
+accepts P a b i r j = shortens P a b (getD r j 0) (stop-after P r j) && feasible P (turned i j r)
+
+-- "Then the pair counts as examined."
+unfoldable pub examine : Problem → (a b i : ℕ) → Reply (List ℕ) → (j : ℕ) → Reply (List ℕ)
+unfolding accepts turned
+examine P a b i s j =
+    cond (accepts P a b i (s .route) j)
+    (record { finished = true; examined = suc (s .examined); accepted = suc (s .accepted); route = turned i j (s .route) })
+    (record { finished = true; examined = suc (s .examined); accepted = s .accepted; route = s .route })
+
+-- "Before each pair the allowance is tested as in polishing." Once it is reached nothing follows.
+unfoldable pub pair : Problem → (allowance a b i : ℕ) → Reply (List ℕ) → (j : ℕ) → Reply (List ℕ)
+unfolding examine
+pair P allowance a b i s j =
+    cond (s .finished && ltb (s .examined) allowance)
+    (examine P a b i s j)
+    (record { finished = false; examined = s .examined; accepted = s .accepted; route = s .route })
+
+-- "a .. and b (stop i) are read once; for j from i+1 to n−1": "b is not read anew after a turn".
+unfoldable pub row : Problem → (allowance n : ℕ) → Reply (List ℕ) → (i : ℕ) → Reply (List ℕ)
+unfolding pair upfrom
+row P allowance n s i = foldl (pair P allowance (stop-before P (s .route) i) (getD (s .route) i 0) i) s (upfrom (suc i) (n - suc i))
+
+-- "For i from 0 to n−2."
+unfoldable pub pass : Problem → (allowance n : ℕ) → Reply (List ℕ) → Reply (List ℕ)
+unfolding row upfrom
+pass P allowance n s = foldl (row P allowance n) s (upfrom 0 (n - 1))
+
+-- From s to t something was accepted, and the allowance was not reached.
+abbrev pub goes-on : Reply (List ℕ) → Reply (List ℕ) → Bool
+goes-on s t = t .finished && ltb (s .accepted) (t .accepted)
+
+-- "Passes repeat until one accepts nothing. Nothing but the allowance is promised to end them": a pass that accepts examines a pair, so that there are at
+-- most as many of them as the allowance, and one more. That this number ends none early is the law `passes-repeat`.
+unfoldable pub passes : Problem → (allowance n more : ℕ) → Reply (List ℕ) → Reply (List ℕ)
+unfolding pass
+passes P allowance n zero s = pass P allowance n s
+passes P allowance n (suc more) s =
+    let t = pass P allowance n s in
+    let further = passes P allowance n more t in
+    cond (goes-on s t) further t
+
+abbrev pub start : List ℕ → Reply (List ℕ)
+start r = record { finished = true; examined = 0; accepted = 0; route = r }
+
+unfoldable pub pair-loop : Problem → (allowance : ℕ) → List ℕ → Reply (List ℕ)
+unfolding passes
+pair-loop P allowance r = passes P allowance (length r) allowance (start r)
+
+-- An answer of the code, with the route that it hands back, as a reply.
+abbrev pub reply-of : PairLoop → List ℕ → Reply (List ℕ)
+reply-of answer route = record { finished = answer .finished; examined = answer .examined; accepted = answer .accepted; route = route }
+
+-- What the pair loop promises, of the route handed in, the answer and the route handed back.
+pub record PairsTried (P : Problem) (allowance : ℕ) (route : List ℕ) (answer : PairLoop) (route′ : List ℕ) : Type 0 where
+  pub loop : reply-of answer route′ ≡ pair-loop P allowance route
+  pub same-stops : (x : ℕ) → count x route′ ≡ count x route
+  pub within : answer .examined ≤ allowance
+  pub spent : answer .finished ≡ false → answer .examined ≡ allowance
