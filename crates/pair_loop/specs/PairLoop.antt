@@ -13,33 +13,37 @@ use Rattle.theory.specs.Scan.{Reply}
 use Rattle.pair_loop.specs.declared.PairLoop.{PairLoop}
 
 -- "The stop before i, or the depot."
-abbrev pub stop-before : Problem → List ℕ → ℕ → ℕ
-stop-before P r i = getD (P .depot ∷ r) i 0
+abbrev pub stop-before : (depot : ℕ) → List ℕ → ℕ → ℕ
+stop-before depot r i = getD (depot ∷ r) i 0
 
 -- "The one after, or the depot."
-abbrev pub stop-after : Problem → List ℕ → ℕ → ℕ
-stop-after P r j = getD (r ++ (P .depot ∷ [])) (suc j) 0
+abbrev pub stop-after : (depot : ℕ) → List ℕ → ℕ → ℕ
+stop-after depot r j = getD (r ++ (depot ∷ [])) (suc j) 0
 
 -- "Turn i..j": the stops i to j are reversed.
 unfoldable pub turned : ℕ → ℕ → List ℕ → List ℕ
 turned i j r = take i r ++ (reverse (slice i (suc j) r) ++ drop (suc j) r)
 
 -- "d(a,c) + d(b,e) < d(a,b) + d(c,e)"
-unfoldable pub shortens : Problem → (a b c e : ℕ) → Bool
-shortens P a b c e = ltb (P .leg a c + P .leg b e) (P .leg a b + P .leg c e)
+unfoldable pub shortens : (d : ℕ → ℕ → ℕ) → (a b c e : ℕ) → Bool
+shortens d a b c e = ltb (d a c + d b e) (d a b + d c e)
 
 -- "c is stop j and e the one after, or the depot. If .., turn i..j; late, turn back": the turn stays exactly where it shortens and keeps every deadline.
 unfoldable pub accepts : Problem → (a b i : ℕ) → List ℕ → (j : ℕ) → Bool
 unfolding shortens turned
-accepts P a b i r j = shortens P a b (getD r j 0) (stop-after P r j) && feasible P (turned i j r)
+accepts P a b i r j = shortens (P .leg) a b (getD r j 0) (stop-after (P .depot) r j) && feasible P (turned i j r)
+
+-- What the loop has come to while the allowance lasts.
+abbrev pub so-far : (examined accepted : ℕ) → List ℕ → Reply (List ℕ)
+so-far examined accepted route = record { finished = true; examined = examined; accepted = accepted; route = route }
 
 -- "Then the pair counts as examined."
 unfoldable pub examine : Problem → (a b i : ℕ) → Reply (List ℕ) → (j : ℕ) → Reply (List ℕ)
 unfolding accepts turned
 examine P a b i s j =
     cond (accepts P a b i (s .route) j)
-    (record { finished = true; examined = suc (s .examined); accepted = suc (s .accepted); route = turned i j (s .route) })
-    (record { finished = true; examined = suc (s .examined); accepted = s .accepted; route = s .route })
+    (so-far (suc (s .examined)) (suc (s .accepted)) (turned i j (s .route)))
+    (so-far (suc (s .examined)) (s .accepted) (s .route))
 
 -- "Before each pair the allowance is tested as in polishing." Once it is reached nothing follows.
 unfoldable pub pair : Problem → (allowance a b i : ℕ) → Reply (List ℕ) → (j : ℕ) → Reply (List ℕ)
@@ -52,7 +56,7 @@ pair P allowance a b i s j =
 -- "a .. and b (stop i) are read once; for j from i+1 to n−1": "b is not read anew after a turn".
 unfoldable pub row : Problem → (allowance n : ℕ) → Reply (List ℕ) → (i : ℕ) → Reply (List ℕ)
 unfolding pair upfrom
-row P allowance n s i = foldl (pair P allowance (stop-before P (s .route) i) (getD (s .route) i 0) i) s (upfrom (suc i) (n - suc i))
+row P allowance n s i = foldl (pair P allowance (stop-before (P .depot) (s .route) i) (getD (s .route) i 0) i) s (upfrom (suc i) (n - suc i))
 
 -- "For i from 0 to n−2."
 unfoldable pub pass : Problem → (allowance n : ℕ) → Reply (List ℕ) → Reply (List ℕ)
@@ -73,12 +77,9 @@ passes P allowance n (suc more) s =
     let further = passes P allowance n more t in
     cond (goes-on s t) further t
 
-abbrev pub start : List ℕ → Reply (List ℕ)
-start r = record { finished = true; examined = 0; accepted = 0; route = r }
-
 unfoldable pub pair-loop : Problem → (allowance : ℕ) → List ℕ → Reply (List ℕ)
 unfolding passes
-pair-loop P allowance r = passes P allowance (length r) allowance (start r)
+pair-loop P allowance r = passes P allowance (length r) allowance (so-far 0 0 r)
 
 -- An answer of the code, with the route that it hands back, as a reply.
 abbrev pub reply-of : PairLoop → List ℕ → Reply (List ℕ)

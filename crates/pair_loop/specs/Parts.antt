@@ -1,8 +1,13 @@
--- What the functions of the pair loop ask.
+-- What the functions of the pair loop ask and give.
+use mathlib.Core.Path.{_≡_}
+use mathlib.Core.Bool.{Bool, true, cond}
 use mathlib.Core.List.{List}
 use Prim.Native.Nat.{ℕ, suc, _≤_, _<_}
 use lib.ListN.{length}
+use Rattle.theory.specs.Route.{Problem}
 use Rattle.theory.specs.Tables.{Timed, LegTable}
+use Rattle.pair_loop.specs.declared.PairLoop.{PairLoop}
+use Rattle.pair_loop.specs.PairLoop.{accepts, turned}
 
 -- Four locations of a leg table.
 pub record KnownLegs (locations : ℕ) (legs : List ℕ) (a b c e : ℕ) : Type 0 where
@@ -20,15 +25,19 @@ pub record Pair (locations : ℕ) (legs latest : List ℕ) (depot a b i j : ℕ)
   pub rising : i < j
   pub inside : j < length route
 
--- A position, with counts that the allowance bounds.
-pub record Row (allowance locations : ℕ) (legs latest : List ℕ) (depot i examined accepted : ℕ) (route : List ℕ) : Type 0 where
-  pub timed : Timed locations legs latest depot route
-  pub inside : suc i < length route
-  pub within : examined ≤ allowance
-  pub fewer : accepted ≤ examined
+-- The answer to a pair, with the route that stands afterwards: "turn i..j; late, turn back".
+pub record Tried (P : Problem) (a b i j : ℕ) (route : List ℕ) (answer : Bool) (route′ : List ℕ) : Type 0 where
+  pub is : answer ≡ accepts P a b i route j
+  pub route-is : route′ ≡ cond (accepts P a b i route j) (turned i j route) route
 
--- A pass over a route, with such counts.
-pub record Pass (allowance locations : ℕ) (legs latest : List ℕ) (depot examined accepted : ℕ) (route : List ℕ) : Type 0 where
+-- What the loop has come to while the allowance lasts, on a route that it can go on with.
+pub record Going (allowance locations : ℕ) (legs latest : List ℕ) (depot : ℕ) (counted : PairLoop) (route : List ℕ) : Type 0 where
   pub timed : Timed locations legs latest depot route
-  pub within : examined ≤ allowance
-  pub fewer : accepted ≤ examined
+  pub going : counted .finished ≡ true
+  pub within : counted .examined ≤ allowance
+  pub fewer : counted .accepted ≤ counted .examined
+
+-- The same, and a position that has another behind it.
+pub record Row (allowance locations : ℕ) (legs latest : List ℕ) (depot i : ℕ) (counted : PairLoop) (route : List ℕ) : Type 0 where
+  pub so-far : Going allowance locations legs latest depot counted route
+  pub inside : suc i < length route
