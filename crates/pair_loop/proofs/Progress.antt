@@ -1,11 +1,11 @@
 -- From a pair to the whole loop: the stops stay, the counts rise together, and the allowance holds. So the passes repeat until one accepts nothing.
 -- Assumes nothing.
 use mathlib.Core.Path.{_≡_, refl, sym, ap, _∙_}
-use mathlib.Core.Bool.{Bool, true, false, cond, _&&_, false≢true, and-eq-true-iff}
+use mathlib.Core.Bool.{Bool, true, false, cond, _&&_, not, false≢true, and-eq-true-iff}
 use mathlib.Core.List.{List, foldl}
 use Prim.Native.Nat.{ℕ, zero, suc, _+_, _-_, _≤_, _<_}
 use native.Mathlib.Omega.{arith}
-use borrow.Author.Tests.{ltb-true, ltb-false, lt-ltb, le-ltb}
+use borrow.Author.Tests.{ltb-true, lt-ltb, le-ltb, eqb-true, eqb-false}
 use lib.Dec.{ltb, eqb}
 use lib.ListN.{length}
 use Rattle.theory.specs.Moves.{total, upfrom}
@@ -15,7 +15,7 @@ use Rattle.theory.specs.Tables.{Timed}
 use Rattle.theory.proofs.Stops.{as-many, stops-rearranged}
 use Rattle.pair_loop.specs.declared.PairLoop.{PairLoop}
 use Rattle.pair_loop.specs.Parts.{Going}
-use Rattle.pair_loop.specs.PairLoop.{PairsTried, reply-of, turned, accepts, so-far, examine, pair, row, pass, goes-on, passes, pair-loop}
+use Rattle.pair_loop.specs.PairLoop.{PairsTried, reply-of, turned, accepts, so-far, spent, examine, pair, row, pass, goes-on, passes, pair-loop}
 use Rattle.pair_loop.proofs.Turning.{total-turned}
 
 -- A rearranged route has its deadlines in reach, and as many stops.
@@ -64,9 +64,9 @@ onward-fold allowance low f step (suc m) from s h = onward-on (step s from h) (o
 module _ (P : Problem) (allowance : ℕ) where
   onward-pair : (a b i : ℕ) (s : Reply (List ℕ)) (j : ℕ) → i ≤ j → Onward allowance s (pair P allowance a b i s j)
   unfolding pair examine
-  onward-pair a b i s j h = by (s .finished) refl (ltb (s .examined) allowance) refl (accepts P a b i (s .route) j)
+  onward-pair a b i s j h = by (s .finished) refl (eqb (s .examined) allowance) refl (accepts P a b i (s .route) j)
     where
-      stopped : (s .finished ≡ true → allowance ≤ s .examined) → Onward allowance s (record { finished = false; examined = s .examined; accepted = s .accepted; route = s .route })
+      stopped : (s .finished ≡ true → s .examined ≡ allowance) → Onward allowance s (spent s)
       stopped at =
           record {
             same = λ g. refl;
@@ -76,29 +76,20 @@ module _ (P : Problem) (allowance : ℕ) where
           }
         where
           end : Bounded allowance s → (f : Bool) → s .finished ≡ f → s .examined ≡ allowance
-          end k true e = omega (arith, at e, k .within)
+          end k true e = at e
           end k false e = k .spent e
 
-      by : (f : Bool) → s .finished ≡ f → (t : Bool) → ltb (s .examined) allowance ≡ t → (c : Bool) →
+      one-more : eqb (s .examined) allowance ≡ false → {c : ℕ} {r : List ℕ} → c ≤ suc (s .accepted) → Bounded allowance s → Bounded allowance (so-far (suc (s .examined)) c r)
+      one-more l h k =
+          record { within = omega (arith, eqb-false (s .examined) allowance l, k .within); fewer = omega (arith, h, k .fewer); spent = λ z. absurd (false≢true (sym z)) }
+
+      by : (f : Bool) → s .finished ≡ f → (t : Bool) → eqb (s .examined) allowance ≡ t → (c : Bool) →
           Onward allowance s
-          (cond (f && t) (cond c (so-far (suc (s .examined)) (suc (s .accepted)) (turned i j (s .route))) (so-far (suc (s .examined)) (s .accepted) (s .route)))
-          (record { finished = false; examined = s .examined; accepted = s .accepted; route = s .route }))
+          (cond (f && not t) (cond c (so-far (suc (s .examined)) (suc (s .accepted)) (turned i j (s .route))) (so-far (suc (s .examined)) (s .accepted) (s .route))) (spent s))
       by false e t l c = stopped (λ k. absurd (false≢true (sym e ∙ k)))
-      by true e false l c = stopped (λ k. ltb-false _ _ l)
-      by true e true l true =
-          record {
-            same = λ g. total-turned g i j (s .route) h;
-            more = omega arith;
-            each = omega arith;
-            bounded = λ k. record { within = omega (arith, ltb-true (s .examined) allowance l); fewer = omega (arith, k .fewer); spent = λ z. absurd (false≢true (sym z)) };
-          }
-      by true e true l false =
-          record {
-            same = λ g. refl;
-            more = omega arith;
-            each = omega arith;
-            bounded = λ k. record { within = omega (arith, ltb-true (s .examined) allowance l); fewer = omega (arith, k .fewer); spent = λ z. absurd (false≢true (sym z)) };
-          }
+      by true e true l c = stopped (λ k. eqb-true _ _ l)
+      by true e false l true = record { same = λ g. total-turned g i j (s .route) h; more = omega arith; each = omega arith; bounded = one-more l (omega arith) }
+      by true e false l false = record { same = λ g. refl; more = omega arith; each = omega arith; bounded = one-more l (omega arith) }
 
   module _ (n : ℕ) where
     onward-row : (s : Reply (List ℕ)) (i : ℕ) → Onward allowance s (row P allowance n s i)

@@ -2,16 +2,16 @@
 use mathlib.Core.Path.{_≡_, refl, sym, ap, _∙_}
 use mathlib.Core.Bool.{Bool, true, false, cond}
 use mathlib.Core.List.{List, [], _∷_, foldl}
-use Prim.Native.Nat.{ℕ, zero, suc, _+_, _-_, _≤_, _<_}
+use Prim.Native.Nat.{ℕ, suc, _+_, _-_, _≤_, _<_}
 use native.Mathlib.Omega.{arith}
 use native.Mathlib.Numerals.{add-one}
-use borrow.Author.Tests.{lt-ltb, le-ltb}
-use lib.ListN.{length, getD}
+use borrow.Author.Tests.{eq-eqb, ne-eqb}
+use lib.ListN.{getD}
 use Rattle.theory.specs.Moves.{upfrom}
 use Rattle.theory.specs.Route.{Problem}
 use Rattle.theory.specs.Scan.{Reply}
 use Rattle.pair_loop.specs.declared.PairLoop.{PairLoop}
-use Rattle.pair_loop.specs.PairLoop.{reply-of, stop-before, turned, accepts, so-far, examine, pair, row, pass}
+use Rattle.pair_loop.specs.PairLoop.{reply-of, stop-before, turned, accepts, so-far, spent, examine, pair, row, pass}
 use Rattle.pair_loop.specs.Parts.{Tried}
 
 -- An answer while the allowance lasts.
@@ -37,9 +37,6 @@ upfrom-cons from end h = let e : end - from ≡ suc (end - suc from) = omega ari
 upfrom-none : (from end : ℕ) → end ≤ from → upfrom from (end - from) ≡ []
 unfolding upfrom
 upfrom-none from end h = let e : end - from ≡ 0 = omega arith in rw e
-
-abbrev pub spent : Reply (List ℕ) → Reply (List ℕ)
-spent s = record { finished = false; examined = s .examined; accepted = s .accepted; route = s .route }
 
 fold-same : (f : Reply (List ℕ) → ℕ → Reply (List ℕ)) (s : Reply (List ℕ)) → ((x : ℕ) → f s x ≡ s) → (l : List ℕ) → foldl f s l ≡ s
 fold-same f s same [] = refl
@@ -69,22 +66,22 @@ module _ (P : Problem) (allowance n : ℕ) where
   row-stays : (a b i : ℕ) (s : Reply (List ℕ)) (l : List ℕ) → foldl (pair P allowance a b i) (spent s) l ≡ spent s
   row-stays a b i s l = fold-same (pair P allowance a b i) (spent s) (λ j. pair-spent a b i (spent s) j refl) l
 
-  pair-reached : (a b i e c : ℕ) (r : List ℕ) (j : ℕ) → allowance ≤ e → pair P allowance a b i (so-far e c r) j ≡ spent (so-far e c r)
+  pair-reached : (a b i e c : ℕ) (r : List ℕ) (j : ℕ) → e ≡ allowance → pair P allowance a b i (so-far e c r) j ≡ spent (so-far e c r)
   unfolding pair
-  pair-reached a b i e c r j h = rw (le-ltb e allowance h)
+  pair-reached a b i e c r j h = rw (eq-eqb e allowance h)
 
   -- "At the allowance the answer is spent."
   pub row-spent : (a b i e c : ℕ) (r : List ℕ) (j : ℕ) → j < n → e ≡ allowance → row-left a b i (so-far e c r) j ≡ spent (so-far e c r)
   unfolding row-left
   row-spent a b i e c r j h k =
       row-next a b i (so-far e c r) j h
-      ∙ ap (λ (s : Reply (List ℕ)). row-left a b i s (suc j)) (pair-reached a b i e c r j (omega arith))
+      ∙ ap (λ (s : Reply (List ℕ)). row-left a b i s (suc j)) (pair-reached a b i e c r j k)
       ∙ row-stays a b i (so-far e c r) (upfrom (suc j) (n - suc j))
 
   pair-allowed : (a b i e c : ℕ) (r : List ℕ) (j : ℕ) {answer : Bool} {r′ : List ℕ} → e < allowance → Tried P a b i j r answer r′ →
       pair P allowance a b i (so-far e c r) j ≡ so-far (e + 1) (c + cond answer 1 0) r′
   unfolding pair examine
-  pair-allowed a b i e c r j h t = rw (lt-ltb e allowance h, t .is, t .route-is, add-one e) (by (accepts P a b i r j))
+  pair-allowed a b i e c r j h t = rw (ne-eqb e allowance (λ k. omega (arith, h, k)), t .is, t .route-is, add-one e) (by (accepts P a b i r j))
     where
       by : (x : Bool) → cond x (so-far (suc e) (suc c) (turned i j r)) (so-far (suc e) c r) ≡ so-far (suc e) (c + cond x 1 0) (cond x (turned i j r) r)
       by true = rw (add-one c)

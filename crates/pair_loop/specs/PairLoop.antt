@@ -1,7 +1,7 @@
 -- The pair loop of document 01: what it makes of a route, sentence by sentence. What it has come to is a reply; `finished` stays true until the allowance
 -- ends the loop.
 use mathlib.Core.Path.{_≡_}
-use mathlib.Core.Bool.{Bool, true, false, _&&_, cond}
+use mathlib.Core.Bool.{Bool, true, false, _&&_, not, cond}
 use mathlib.Core.List.{List, [], _∷_, _++_, reverse, foldl}
 use Prim.Native.Nat.{ℕ, zero, suc, _+_, _-_, _≤_}
 use lib.Dec.{ltb, eqb}
@@ -45,13 +45,14 @@ examine P a b i s j =
     (so-far (suc (s .examined)) (suc (s .accepted)) (turned i j (s .route)))
     (so-far (suc (s .examined)) (s .accepted) (s .route))
 
--- "Before each pair the allowance is tested as in polishing." Once it is reached nothing follows.
+-- The same when the allowance is reached.
+abbrev pub spent : Reply (List ℕ) → Reply (List ℕ)
+spent s = record { finished = false; examined = s .examined; accepted = s .accepted; route = s .route }
+
+-- "Before each pair the allowance is tested as in polishing": "at the allowance the answer is spent", and no further pair is tried.
 unfoldable pub pair : Problem → (allowance a b i : ℕ) → Reply (List ℕ) → (j : ℕ) → Reply (List ℕ)
 unfolding examine
-pair P allowance a b i s j =
-    cond (s .finished && ltb (s .examined) allowance)
-    (examine P a b i s j)
-    (record { finished = false; examined = s .examined; accepted = s .accepted; route = s .route })
+pair P allowance a b i s j = cond (s .finished && not (eqb (s .examined) allowance)) (examine P a b i s j) (spent s)
 
 -- "a .. and b (stop i) are read once; for j from i+1 to n−1": "b is not read anew after a turn".
 unfoldable pub row : Problem → (allowance n : ℕ) → Reply (List ℕ) → (i : ℕ) → Reply (List ℕ)

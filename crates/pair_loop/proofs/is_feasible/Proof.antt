@@ -1,5 +1,4 @@
 -- `pair_loop::is_feasible` meets its contract: one case for each answer of the check. Assumes nothing.
-use native.Mathlib.Omega.{arith}
 use borrow.Author.Needs.{needs}
 use Rattle.pair_loop.proofs.Reading.{kept-told, late-told}
 use Rattle.pair_loop.proofs.is_feasible.Statement.{statement}

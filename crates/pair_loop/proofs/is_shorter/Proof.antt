@@ -1,5 +1,4 @@
 -- `pair_loop::is_shorter` meets its contract. Assumes nothing.
-use native.Mathlib.Omega.{arith}
 use borrow.Author.Needs.{needs}
 use Rattle.pair_loop.specs.PairLoop.{shortens}
 use Rattle.pair_loop.proofs.is_shorter.Statement.{statement}

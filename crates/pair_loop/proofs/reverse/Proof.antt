@@ -1,5 +1,5 @@
 -- `pair_loop::reverse` meets its contract: the ends of the middle are swapped, and the middle shrinks. Assumes nothing.
-use mathlib.Core.Path.{_≡_, refl, _∙_}
+use mathlib.Core.Path.{_≡_, refl}
 use mathlib.Core.List.{reverse}
 use Prim.Native.Nat.{_-_, _≤_, _<_}
 use lib.ListN.{length, getD, set, length-set}

@@ -1,5 +1,4 @@
 -- `pair_loop::stop_after` meets its contract. Assumes nothing.
-use native.Mathlib.Omega.{arith}
 use borrow.Author.Needs.{needs}
 use Rattle.pair_loop.proofs.Reading.{after-inside, after-last}
 use Rattle.pair_loop.proofs.stop_after.Statement.{statement}

@@ -1,5 +1,4 @@
 -- `pair_loop::stop_before` meets its contract. Assumes nothing.
-use native.Mathlib.Omega.{arith}
 use borrow.Author.Needs.{needs}
 use Rattle.pair_loop.proofs.Reading.{before-inside}
 use Rattle.pair_loop.proofs.stop_before.Statement.{statement}

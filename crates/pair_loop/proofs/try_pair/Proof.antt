@@ -3,12 +3,16 @@ use Prim.Native.Nat.{_≤_}
 use native.Mathlib.Omega.{arith}
 use borrow.Author.Needs.{needs}
 use borrow.Author.Tests.{not-true, not-false}
+use Rattle.theory.specs.Route.{Problem}
 use Rattle.theory.specs.Tables.{problem}
 use Rattle.pair_loop.proofs.Reading.{after-known}
 use Rattle.pair_loop.proofs.Turning.{turned-lent, turned-again}
 use Rattle.pair_loop.proofs.Trying.{tried-longer, tried-kept, tried-late, turned-timed}
 use Rattle.pair_loop.proofs.try_pair.Statement.{statement}
 use Rattle.pair_loop.proofs.try_pair.Tie as tie
+
+abbrev P : tie.Start → Problem
+P s = problem (s .args .locations) (s .args .legs .now) (s .args .latest .now) (s .args .depot)
 
 mul-c : tie.Need-mul-c
 mul-c c = search needs
@@ -37,7 +41,7 @@ same-length c = search needs
 returns : tie.Need-returns
 returns c =
     let s = c .before .before .before .before .before .before .before .before in
-    tried-longer (problem (s .args .locations) (s .args .legs .now) (s .args .latest .now) (s .args .depot)) (s .args .a) (s .args .b) (s .args .i) (s .args .j) (s .args .route .now) (c .before .before .stop-after .ensures) (c .before .is-shorter .ensures) (not-true _ (c .if1 .taken))
+    tried-longer (P s) (s .args .a) (s .args .b) (s .args .i) (s .args .j) (s .args .route .now) (c .before .before .stop-after .ensures) (c .before .is-shorter .ensures) (not-true _ (c .if1 .taken))
 
 add-end : tie.Need-add-end
 add-end c = search needs
@@ -71,7 +75,7 @@ returns-2 c =
     let s = c .before .before .before .before .before .before .before .before .before .before .before .before .before .before .before in
     let h : s .args .i ≤ s .args .j = omega (arith, s .pre .rising) in
     let turn = turned-lent (s .args .i) (s .args .j) (s .args .route .now) h (s .pre .inside) (c .before .before .before .before .before .reverse .ensures) in
-    tried-kept (problem (s .args .locations) (s .args .legs .now) (s .args .latest .now) (s .args .depot)) (s .args .a) (s .args .b) (s .args .i) (s .args .j) (s .args .route .now) (c .before .before .before .before .before .before .before .before .before .stop-after .ensures) (c .before .before .before .before .before .before .before .before .is-shorter .ensures) (not-false _ (c .before .before .before .before .before .before .before .if1 .left)) turn (c .before .is-feasible .ensures) (c .if2 .taken)
+    tried-kept (P s) (s .args .a) (s .args .b) (s .args .i) (s .args .j) (s .args .route .now) (c .before .before .before .before .before .before .before .before .before .stop-after .ensures) (c .before .before .before .before .before .before .before .before .is-shorter .ensures) (not-false _ (c .before .before .before .before .before .before .before .if1 .left)) turn (c .before .is-feasible .ensures) (c .if2 .taken)
 
 mul-reverse-2 : tie.Need-mul-reverse-2
 mul-reverse-2 c = search needs
@@ -97,7 +101,7 @@ returns-3 c =
     let h : s .args .i ≤ s .args .j = omega (arith, s .pre .rising) in
     let turn = turned-lent (s .args .i) (s .args .j) (s .args .route .now) h (s .pre .inside) (c .before .before .before .before .before .before .before .before .before .reverse .ensures) in
     let back = turned-again (s .args .i) (s .args .j) (s .args .route .now) h (s .pre .inside) turn (c .before .before .reverse2 .ensures) in
-    tried-late (problem (s .args .locations) (s .args .legs .now) (s .args .latest .now) (s .args .depot)) (s .args .a) (s .args .b) (s .args .i) (s .args .j) (s .args .route .now) (c .before .before .before .before .before .before .before .before .before .before .before .before .before .stop-after .ensures) (c .before .before .before .before .before .before .before .before .before .before .before .before .is-shorter .ensures) (not-false _ (c .before .before .before .before .before .before .before .before .before .before .before .if1 .left)) turn (c .before .before .before .before .before .is-feasible .ensures) (c .before .before .before .before .if2 .left) back
+    tried-late (P s) (s .args .a) (s .args .b) (s .args .i) (s .args .j) (s .args .route .now) (c .before .before .before .before .before .before .before .before .before .before .before .before .before .stop-after .ensures) (c .before .before .before .before .before .before .before .before .before .before .before .before .is-shorter .ensures) (not-false _ (c .before .before .before .before .before .before .before .before .before .before .before .if1 .left)) turn (c .before .before .before .before .before .is-feasible .ensures) (c .before .before .before .before .if2 .left) back
 
 pub try-pair-spec : {M : Type 1} → statement M
 try-pair-spec =

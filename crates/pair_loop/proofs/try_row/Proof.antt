@@ -4,6 +4,7 @@ use mathlib.Core.Bool.{cond}
 use mathlib.Core.Logic.{⊎-elim}
 use Prim.Native.Nat.{_+_, _-_, _≤_, _<_}
 use lib.ListN.{length}
+use Rattle.theory.specs.Route.{Problem}
 use Rattle.theory.specs.Tables.{problem, Timed}
 use Rattle.pair_loop.specs.PairLoop.{so-far, row, reply-of}
 use Rattle.pair_loop.proofs.Reading.{before-known}
@@ -31,12 +32,15 @@ abbrev μ-loop : tie.MeasureT-loop
 μ-loop allowance locations legs latest depot i route₀ examined₀ accepted₀ a b j₀ route examined accepted j =
     length route₀ - j
 
+abbrev P : tie.Start Inv-loop μ-loop → Problem
+P s = problem (s .args .locations) (s .args .legs .now) (s .args .latest .now) (s .args .depot)
+
 -- The row from what was handed in.
 from-start : (s : tie.Start Inv-loop μ-loop) →
-    row (problem (s .args .locations) (s .args .legs .now) (s .args .latest .now) (s .args .depot)) (s .args .allowance) (length (s .args .route .now)) (so-far (s .args .so-far .examined) (s .args .so-far .accepted) (s .args .route .now)) (s .args .i)
-    ≡ row (problem (s .args .locations) (s .args .legs .now) (s .args .latest .now) (s .args .depot)) (s .args .allowance) (length (s .args .route .now)) (reply-of (s .args .so-far) (s .args .route .now)) (s .args .i)
+    row (P s) (s .args .allowance) (length (s .args .route .now)) (so-far (s .args .so-far .examined) (s .args .so-far .accepted) (s .args .route .now)) (s .args .i)
+    ≡ row (P s) (s .args .allowance) (length (s .args .route .now)) (reply-of (s .args .so-far) (s .args .route .now)) (s .args .i)
 from-start s =
-    ap (λ t. row (problem (s .args .locations) (s .args .legs .now) (s .args .latest .now) (s .args .depot)) (s .args .allowance) (length (s .args .route .now)) t (s .args .i)) (sym (going-is (s .args .so-far) (s .args .route .now) (s .pre .so-far .going)))
+    ap (λ t. row (P s) (s .args .allowance) (length (s .args .route .now)) t (s .args .i)) (sym (going-is (s .args .so-far) (s .args .route .now) (s .pre .so-far .going)))
 
 stop-before-requires : tie.Need-stop-before-requires Inv-loop μ-loop
 stop-before-requires c κs = search needs
@@ -63,7 +67,7 @@ loop-holds c =
       s .pre .so-far .fewer,
       rw (c .before .stop-before .ensures) (before-known m (s .args .i) h),
       m .stops .known (s .args .i) h,
-      row-first (problem (s .args .locations) (s .args .legs .now) (s .args .latest .now) (s .args .depot)) (s .args .allowance) (length (s .args .route .now)) (so-far (s .args .so-far .examined) (s .args .so-far .accepted) (s .args .route .now)) (s .args .i) (c .before .stop-before .ensures),
+      row-first (P s) (s .args .allowance) (length (s .args .route .now)) (so-far (s .args .so-far .examined) (s .args .so-far .accepted) (s .args .route .now)) (s .args .i) (c .before .stop-before .ensures),
     )
 
 same-length : tie.Need-same-length Inv-loop μ-loop
@@ -74,7 +78,7 @@ returns c =
     let s = c .before .before .before .before .before .before .before .before .before in
     let l = c .before .before .loop in
     let h : l .j < length (s .args .route .now) = omega (arith, l .inv .1, c .before .loop-test .taken) in
-    sym (row-spent (problem (s .args .locations) (s .args .legs .now) (s .args .latest .now) (s .args .depot)) (s .args .allowance) (length (s .args .route .now)) _ _ (s .args .i) (l .examined) (l .accepted) (l .route) (l .j) h (c .if1 .taken)) ∙ l .inv .8 ∙ from-start s
+    sym (row-spent (P s) (s .args .allowance) (length (s .args .route .now)) _ _ (s .args .i) (l .examined) (l .accepted) (l .route) (l .j) h (c .if1 .taken)) ∙ l .inv .8 ∙ from-start s
 
 add-examined : tie.Need-add-examined Inv-loop μ-loop
 add-examined c = search needs
@@ -98,7 +102,7 @@ loop-again c =
     let s = c .before .before .before .before .before .before .before .before .before .before .before .before .before .before in
     let l = c .before .before .before .before .before .before .before .loop in
     let t = c .before .before .before .try-pair .ensures in
-    let k = tried-timed (problem (s .args .locations) (s .args .legs .now) (s .args .latest .now) (s .args .depot)) _ _ (s .args .i) (l .j) (l .route) (omega (arith, l .inv .2)) t (l .inv .0) in
+    let k = tried-timed (P s) _ _ (s .args .i) (l .j) (l .route) (omega (arith, l .inv .2)) t (l .inv .0) in
     let n : c .if2 .accepted ≡ l .accepted + cond (c .before .before .before .try-pair .result) 1 0 = ⊎-elim (λ w. counted-one (l .accepted) (w .0 .taken) (w .1)) (λ w. counted-none (l .accepted) (w .0 .left) (w .1)) (c .if2 .came) in
     let h : l .j < length (s .args .route .now) = omega (arith, l .inv .1, c .before .before .before .before .before .before .loop-test .taken) in
     let e : l .examined < s .args .allowance = omega (arith, l .inv .4, c .before .before .before .before .before .if1 .left) in (
@@ -110,7 +114,7 @@ loop-again c =
       omega (arith, n, at-most-one (c .before .before .before .try-pair .result), l .inv .5),
       l .inv .6,
       l .inv .7,
-      row-tried (problem (s .args .locations) (s .args .legs .now) (s .args .latest .now) (s .args .depot)) (s .args .allowance) (length (s .args .route .now)) _ _ (s .args .i) (l .examined) (l .accepted) (l .route) (l .j) h e t n ∙ l .inv .8,
+      row-tried (P s) (s .args .allowance) (length (s .args .route .now)) _ _ (s .args .i) (l .examined) (l .accepted) (l .route) (l .j) h e t n ∙ l .inv .8,
     )
 
 same-length-2 : tie.Need-same-length-2 Inv-loop μ-loop
@@ -121,7 +125,7 @@ returns-2 c =
     let s = c .before .before .before .before .before .before .before .before in
     let l = c .before .loop in
     let h : length (s .args .route .now) ≤ l .j = omega (arith, l .inv .1, c .loop-test .left) in
-    sym (row-ended (problem (s .args .locations) (s .args .legs .now) (s .args .latest .now) (s .args .depot)) (s .args .allowance) (length (s .args .route .now)) _ _ (s .args .i) (so-far (l .examined) (l .accepted) (l .route)) (l .j) h) ∙ l .inv .8 ∙ from-start s
+    sym (row-ended (P s) (s .args .allowance) (length (s .args .route .now)) _ _ (s .args .i) (so-far (l .examined) (l .accepted) (l .route)) (l .j) h) ∙ l .inv .8 ∙ from-start s
 
 pub try-row-spec : {M : Type 1} → statement M
 try-row-spec =
