@@ -98,11 +98,11 @@ fn try_pair(
     }
     let end = j + 1;
     reverse(&mut route[i..end]);
-    if is_feasible(locations, legs, latest, depot, &route[..]) {
-        return true;
+    if !is_feasible(locations, legs, latest, depot, &route[..]) {
+        reverse(&mut route[i..end]);
+        return false;
     }
-    reverse(&mut route[i..end]);
-    false
+    true
 }
 
 // The pairs of one i. The stop at i is not read anew after a turn, as in the Rust.

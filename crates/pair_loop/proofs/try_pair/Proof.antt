@@ -67,16 +67,6 @@ is-feasible-requires c κs =
     let h : s .args .i ≤ s .args .j = omega (arith, s .pre .rising) in
     turned-timed (s .args .i) (s .args .j) (s .args .route .now) h (turned-lent (s .args .i) (s .args .j) (s .args .route .now) h (s .pre .inside) (c .before .before .before .reverse .ensures)) (s .pre .timed)
 
-same-length-2 : tie.Need-same-length-2
-same-length-2 c = search needs
-
-returns-2 : tie.Need-returns-2
-returns-2 c =
-    let s = c .before .before .before .before .before .before .before .before .before .before .before .before .before .before .before in
-    let h : s .args .i ≤ s .args .j = omega (arith, s .pre .rising) in
-    let turn = turned-lent (s .args .i) (s .args .j) (s .args .route .now) h (s .pre .inside) (c .before .before .before .before .before .reverse .ensures) in
-    tried-kept (P s) (s .args .a) (s .args .b) (s .args .i) (s .args .j) (s .args .route .now) (c .before .before .before .before .before .before .before .before .before .stop-after .ensures) (c .before .before .before .before .before .before .before .before .is-shorter .ensures) (not-false _ (c .before .before .before .before .before .before .before .if1 .left)) turn (c .before .is-feasible .ensures) (c .if2 .taken)
-
 mul-reverse-2 : tie.Need-mul-reverse-2
 mul-reverse-2 c = search needs
 
@@ -92,16 +82,28 @@ part-reverse-end-2 c = search needs
 reverse-requires-2 : tie.Need-reverse-requires-2
 reverse-requires-2 c κs = search needs
 
+same-length-2 : tie.Need-same-length-2
+same-length-2 c = search needs
+
+returns-2 : tie.Need-returns-2
+returns-2 c =
+    let u = c .before .before .before .before .before .before .before .before .before in
+    let s = u .before .before .before .before .before .before .before .before .before .before in
+    let h : s .args .i ≤ s .args .j = omega (arith, s .pre .rising) in
+    let turn = turned-lent (s .args .i) (s .args .j) (s .args .route .now) h (s .pre .inside) (u .reverse .ensures) in
+    let back = turned-again (s .args .i) (s .args .j) (s .args .route .now) h (s .pre .inside) turn (c .before .before .reverse2 .ensures) in
+    tried-late (P s) (s .args .a) (s .args .b) (s .args .i) (s .args .j) (s .args .route .now) (u .before .before .before .before .stop-after .ensures) (u .before .before .before .is-shorter .ensures) (not-false _ (u .before .before .if1 .left)) turn (c .before .before .before .before .before .is-feasible .ensures) (not-true _ (c .before .before .before .before .if2 .taken)) back
+
 same-length-3 : tie.Need-same-length-3
 same-length-3 c = search needs
 
 returns-3 : tie.Need-returns-3
 returns-3 c =
-    let s = c .before .before .before .before .before .before .before .before .before .before .before .before .before .before .before .before .before .before .before in
+    let u = c .before .before .before .before .before in
+    let s = u .before .before .before .before .before .before .before .before .before .before in
     let h : s .args .i ≤ s .args .j = omega (arith, s .pre .rising) in
-    let turn = turned-lent (s .args .i) (s .args .j) (s .args .route .now) h (s .pre .inside) (c .before .before .before .before .before .before .before .before .before .reverse .ensures) in
-    let back = turned-again (s .args .i) (s .args .j) (s .args .route .now) h (s .pre .inside) turn (c .before .before .reverse2 .ensures) in
-    tried-late (P s) (s .args .a) (s .args .b) (s .args .i) (s .args .j) (s .args .route .now) (c .before .before .before .before .before .before .before .before .before .before .before .before .before .stop-after .ensures) (c .before .before .before .before .before .before .before .before .before .before .before .before .is-shorter .ensures) (not-false _ (c .before .before .before .before .before .before .before .before .before .before .before .if1 .left)) turn (c .before .before .before .before .before .is-feasible .ensures) (c .before .before .before .before .if2 .left) back
+    let turn = turned-lent (s .args .i) (s .args .j) (s .args .route .now) h (s .pre .inside) (u .reverse .ensures) in
+    tried-kept (P s) (s .args .a) (s .args .b) (s .args .i) (s .args .j) (s .args .route .now) (u .before .before .before .before .stop-after .ensures) (u .before .before .before .is-shorter .ensures) (not-false _ (u .before .before .if1 .left)) turn (c .before .is-feasible .ensures) (not-false _ (c .if2 .left))
 
 pub try-pair-spec : {M : Type 1} → statement M
 try-pair-spec =
@@ -120,12 +122,12 @@ try-pair-spec =
     part-reverse-end
     reverse-requires
     is-feasible-requires
-    same-length-2
-    returns-2
     mul-reverse-2
     sub-reverse-2
     part-reverse-start-2
     part-reverse-end-2
     reverse-requires-2
+    same-length-2
+    returns-2
     same-length-3
     returns-3)
