@@ -1,0 +1,4 @@
+pub mod Numbers
+pub mod Outcomes
+pub mod Turn
+pub mod Judged
