@@ -8,3 +8,4 @@ pub mod FeasibleReply
 pub mod PolishReply
 pub mod Written
 pub mod MoveReplies
+pub mod RunReply

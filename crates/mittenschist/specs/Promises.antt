@@ -2,18 +2,19 @@
 use mathlib.Core.Path.{_≡_}
 use mathlib.Core.Bool.{cond}
 use mathlib.Core.List.{List, [], _∷_, _++_}
-use Prim.Native.Nat.{ℕ, _+_, _-_}
+use Prim.Native.Nat.{ℕ, _+_, _-_, _*_}
 use lib.Dec.{eqb}
 use lib.ListN.{length, getD, drop, replicate}
 use Rattle.theory.specs.Moves.{Pattern, patterns, next-cuts}
 use Rattle.theory.specs.Route.{tour-length, reconnected}
 use Rattle.theory.specs.Polish.{move-at, polish, Demand3}
 use Rattle.theory.specs.Tables.{problem, legs-only}
-use Rattle.theory.specs.Refusals.{Rule, refusal, cut-count, leg-table, deadline-list, leg-sizes, known-stops, stop-count, pattern-index, cut-positions, cut-lists, own-round, journal-length, room, problem-rules}
+use Rattle.theory.specs.Refusals.{Rule, refusal, cut-count, leg-table, deadline-list, leg-sizes, known-stops, stop-count, pattern-index, cut-positions, cut-lists, own-round, journal-length, known-rounds, round-lists, room, problem-rules}
 use Rattle.theory.specs.Answers.{reply, step-answer, length-answer, delta-answer, feasibility-answer, doable-answer, Verdict, five-numbers, handed-back}
 use Rattle.moves.specs.Moves.{length-change}
 use Rattle.cuts.specs.Step.{found, or-kept}
 use Rattle.applying.specs.Applying.{doable}
+use Rattle.run.specs.Run.{run, rounds, routes, numbers, Ran}
 use Rattle.theory.specs.declared.CutStep.{CutStep}
 use Rattle.theory.specs.declared.RouteLength.{RouteLength}
 use Rattle.theory.specs.declared.LengthDelta.{LengthDelta}
@@ -174,3 +175,28 @@ doable-values k round n rounds positions = cond (doable k round n rounds positio
 
 pub record DoableReply (k pattern round n : ℕ) (rounds positions : List ℕ) (answer : Doable) : Type 0 where
   pub reply-is : doable-answer answer ≡ reply (refusal (doable-rules k pattern n)) (doable-values k round n rounds positions)
+
+-- ---- the run
+
+abbrev pub run-rules : ℕ → ℕ → List ℕ → List ℕ → List ℕ → List ℕ → List ℕ → List ℕ → ℕ → List Rule
+run-rules k locations legs latest stops lengths depots pins lent =
+    cut-count k
+    ∷ leg-table locations legs
+    ∷ deadline-list locations latest
+    ∷ leg-sizes legs
+    ∷ known-rounds locations depots stops
+    ∷ round-lists lengths depots pins (length stops)
+    ∷ room (4 * length lengths) lent
+    ∷ []
+
+-- Stops and result are those of document 01's run; and whenever it returns 0 each round holds the same stops, none is reached after a spent one, and with k
+-- from 3 to 5 each that finished is k-optimal (`Ran`).
+pub record RunReply (k allowance locations : ℕ) (legs latest stops lengths depots pins result : List ℕ) (answer : ℕ) (stops′ result′ : List ℕ) : Type 0 where
+  pub number-is : answer ≡ refusal (run-rules k locations legs latest stops lengths depots pins (length result))
+  pub stops-are : stops′
+      ≡ if-taken (run-rules k locations legs latest stops lengths depots pins (length result)) (routes (run (problem locations legs latest) k allowance (rounds lengths depots pins stops))) stops
+  pub result-is : result′
+      ≡ if-taken (run-rules k locations legs latest stops lengths depots pins (length result))
+      (numbers (run (problem locations legs latest) k allowance (rounds lengths depots pins stops)) ++ drop (4 * length lengths) result)
+      result
+  pub ran : answer ≡ 0 → Ran k allowance locations legs latest stops lengths depots pins result stops′ result′

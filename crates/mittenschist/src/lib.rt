@@ -9,7 +9,7 @@ ghost use Rattle.theory.specs.Tables.{legs-only};
 ghost use Rattle.theory.specs.Refusals.{refusal, problem-rules};
 ghost use Rattle.theory.specs.Answers.{deadline-position};
 ghost use Rattle.moves.specs.Moves.{length-change, pattern-values};
-ghost use Rattle.mittenschist.specs.Promises.{NextCutSetReply, next-cut-set-rules, RouteLengthReply, route-length-rules, pattern-rules, ReconnectionReply, reconnect-rules, ReconnectReply, delta-rules, DeltaReply, FeasibleReply, polish-rules, PolishReply, Written, NextCutSetWritten, FeasibleWritten, do-move-rules, DoMoveReply, undo-rules, UndoMoveReply, doable-rules, doable-values, DoableReply, with-room};
+ghost use Rattle.mittenschist.specs.Promises.{NextCutSetReply, next-cut-set-rules, RouteLengthReply, route-length-rules, pattern-rules, ReconnectionReply, reconnect-rules, ReconnectReply, delta-rules, DeltaReply, FeasibleReply, polish-rules, PolishReply, Written, NextCutSetWritten, FeasibleWritten, do-move-rules, DoMoveReply, undo-rules, UndoMoveReply, doable-rules, doable-values, DoableReply, run-rules, RunReply, with-room};
 ghost use lib.ListN.{length};
 use theory::CutStep;
 use theory::Deadline;
@@ -494,4 +494,75 @@ pub extern "C" fn mittenschist_k_opt_is_doable(
         Doable::No => give(0, result),
         Doable::Yes => give(1, result),
     }
+}
+
+fn run_refusal(
+    k: usize,
+    locations: usize,
+    legs: &[u32],
+    latest: &[u32],
+    stops: &[u32],
+    lengths: &[usize],
+    depots: &[u32],
+    pins: &[u8],
+    lent: usize,
+) -> u32
+    ensures { λ r. ⌜ r ≡ refusal (run-rules k locations (now (legs .entry)) (now (latest .entry)) (now (stops .entry)) (now (lengths .entry)) (now (depots .entry)) (now (pins .entry)) lent) ⌝ }
+{
+    let bad_k = refusals::check_cut_count(k);
+    let bad_table = refusals::check_leg_table(locations, legs);
+    let bad_latest = refusals::check_deadline_list(locations, latest);
+    let bad_legs = refusals::check_leg_sizes(legs);
+    let bad_stops = refusals::check_known_rounds(locations, depots, stops);
+    let bad_rounds = refusals::check_round_lists(lengths, depots, pins, stops.len());
+    let bad_room = refusals::check_room(4 * lengths.len(), lent);
+    let bad_lists = refusals::first(bad_stops, refusals::first(bad_rounds, bad_room));
+    let bad_tables = refusals::first(bad_table, refusals::first(bad_latest, bad_legs));
+    refusals::first(bad_k, refusals::first(bad_tables, bad_lists))
+}
+
+// The run over rounds that lie end to end. Refuses 1, 2, 3, 4, 5, 21. The result receives four numbers a round: state, examined, accepted, applied.
+#[no_mangle]
+pub extern "C" fn mittenschist_run_list_k_opt(
+    k: usize,
+    allowance: u64,
+    locations: usize,
+    legs: &[u32],
+    latest: &[u32],
+    stops: &mut [u32],
+    lengths: &[usize],
+    depots: &[u32],
+    pins: &[u8],
+    result: &mut [u64],
+) -> u32
+    ensures { λ r. ⌜ RunReply k allowance locations (now (legs .entry)) (now (latest .entry)) (now (stops .entry)) (now (lengths .entry)) (now (depots .entry)) (now (pins .entry)) (now (result .entry)) r (now (stops .exit)) (now (result .exit)) ⌝ }
+{
+    let lent = result.len();
+    let refused = run_refusal(
+        k,
+        locations,
+        legs,
+        latest,
+        &stops[..],
+        lengths,
+        depots,
+        pins,
+        lent,
+    );
+    if refused != 0 {
+        return refused;
+    }
+    run::run_list_k_opt_in_phase(
+        k,
+        allowance,
+        locations,
+        legs,
+        latest,
+        stops,
+        lengths,
+        depots,
+        pins,
+        result,
+    );
+    0
 }

@@ -1,6 +1,6 @@
 -- `mittenschist::do_move_refusal` meets its contract. Assumes nothing.
 use mathlib.Core.Path.{sym, ap₂, _∙_}
-use Rattle.theory.specs.Refusals.{either, refusal}
+use Rattle.theory.specs.Refusals.{either, refusal, number, cut-lists, cut-positions, own-round}
 use Rattle.theory.proofs.Refusals.{either-zero, applies-first, passed-over, three-then}
 use Rattle.mittenschist.proofs.Entries.{counted}
 use borrow.Author.Needs.{needs}
@@ -50,9 +50,10 @@ first-requires-5 c κs = search needs
 returns-2 : tie.Need-returns-2
 unfolding refusal
 returns-2 c =
+    let s = c .before .before .before .before .before .before .before .before .before .before .before .before .before .before .before in
     let cuts = c .before .before .before .first2 .ensures ∙ ap₂ either (c .before .before .before .before .before .before .before .before .check-cut-lists .ensures) (c .before .before .before .before .first .ensures ∙ ap₂ either (c .before .before .before .before .before .before .before .check-cut-positions .ensures) (c .before .before .before .before .before .before .check-own-round .ensures)) in
     c .first5 .ensures
-    ∙ ap₂ either (c .before .before .before .before .before .before .before .before .before .before .check-stop-count .ensures) (c .before .first4 .ensures ∙ ap₂ either (c .before .before .before .before .before .before .before .before .before .check-pattern-index .ensures) (c .before .before .first3 .ensures ∙ ap₂ either cuts (c .before .before .before .before .before .check-room .ensures ∙ sym (either-zero _)) ∙ three-then _ _ _ _))
+    ∙ ap₂ either (c .before .before .before .before .before .before .before .before .before .before .check-stop-count .ensures) (c .before .first4 .ensures ∙ ap₂ either (c .before .before .before .before .before .before .before .before .before .check-pattern-index .ensures) (c .before .before .first3 .ensures ∙ ap₂ either cuts (c .before .before .before .before .before .check-room .ensures ∙ sym (either-zero _)) ∙ three-then (number (cut-lists (s .args .rounds .now) (s .args .positions .now))) (number (cut-positions (s .args .k) (s .args .n) (s .args .positions .now))) (number (own-round (s .args .round) (s .args .rounds .now))) _))
     ∙ passed-over _ _ _ (c .before .before .before .before .before .before .before .before .before .before .before .before .check-cut-count .ensures) (c .before .before .before .before .before .before .before .before .before .before .before .if1 .left)
 
 pub do-move-refusal-spec : {M : Type 1} → statement M
