@@ -40,17 +40,19 @@ pub record Bounded (allowance : ℕ) (s : Reply (List ℕ)) : Type 0 where
 pub record Onward (allowance : ℕ) (s t : Reply (List ℕ)) : Type 0 where
   pub same : (g : ℕ → ℕ) → total g (t .route) ≡ total g (s .route)
   pub more : s .accepted ≤ t .accepted
+  pub unchanged : t .accepted ≡ s .accepted → t .route ≡ s .route
   pub each : s .examined + t .accepted ≤ t .examined + s .accepted
   pub bounded : Bounded allowance s → Bounded allowance t
 
 onward-none : (allowance : ℕ) (s : Reply (List ℕ)) → Onward allowance s s
-onward-none allowance s = record { same = λ g. refl; more = omega arith; each = omega arith; bounded = λ b. b }
+onward-none allowance s = record { same = λ g. refl; more = omega arith; unchanged = λ e. refl; each = omega arith; bounded = λ b. b }
 
 onward-on : {allowance : ℕ} {s t u : Reply (List ℕ)} → Onward allowance s t → Onward allowance t u → Onward allowance s u
 onward-on a b =
     record {
       same = λ g. b .same g ∙ a .same g;
       more = omega (arith, a .more, b .more);
+      unchanged = λ e. b .unchanged (omega (arith, e, a .more, b .more)) ∙ a .unchanged (omega (arith, e, a .more, b .more));
       each = omega (arith, a .each, b .each);
       bounded = λ h. b .bounded (a .bounded h);
     }
@@ -71,6 +73,7 @@ module _ (P : Problem) (allowance : ℕ) where
           record {
             same = λ g. refl;
             more = omega arith;
+            unchanged = λ e. refl;
             each = omega arith;
             bounded = λ k. record { within = k .within; fewer = k .fewer; spent = λ e. end k (s .finished) refl };
           }
@@ -88,8 +91,8 @@ module _ (P : Problem) (allowance : ℕ) where
           (cond (f && not t) (cond c (so-far (suc (s .examined)) (suc (s .accepted)) (turned i j (s .route))) (so-far (suc (s .examined)) (s .accepted) (s .route))) (spent s))
       by false e t l c = stopped (λ k. absurd (false≢true (sym e ∙ k)))
       by true e true l c = stopped (λ k. eqb-true _ _ l)
-      by true e false l true = record { same = λ g. total-turned g i j (s .route) h; more = omega arith; each = omega arith; bounded = one-more l (omega arith) }
-      by true e false l false = record { same = λ g. refl; more = omega arith; each = omega arith; bounded = one-more l (omega arith) }
+      by true e false l true = record { same = λ g. total-turned g i j (s .route) h; more = omega arith; unchanged = λ k. absurd (omega (arith, k)); each = omega arith; bounded = one-more l (omega arith) }
+      by true e false l false = record { same = λ g. refl; more = omega arith; unchanged = λ k. refl; each = omega arith; bounded = one-more l (omega arith) }
 
   module _ (n : ℕ) where
     onward-row : (s : Reply (List ℕ)) (i : ℕ) → Onward allowance s (row P allowance n s i)
@@ -230,6 +233,7 @@ module _ (P : Problem) (allowance : ℕ) where
       record {
         loop = e;
         same-stops = λ x. ap (λ t. count x (t .route)) e ∙ loop-same-stops r x;
+        unchanged = λ h. ap (λ t. t .route) e ∙ loop-onward r .unchanged (sym (ap (λ t. t .accepted) e) ∙ h);
         within = omega (arith, ap (λ t. t .examined) e, b .within);
         spent = λ f. ap (λ t. t .examined) e ∙ b .spent (sym (ap (λ t. t .finished) e) ∙ f);
       }

@@ -1,4 +1,4 @@
--- The pair loop's runs as one table: what is asked, and what document 01 and its notes on asymmetric legs say. Assumes nothing.
+-- Runs of the pair loop as one table: document 01's, then late turns, asymmetric legs, passes without end and routes without a pair. Assumes nothing.
 use mathlib.Core.Path.{_≡_, refl}
 use mathlib.Core.Bool.{cond}
 use mathlib.Core.List.{List, [], _∷_, map}

@@ -90,5 +90,6 @@ reply-of answer route = record { finished = answer .finished; examined = answer 
 pub record PairsTried (P : Problem) (allowance : ℕ) (route : List ℕ) (answer : PairLoop) (route′ : List ℕ) : Type 0 where
   pub loop : reply-of answer route′ ≡ pair-loop P allowance route
   pub same-stops : (x : ℕ) → count x route′ ≡ count x route
+  pub unchanged : answer .accepted ≡ 0 → route′ ≡ route
   pub within : answer .examined ≤ allowance
   pub spent : answer .finished ≡ false → answer .examined ≡ allowance
