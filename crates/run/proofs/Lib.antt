@@ -2,3 +2,4 @@ pub mod Numbers
 pub mod Outcomes
 pub mod Turn
 pub mod Judged
+pub mod Runs
