@@ -1,10 +1,10 @@
--- `runs::fill_round` is safe and ends. Assumes nothing.
+-- `text_runs::fill_round` is safe and ends. Assumes nothing.
 use Prim.Native.Nat.{_≤_, _-_}
 use mathlib.Core.Path.{_≡_}
 use lib.ListN.{length}
 use borrow.Author.Needs.{needs}
-use Rattle.runs.proofs.fill_round.Statement.{statement}
-use Rattle.runs.proofs.fill_round.Tie as tie
+use Rattle.text_runs.proofs.fill_round.Statement.{statement}
+use Rattle.text_runs.proofs.fill_round.Tie as tie
 
 abbrev Inv-loop : tie.InvT-loop
 Inv-loop header text₀ i₀ i-end text i = (length text ≡ length text₀) × (i-end ≡ length text₀) × (i ≤ i-end)

@@ -1,9 +1,9 @@
--- `runs::show_text` is safe and ends. Assumes nothing.
+-- `text_runs::show_text` is safe and ends. Assumes nothing.
 use lib.ListN.{length-take}
 use native.Mathlib.Omega.{arith}
 use borrow.Author.Needs.{needs}
-use Rattle.runs.proofs.show_text.Statement.{statement}
-use Rattle.runs.proofs.show_text.Tie as tie
+use Rattle.text_runs.proofs.show_text.Statement.{statement}
+use Rattle.text_runs.proofs.show_text.Tie as tie
 
 polish-text-requires : tie.Need-polish-text-requires
 polish-text-requires c κs = search needs
