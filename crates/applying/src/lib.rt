@@ -45,7 +45,7 @@ fn some_beyond(positions: &[usize], n: usize) -> bool
 }
 
 // Whether a cut names another round.
-fn some_other(rounds: &[usize], round: usize) -> bool
+pub fn some_other(rounds: &[usize], round: usize) -> bool
     ensures { λ r. ⌜ r ≡ some (λ s. not (eqb s round)) (now (rounds .entry)) ⌝ }
 {
     let mut i = 0;

@@ -1,1 +1,4 @@
 pub mod Numbers
+pub mod Judging
+pub mod DoMoveReply
+pub mod FirstSix

@@ -1,1 +1,2 @@
 pub mod CutPoints
+pub mod Entries

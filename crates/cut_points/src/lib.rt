@@ -1,8 +1,10 @@
 // Cut points, and a slice of them read into numbers: the functions that take the slice are proved by hand.
 ghost use mathlib.Core.Path.{_≡_};
 ghost use Prim.Native.Nat.{min};
-ghost use lib.ListN.{length};
-ghost use Rattle.cut_points.specs.CutPoints.{cut-at, numbers-of, Holds};
+ghost use lib.ListN.{length, take};
+ghost use Rattle.theory.specs.Refusals.{number, refusal, cut-lists, own-round};
+ghost use Rattle.cut_points.specs.CutPoints.{cut-at, numbers-of, Holds, Sized, rounds-of, positions-of};
+ghost use Rattle.cut_points.specs.Entries.{do-move-rules, DoMoveReply};
 
 // A cut of a round, before a position.
 pub struct CutPoint {
@@ -81,4 +83,110 @@ pub fn cut_numbers(cuts: &[CutPoint]) -> CutNumbers
         cut_or_zero(cuts, 4),
         cut_or_zero(cuts, 5),
     )
+}
+
+fn check_cut_lists(rounds: &[usize], positions: &[usize]) -> u32
+    ensures { λ r. ⌜ r ≡ number (cut-lists (now (rounds .entry)) (now (positions .entry))) ⌝ }
+{
+    if rounds.len() != positions.len() {
+        return 7;
+    }
+    0
+}
+
+fn check_own_round(round: usize, rounds: &[usize]) -> u32
+    ensures { λ r. ⌜ r ≡ number (own-round round (now (rounds .entry))) ⌝ }
+{
+    if applying::some_other(rounds, round) {
+        return 8;
+    }
+    0
+}
+
+fn do_move_refusal(
+    k: usize,
+    pattern: usize,
+    round: usize,
+    n: usize,
+    rounds: &[usize],
+    positions: &[usize],
+    lent: usize,
+) -> u32
+    ensures { λ r. ⌜ r ≡ refusal (do-move-rules k pattern round n (now (rounds .entry)) (now (positions .entry)) lent) ⌝ }
+{
+    let bad_k = refusals::check_cut_count(k);
+    if bad_k != 0 {
+        return bad_k;
+    }
+    let bad_n = refusals::check_stop_count(n);
+    let bad_pattern = refusals::check_pattern_index(k, pattern);
+    let bad_lists = check_cut_lists(rounds, positions);
+    let bad_cuts = refusals::check_cut_positions(k, n, positions);
+    let bad_round = check_own_round(round, rounds);
+    let bad_room = refusals::check_room(n, lent);
+    let bad_list = refusals::first(
+        bad_lists,
+        refusals::first(bad_cuts, refusals::first(bad_round, bad_room)),
+    );
+    refusals::first(bad_n, refusals::first(bad_pattern, bad_list))
+}
+
+// Apply, with the cuts as two lists. Refuses 1, 5, 6, 7, 8, 21.
+pub fn do_move_lists(
+    k: usize,
+    pattern: usize,
+    round: usize,
+    rounds: &[usize],
+    positions: &[usize],
+    route: &mut [u32],
+    journal: &mut [u32],
+) -> u32
+    ensures { λ r. ⌜ DoMoveReply k pattern round (now (rounds .entry)) (now (positions .entry)) (now (route .entry)) (now (journal .entry)) r (now (route .exit)) (now (journal .exit)) ⌝ }
+{
+    let n = route.len();
+    let refused = do_move_refusal(k, pattern, round, n, rounds, positions, journal.len());
+    if refused != 0 {
+        return refused;
+    }
+    applying::k_opt_do_move(k, pattern, positions, route, journal);
+    0
+}
+
+fn do_move_numbers(
+    k: usize,
+    pattern: usize,
+    round: usize,
+    numbers: CutNumbers,
+    route: &mut [u32],
+    journal: &mut [u32],
+) -> u32
+    requires { ⌜ Sized numbers ⌝ }
+    ensures { λ r. ⌜ DoMoveReply k pattern round (take (numbers .len) (numbers .rounds)) (take (numbers .len) (numbers .positions)) (now (route .entry)) (now (journal .entry)) r (now (route .exit)) (now (journal .exit)) ⌝ }
+{
+    let len = numbers.len;
+    let rounds = numbers.rounds;
+    let positions = numbers.positions;
+    do_move_lists(
+        k,
+        pattern,
+        round,
+        &rounds[..len],
+        &positions[..len],
+        route,
+        journal,
+    )
+}
+
+// Apply, with the cuts as a list of cut points. Refuses 1, 5, 6, 7, 8, 21.
+pub fn k_opt_do_move(
+    k: usize,
+    pattern: usize,
+    round: usize,
+    cuts: &[CutPoint],
+    route: &mut [u32],
+    journal: &mut [u32],
+) -> u32
+    ensures { λ r. ⌜ DoMoveReply k pattern round (rounds-of (now (cuts .entry))) (positions-of (now (cuts .entry))) (now (route .entry)) (now (journal .entry)) r (now (route .exit)) (now (journal .exit)) ⌝ }
+{
+    do_move_numbers(k, pattern, round, cut_numbers(cuts), route, journal)
 }

@@ -1,0 +1,32 @@
+-- What apply and doable promise of their cuts: the rules by which they refuse, and their replies.
+use mathlib.Core.Path.{_≡_}
+use mathlib.Core.Bool.{cond}
+use mathlib.Core.List.{List, [], _∷_, _++_}
+use Prim.Native.Nat.{ℕ}
+use lib.Dec.{eqb}
+use lib.ListN.{length, drop}
+use Rattle.theory.specs.Moves.{patterns}
+use Rattle.theory.specs.Route.{reconnected}
+use Rattle.theory.specs.Polish.{move-at}
+use Rattle.theory.specs.Refusals.{Rule, refusal, cut-count, stop-count, pattern-index, cut-lists, cut-positions, own-round, room}
+
+-- One thing where no rule applies, another where the call is refused.
+abbrev pub if-taken : {A : Type 0} → List Rule → A → A → A
+if-taken rules a b = cond (eqb (refusal rules) 0) a b
+
+abbrev pub do-move-rules : ℕ → ℕ → ℕ → ℕ → List ℕ → List ℕ → ℕ → List Rule
+do-move-rules k pattern round n rounds positions lent =
+    cut-count k
+    ∷ stop-count n
+    ∷ pattern-index k pattern
+    ∷ cut-lists rounds positions
+    ∷ cut-positions k n positions
+    ∷ own-round round rounds
+    ∷ room n lent
+    ∷ []
+
+-- "Apply puts the old stops in the first n journal places and leaves those beyond."
+pub record DoMoveReply (k pattern round : ℕ) (rounds positions route journal : List ℕ) (answer : ℕ) (route′ journal′ : List ℕ) : Type 0 where
+  pub number-is : answer ≡ refusal (do-move-rules k pattern round (length route) rounds positions (length journal))
+  pub route-is : route′ ≡ if-taken (do-move-rules k pattern round (length route) rounds positions (length journal)) (reconnected (move-at (patterns k) positions pattern) route) route
+  pub journal-is : journal′ ≡ if-taken (do-move-rules k pattern round (length route) rounds positions (length journal)) (route ++ drop (length route) journal) journal
