@@ -1,7 +1,7 @@
 -- Six cuts decide as much as all of them: k is at most 5, so that with more than 5 cuts the number is 7 or lower. Assumes nothing.
-use mathlib.Core.Path.{_≡_, refl, sym, _∙_}
-use mathlib.Core.Bool.{Bool, true, false}
-use mathlib.Core.List.{List}
+use mathlib.Core.Path.{_≡_, refl, sym, ap, _∙_}
+use mathlib.Core.Bool.{Bool, true, false, cond}
+use mathlib.Core.List.{List, [], _∷_}
 use Prim.Native.Nat.{ℕ, zero, suc, _≤_, _<_}
 use native.Mathlib.Omega.{arith}
 use lib.Dec.{leb}
@@ -9,11 +9,14 @@ use lib.ListN.{length, take, length-take, length-map}
 use lib.Seq.{take-all}
 use borrow.Author.Tests.{leb-true, leb-false, ne-eqb, eq-eqb}
 use Rattle.theory.specs.Refusals.{number, either, refusal, cut-count, stop-count, pattern-index}
+use Rattle.theory.specs.Answers.{Answer, reply}
+use Rattle.theory.specs.declared.Doable.{Doable}
 use Rattle.theory.proofs.Judged.{cut-count-fine}
+use Rattle.applying.specs.Applying.{doable}
 use Rattle.cut_points.specs.declared.CutPoint.{CutPoint}
 use Rattle.cut_points.specs.declared.CutNumbers.{CutNumbers}
 use Rattle.cut_points.specs.CutPoints.{rounds-of, positions-of, Holds}
-use Rattle.cut_points.specs.Entries.{do-move-rules, DoMoveReply}
+use Rattle.cut_points.specs.Entries.{do-move-rules, DoMoveReply, doable-rules, DoableReply}
 use Rattle.cut_points.proofs.Judging.{refused-kept}
 
 module _ (k pattern round n lent : ℕ) where
@@ -71,3 +74,37 @@ pub from-numbers : (k pattern round : ℕ) (cuts : List CutPoint) (held : CutNum
     DoMoveReply k pattern round (rounds-of cuts) (positions-of cuts) route journal answer route′ journal′
 from-numbers k pattern round cuts held route journal answer route′ journal′ h told =
     first-six-do k pattern round (rounds-of cuts) (positions-of cuts) route journal (length-map cuts _ ∙ sym (length-map cuts _)) answer route′ journal′ (rw (h .rounds-held, h .positions-held) at told)
+
+-- ---- the same of doable
+
+module _ (k pattern round n : ℕ) (rounds positions : List ℕ) (same : length rounds ≡ length positions) where
+  alike : k ≤ 5 → doable k round n (take 6 rounds) (take 6 positions) ≡ doable k round n rounds positions
+  alike h = by (leb (length rounds) 6) refl
+    where
+      by : (b : Bool) → leb (length rounds) 6 ≡ b → doable k round n (take 6 rounds) (take 6 positions) ≡ doable k round n rounds positions
+      by true e =
+          let l : length rounds ≤ 6 = leb-true _ _ e in
+          let r : take 6 rounds ≡ rounds = take-all 6 rounds l in
+          let p : take 6 positions ≡ positions = take-all 6 positions (omega (arith, same, l)) in
+          rw (r, p)
+      by false e =
+          let l : 6 < length rounds = leb-false _ _ e in
+          let six : length (take 6 rounds) ≡ 6 = simp length-take (omega (arith, l)) in
+          rw (ne-eqb (length (take 6 rounds)) k (λ z. omega (arith, h, six)), ne-eqb (length rounds) k (λ z. omega (arith, h, l)))
+
+  abbrev said : Bool → Answer ℕ
+  said d = reply (refusal (doable-rules k pattern n)) (cond d 1 0 ∷ [])
+
+  first-six-doable : said (doable k round n (take 6 rounds) (take 6 positions)) ≡ said (doable k round n rounds positions)
+  unfolding refusal either
+  first-six-doable = by (cut-count k .1) refl
+    where
+      by : (b : Bool) → cut-count k .1 ≡ b → said (doable k round n (take 6 rounds) (take 6 positions)) ≡ said (doable k round n rounds positions)
+      by true e = rw e
+      by false e = ap said (alike (cut-count-fine k e .1))
+
+pub doable-from-numbers : (k pattern round n : ℕ) (cuts : List CutPoint) (held : CutNumbers) (answer : Doable) → Holds cuts held →
+    DoableReply k pattern round n (take (held .len) (held .rounds)) (take (held .len) (held .positions)) answer → DoableReply k pattern round n (rounds-of cuts) (positions-of cuts) answer
+doable-from-numbers k pattern round n cuts held answer h told =
+    let six : DoableReply k pattern round n (take 6 (rounds-of cuts)) (take 6 (positions-of cuts)) answer = rw (h .rounds-held, h .positions-held) at told in
+    record { reply-is = six .reply-is ∙ first-six-doable k pattern round n (rounds-of cuts) (positions-of cuts) (length-map cuts _ ∙ sym (length-map cuts _)) }

@@ -8,6 +8,9 @@ use lib.ListN.{length, drop}
 use Rattle.theory.specs.Moves.{patterns}
 use Rattle.theory.specs.Route.{reconnected}
 use Rattle.theory.specs.Polish.{move-at}
+use Rattle.theory.specs.Answers.{reply, doable-answer}
+use Rattle.theory.specs.declared.Doable.{Doable}
+use Rattle.applying.specs.Applying.{doable}
 use Rattle.theory.specs.Refusals.{Rule, refusal, cut-count, stop-count, pattern-index, cut-lists, cut-positions, own-round, room}
 
 -- One thing where no rule applies, another where the call is refused.
@@ -30,3 +33,10 @@ pub record DoMoveReply (k pattern round : ℕ) (rounds positions route journal :
   pub number-is : answer ≡ refusal (do-move-rules k pattern round (length route) rounds positions (length journal))
   pub route-is : route′ ≡ if-taken (do-move-rules k pattern round (length route) rounds positions (length journal)) (reconnected (move-at (patterns k) positions pattern) route) route
   pub journal-is : journal′ ≡ if-taken (do-move-rules k pattern round (length route) rounds positions (length journal)) (route ++ drop (length route) journal) journal
+
+-- "Answers yes or no and gives only 1, 5 and 6."
+abbrev pub doable-rules : ℕ → ℕ → ℕ → List Rule
+doable-rules k pattern n = cut-count k ∷ stop-count n ∷ pattern-index k pattern ∷ []
+
+pub record DoableReply (k pattern round n : ℕ) (rounds positions : List ℕ) (answer : Doable) : Type 0 where
+  pub reply-is : doable-answer answer ≡ reply (refusal (doable-rules k pattern n)) (cond (doable k round n rounds positions) 1 0 ∷ [])

@@ -4,7 +4,8 @@ ghost use Prim.Native.Nat.{min};
 ghost use lib.ListN.{length, take};
 ghost use Rattle.theory.specs.Refusals.{number, refusal, cut-lists, own-round};
 ghost use Rattle.cut_points.specs.CutPoints.{cut-at, numbers-of, Holds, Sized, rounds-of, positions-of};
-ghost use Rattle.cut_points.specs.Entries.{do-move-rules, DoMoveReply};
+ghost use Rattle.cut_points.specs.Entries.{do-move-rules, DoMoveReply, doable-rules, DoableReply};
+use theory::Doable;
 
 // A cut of a round, before a position.
 pub struct CutPoint {
@@ -189,4 +190,66 @@ pub fn k_opt_do_move(
     ensures { λ r. ⌜ DoMoveReply k pattern round (rounds-of (now (cuts .entry))) (positions-of (now (cuts .entry))) (now (route .entry)) (now (journal .entry)) r (now (route .exit)) (now (journal .exit)) ⌝ }
 {
     do_move_numbers(k, pattern, round, cut_numbers(cuts), route, journal)
+}
+
+fn is_doable_refusal(k: usize, pattern: usize, n: usize) -> u32
+    ensures { λ r. ⌜ r ≡ refusal (doable-rules k pattern n) ⌝ }
+{
+    let bad_k = refusals::check_cut_count(k);
+    if bad_k != 0 {
+        return bad_k;
+    }
+    let bad_n = refusals::check_stop_count(n);
+    let bad_pattern = refusals::check_pattern_index(k, pattern);
+    refusals::first(bad_n, bad_pattern)
+}
+
+// Whether a move can be done, with the cuts as two lists. Refuses 1, 5, 6.
+pub fn is_doable_lists(
+    k: usize,
+    pattern: usize,
+    round: usize,
+    n: usize,
+    rounds: &[usize],
+    positions: &[usize],
+) -> Doable
+    ensures { λ r. ⌜ DoableReply k pattern round n (now (rounds .entry)) (now (positions .entry)) r ⌝ }
+{
+    let refused = is_doable_refusal(k, pattern, n);
+    if refused != 0 {
+        return Doable::Refused(refused);
+    }
+    if applying::k_opt_is_doable(k, round, n, rounds, positions) {
+        return Doable::Yes;
+    }
+    Doable::No
+}
+
+fn is_doable_numbers(
+    k: usize,
+    pattern: usize,
+    round: usize,
+    n: usize,
+    numbers: CutNumbers,
+) -> Doable
+    requires { ⌜ Sized numbers ⌝ }
+    ensures { λ r. ⌜ DoableReply k pattern round n (take (numbers .len) (numbers .rounds)) (take (numbers .len) (numbers .positions)) r ⌝ }
+{
+    let len = numbers.len;
+    let rounds = numbers.rounds;
+    let positions = numbers.positions;
+    is_doable_lists(k, pattern, round, n, &rounds[..len], &positions[..len])
+}
+
+// Whether a move can be done, with the cuts as a list of cut points. Refuses 1, 5, 6.
+pub fn k_opt_is_doable(
+    k: usize,
+    pattern: usize,
+    round: usize,
+    n: usize,
+    cuts: &[CutPoint],
+) -> Doable
+    ensures { λ r. ⌜ DoableReply k pattern round n (rounds-of (now (cuts .entry))) (positions-of (now (cuts .entry))) r ⌝ }
+{
+    is_doable_numbers(k, pattern, round, n, cut_numbers(cuts))
 }
