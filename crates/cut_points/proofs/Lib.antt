@@ -1,5 +1,1 @@
 pub mod Numbers
-pub mod Judging
-pub mod DoMoveReply
-pub mod DoableReply
-pub mod FirstSix

@@ -1,2 +1,1 @@
 pub mod CutPoints
-pub mod Entries

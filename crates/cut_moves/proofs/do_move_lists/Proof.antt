@@ -1,8 +1,8 @@
--- `cut_points::do_move_lists` meets its contract. Assumes nothing.
-use Rattle.cut_points.proofs.DoMoveReply.{refused, fine, done}
+-- `cut_moves::do_move_lists` meets its contract. Assumes nothing.
+use Rattle.cut_moves.proofs.DoMoveReply.{refused, fine, done}
 use borrow.Author.Needs.{needs}
-use Rattle.cut_points.proofs.do_move_lists.Statement.{statement}
-use Rattle.cut_points.proofs.do_move_lists.Tie as tie
+use Rattle.cut_moves.proofs.do_move_lists.Statement.{statement}
+use Rattle.cut_moves.proofs.do_move_lists.Tie as tie
 
 do-move-refusal-requires : tie.Need-do-move-refusal-requires
 do-move-refusal-requires c κs = search needs

@@ -1,8 +1,7 @@
--- `cut_points::check_cut_lists` meets its contract. Assumes nothing.
+-- `cut_moves::check_cut_lists` meets its contract. Assumes nothing.
 use borrow.Author.Tests.{ne-eqb, eq-eqb}
-use borrow.Author.Needs.{needs}
-use Rattle.cut_points.proofs.check_cut_lists.Statement.{statement}
-use Rattle.cut_points.proofs.check_cut_lists.Tie as tie
+use Rattle.cut_moves.proofs.check_cut_lists.Statement.{statement}
+use Rattle.cut_moves.proofs.check_cut_lists.Tie as tie
 
 returns : tie.Need-returns
 returns c = simp (ne-eqb _ _ (c .if1 .taken))

@@ -1,6 +1,6 @@
--- `cut_points::k_opt_is_doable` meets its contract: a walk of its MIR, by hand. The cut points are passed to `cut_numbers`, and what it answers to `is_doable_numbers`; of both only their contracts are known.
+-- `cut_moves::k_opt_is_doable` meets its contract: a walk of its MIR, by hand. The cut points are passed to `cut_numbers`, and what it answers to `is_doable_numbers`; of both only their contracts are known.
 -- Assumes nothing.
-use mathlib.Core.Path.{_≡_, refl}
+use mathlib.Core.Path.{refl}
 use Prim.Native.Nat.{ℕ, _<_, _^_}
 use mathlib.Core.List.{List, [], _∷_}
 use lib.ListN.{length, take}
@@ -36,29 +36,29 @@ use denote.Triple.Spec.{Meets, tripleOf}
 use denote.Triple.Table.{entered, cited}
 use denote.Triple.Clauses.{ensured, lasts}
 use denote.Triple.Walked.{says, Stays, stay-none, stay-none-slice, walkOf, Walks, ends-at, walked, goes-none, goes-none-slice, walk-meets}
 use Rattle.cut_points.specs.CutPoints.{Holds, Sized, rounds-of, positions-of}
-use Rattle.cut_points.specs.Entries.{DoableReply}
+use Rattle.cut_moves.specs.Entries.{DoableReply}
 use Rattle.cut_points.specs.declared.CutPoint.{CutPoint}
 use Rattle.cut_points.specs.declared.CutNumbers.{CutNumbers}
-use Rattle.cut_points.proofs.FirstSix.{doable-from-numbers}
+use Rattle.cut_moves.proofs.FirstSix.{doable-from-numbers}
 use Rattle.theory.specs.declared.Doable.{Doable}
 use Rattle.theory.proofs.Doable as D
 use Rattle.theory.proofs.Doable.Laws as D′
 use Rattle.cut_points.proofs.CutPoint as T
 use Rattle.cut_points.proofs.CutNumbers as N
 use Rattle.cut_points.proofs.CutNumbers.Laws as N′
 use Rattle.cut_points.proofs.cut_numbers as nums
 use Rattle.cut_points.proofs.cut_numbers.Symbol as nums-def
 use Rattle.cut_points.proofs.cut_numbers.Symbol.{name as #cut-points·cut-numbers}
 use Rattle.cut_points.proofs.cut_numbers.Met as nums-thm
-use Rattle.cut_points.proofs.is_doable_numbers as doable
-use Rattle.cut_points.proofs.is_doable_numbers.Symbol as doable-def
-use Rattle.cut_points.proofs.is_doable_numbers.Symbol.{name as #cut-points·is-doable-numbers}
-use Rattle.cut_points.proofs.is_doable_numbers.Met as doable-thm
-use Rattle.cut_points.proofs.k_opt_is_doable.Key.{name as #cut-points·k-opt-is-doable}
-use Rattle.cut_points.proofs.k_opt_is_doable as f
-use Rattle.cut_points.proofs.k_opt_is_doable.Statement as stated
-use Rattle.cut_points.proofs.k_opt_is_doable.Code as code
+use Rattle.cut_moves.proofs.is_doable_numbers as doable
+use Rattle.cut_moves.proofs.is_doable_numbers.Symbol as doable-def
+use Rattle.cut_moves.proofs.is_doable_numbers.Symbol.{name as #cut-moves·is-doable-numbers}
+use Rattle.cut_moves.proofs.is_doable_numbers.Met as doable-thm
+use Rattle.cut_moves.proofs.k_opt_is_doable.Key.{name as #cut-moves·k-opt-is-doable}
+use Rattle.cut_moves.proofs.k_opt_is_doable as f
+use Rattle.cut_moves.proofs.k_opt_is_doable.Statement as stated
+use Rattle.cut_moves.proofs.k_opt_is_doable.Code as code
 
 abbrev stayed : Stays (f.ended .signature .params) (f.ended .kept)
 stayed = (stay-none (λ _. usize) yes, (stay-none (λ _. usize) yes, (stay-none (λ _. usize) yes, (stay-none (λ _. usize) yes, (stay-none-slice (0 ∷ []) tt (plain (λ _. T.the-row)) yes, tt)))))
@@ -136,7 +136,7 @@ module _ {M : Type 1} (𝓤 : URA M) (H : Heap 𝓤) (A : Atoms 𝓤) (W : Given
       move ! (1 ∷ []) $ frame ! $ nothing ! $ move ! (2 ∷ 0 ∷ []) $ fjoin ! $
       owned ! usize (Is usize) (uint-makes 𝓤 H A W w64) n _ (refl, n-fits) $ fjoin ! $ owned ! usize (Is usize) (uint-makes 𝓤 H A W w64) round _ (refl, round-fits) $ fjoin ! $ owned ! usize (Is usize) (uint-makes 𝓤 H A W w64) pattern _ (refl, pattern-fits) $ fjoin ! $ owned ! usize (Is usize) (uint-makes 𝓤 H A W w64) k _ (refl, k-fits) $ fjoin ! $ frame ! $ done !
 
-  module _ (C : Calls 𝓤 H) (Λ : Loops 𝓤 H) (fm : FmC 𝓤 H (W .laws) C) (known-nums : Triple 𝓤 (C #cut-points·cut-numbers) (Nums 𝓤 H A mem run)) (known-judge : Triple 𝓤 (C #cut-points·is-doable-numbers) (Judge 𝓤 H A mem run)) where
+  module _ (C : Calls 𝓤 H) (Λ : Loops 𝓤 H) (fm : FmC 𝓤 H (W .laws) C) (known-nums : Triple 𝓤 (C #cut-points·cut-numbers) (Nums 𝓤 H A mem run)) (known-judge : Triple 𝓤 (C #cut-moves·is-doable-numbers) (Judge 𝓤 H A mem run)) where
     walk : Room T.the-row (length (s .now)) → ent 𝓤 (onEntry 𝓤 H A f.signature (κ, tt) (q, tt) a at) (WpFn 𝓤 H C Λ code.function (vint w64 k ∷ vint w64 pattern ∷ vint w64 round ∷ vint w64 n ∷ v ∷ []) Post)
     walk room =
         qed W ((‵ (flft κ q) ⊛ ‵ ftrue) ∷ ‵ (owns (usize ∷ usize ∷ usize ∷ usize ∷ ShrSlice (named 0) κ T.the-row ∷ []) a at) ∷ []) ∵
@@ -166,7 +166,7 @@ module _ {M : Type 1} (𝓤 : URA M) (H : Heap 𝓤) (A : Atoms 𝓤) (W : Given
         by ! (exits r u (doable-from-numbers k pattern round n (now s) h r held e)))))))))))))))))
 
 module _ {M : Type 1} (𝓤 : URA M) (H : Heap 𝓤) (A : Atoms 𝓤) (W : Given 𝓤 H A) (mem : Memory → SProp 𝓤) (run : Routine → Fun 𝓤) where
-  doable-walks : (C : Calls 𝓤 H) (Λ : Loops 𝓤 H) → FmC 𝓤 H (W .laws) C → Triple 𝓤 (C #cut-points·cut-numbers) (Nums 𝓤 H A mem run) → Triple 𝓤 (C #cut-points·is-doable-numbers) (Judge 𝓤 H A mem run)
+  doable-walks : (C : Calls 𝓤 H) (Λ : Loops 𝓤 H) → FmC 𝓤 H (W .laws) C → Triple 𝓤 (C #cut-points·cut-numbers) (Nums 𝓤 H A mem run) → Triple 𝓤 (C #cut-moves·is-doable-numbers) (Judge 𝓤 H A mem run)
       → Walks 𝓤 H A f.ended stayed (WpFn 𝓤 H C Λ code.function) (f.clauses 𝓤 H A mem run)
   doable-walks C Λ fm known-nums known-judge = walked 𝓤 H A f.ended stayed (f.clauses 𝓤 H A mem run) (WpFn 𝓤 H C Λ code.function)
       (λ κs. (uint-vals w64, (uint-vals w64, (uint-vals w64, (uint-vals w64, (slice-vals, tt)))))) (λ κs. (uint-tells w64, (uint-tells w64, (uint-tells w64, (uint-tells w64, (shr-slice-tells (named 0) (κs .0) T.the-row, tt))))))
@@ -174,7 +174,7 @@ module _ {M : Type 1} (𝓤 : URA M) (H : Heap 𝓤) (A : Atoms 𝓤) (W : Given
       (walk 𝓤 H A W mem run (κs .0) (qs .0) (a .0) (a .1 .0) (a .1 .1 .0) (a .1 .1 .1 .0) (a .1 .1 .1 .1 .0) (are .0 .1) (are .1 .0 .1) (are .1 .1 .0 .1) (are .1 .1 .1 .0 .1) C Λ fm known-nums known-judge (are .1 .1 .1 .1 .0 .0 .1)))
 
 doable-meets : {M : Type 1} (𝓤 : URA M) (H : Heap 𝓤) (A : Atoms 𝓤) (W : Given 𝓤 H A) (mem : Memory → SProp 𝓤) (run : Routine → Fun 𝓤) (𝓣 : Tables 𝓤 H)
-    → Triple 𝓤 (𝓣 .C #cut-points·cut-numbers) (Nums 𝓤 H A mem run) → Triple 𝓤 (𝓣 .C #cut-points·is-doable-numbers) (Judge 𝓤 H A mem run)
+    → Triple 𝓤 (𝓣 .C #cut-points·cut-numbers) (Nums 𝓤 H A mem run) → Triple 𝓤 (𝓣 .C #cut-moves·is-doable-numbers) (Judge 𝓤 H A mem run)
     → Meets 𝓤 H A f.signature (WpFn 𝓤 H (𝓣 .C) (𝓣 .Λ) code.function) (f.spec 𝓤 H A mem run)
 doable-meets 𝓤 H A W mem run 𝓣 known-nums known-judge =
     walk-meets 𝓤 H A f.ended stayed W (
@@ -194,7 +194,7 @@ pub k-opt-is-doable-spec : {M : Type 1} → stated.statement M
 unfolding code.routine tablesOf
 k-opt-is-doable-spec 𝓤 H 𝓜 𝓖 𝓡 =
     entered 𝓤 H (tripleOf 𝓤 H (𝓖 .A) f.signature (f.spec 𝓤 H (𝓖 .A) (𝓜 .mem) (𝓡 .run)))
-    (tables 𝓤 H 𝓜 𝓡 code.env .C) (tables 𝓤 H 𝓜 𝓡 code.env .Λ) #cut-points·k-opt-is-doable code.function (code.unfolded 𝓤 H 𝓜 𝓡)
+    (tables 𝓤 H 𝓜 𝓡 code.env .C) (tables 𝓤 H 𝓜 𝓡 code.env .Λ) #cut-moves·k-opt-is-doable code.function (code.unfolded 𝓤 H 𝓜 𝓡)
     (doable-meets 𝓤 H (𝓖 .A) (givenOf 𝓤 H 𝓜 𝓖) (𝓜 .mem) (𝓡 .run) (tablesOf 𝓤 H 𝓜 (tables 𝓤 H 𝓜 𝓡 code.env))
     (cited 𝓤 H (Nums 𝓤 H (𝓖 .A) (𝓜 .mem) (𝓡 .run)) 𝓜 𝓡 code.env #cut-points·cut-numbers nums-def.routine code.calls-cut-points·cut-numbers (nums-thm.met 𝓤 H 𝓜 𝓖 𝓡))
-    (cited 𝓤 H (Judge 𝓤 H (𝓖 .A) (𝓜 .mem) (𝓡 .run)) 𝓜 𝓡 code.env #cut-points·is-doable-numbers doable-def.routine code.calls-cut-points·is-doable-numbers (doable-thm.met 𝓤 H 𝓜 𝓖 𝓡)))
+    (cited 𝓤 H (Judge 𝓤 H (𝓖 .A) (𝓜 .mem) (𝓡 .run)) 𝓜 𝓡 code.env #cut-moves·is-doable-numbers doable-def.routine code.calls-cut-moves·is-doable-numbers (doable-thm.met 𝓤 H 𝓜 𝓖 𝓡)))

@@ -1,8 +1,8 @@
--- `cut_points::is_doable_lists` meets its contract. Assumes nothing.
-use Rattle.cut_points.proofs.DoableReply.{refused, yes, no}
+-- `cut_moves::is_doable_lists` meets its contract. Assumes nothing.
+use Rattle.cut_moves.proofs.DoableReply.{refused, yes, no}
 use borrow.Author.Needs.{needs}
-use Rattle.cut_points.proofs.is_doable_lists.Statement.{statement}
-use Rattle.cut_points.proofs.is_doable_lists.Tie as tie
+use Rattle.cut_moves.proofs.is_doable_lists.Statement.{statement}
+use Rattle.cut_moves.proofs.is_doable_lists.Tie as tie
 
 is-doable-refusal-requires : tie.Need-is-doable-refusal-requires
 is-doable-refusal-requires c κs = search needs

@@ -10,8 +10,8 @@ use Rattle.theory.specs.Refusals.{Rule, refusal}
 use Rattle.theory.proofs.Refusals.{known}
 use Rattle.applying.specs.Applying.{Appliable, Applied}
 use Rattle.applying.proofs.Judged.{appliable-fine}
-use Rattle.cut_points.specs.Entries.{do-move-rules, DoMoveReply}
-use Rattle.cut_points.proofs.Judging.{refused-kept, taken-done, taken-passes}
+use Rattle.cut_moves.specs.Entries.{do-move-rules, DoMoveReply}
+use Rattle.cut_moves.proofs.Judging.{refused-kept, taken-done, taken-passes}
 
 module _ (k pattern round : ℕ) (rounds positions route journal : List ℕ) where
   abbrev rules : List Rule

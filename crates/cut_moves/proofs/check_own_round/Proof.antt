@@ -1,8 +1,8 @@
--- `cut_points::check_own_round` meets its contract. Assumes nothing.
+-- `cut_moves::check_own_round` meets its contract. Assumes nothing.
 use mathlib.Core.Path.{sym, _∙_}
 use borrow.Author.Needs.{needs}
-use Rattle.cut_points.proofs.check_own_round.Statement.{statement}
-use Rattle.cut_points.proofs.check_own_round.Tie as tie
+use Rattle.cut_moves.proofs.check_own_round.Statement.{statement}
+use Rattle.cut_moves.proofs.check_own_round.Tie as tie
 
 some-other-requires : tie.Need-some-other-requires
 some-other-requires c κs = search needs

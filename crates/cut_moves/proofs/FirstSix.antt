@@ -13,11 +13,11 @@ use Rattle.theory.specs.Answers.{Answer, reply}
 use Rattle.theory.specs.declared.Doable.{Doable}
 use Rattle.theory.proofs.Judged.{cut-count-fine}
 use Rattle.applying.specs.Applying.{doable}
 use Rattle.cut_points.specs.declared.CutPoint.{CutPoint}
 use Rattle.cut_points.specs.declared.CutNumbers.{CutNumbers}
 use Rattle.cut_points.specs.CutPoints.{rounds-of, positions-of, Holds}
-use Rattle.cut_points.specs.Entries.{do-move-rules, DoMoveReply, doable-rules, DoableReply}
-use Rattle.cut_points.proofs.Judging.{refused-kept}
+use Rattle.cut_moves.specs.Entries.{do-move-rules, DoMoveReply, doable-rules, DoableReply}
+use Rattle.cut_moves.proofs.Judging.{refused-kept}
 
 module _ (k pattern round n lent : ℕ) where
   abbrev many : ℕ

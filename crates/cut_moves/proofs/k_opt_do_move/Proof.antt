@@ -1,4 +1,4 @@
--- `cut_points::k_opt_do_move` meets its contract: a walk of its MIR, by hand. The cut points are passed to `cut_numbers`, and what it answers, with the route and the journal, to `do_move_numbers`; of both only their contracts are known.
+-- `cut_moves::k_opt_do_move` meets its contract: a walk of its MIR, by hand. The cut points are passed to `cut_numbers`, and what it answers, with the route and the journal, to `do_move_numbers`; of both only their contracts are known.
 -- The callee has the route and the journal at their own lifetimes, shares and ghost names: the borrows are given up for good, and what it says of the last lists is what is said at exit (`gave-slice`).
 -- Assumes nothing.
 use mathlib.Core.Path.{_≡_, refl}
@@ -16,7 +16,7 @@ use prog.Wp.{Heap, Calls, Loops, WpFn, Tables}
 use ghost.Atoms.{Atoms, sem}
 use contract.Monad.{Fun, fact}
 use contract.Running.{givenOf, tables, tablesOf}
-use types.Kit.{Given, Item, ‵, raw, _⊛_, ⋆, some, later, _$_, _∵_, !, qed, by, move, keep, drop, use1, use2, use3, split, join, pick, fsplit, fjoin, feqL, suffices, frame, await, done}
+use types.Kit.{Given, ‵, raw, _⊛_, ⋆, some, later, _$_, _∵_, !, qed, by, move, keep, drop, use1, use2, use3, split, join, pick, fsplit, fjoin, feqL, suffices, frame, await, done}
 use types.Part.{agg, whole, sub, look-in}
 use types.Run.{look, init, forget, stop, hop, fld, from, load, addr, and-then, no-more, assigns, land, returns, enter, alloc1, alloc0, params1, pass1, pass0, free1, free0}
 use sound.WpLaws.{FmC, fmOf, WpFn-mono}
@@ -37,26 +37,26 @@ use denote.Triple.Spec.{Meets, tripleOf}
 use denote.Triple.Table.{entered, cited}
 use denote.Triple.Clauses.{Lasts, ensured, lasts}
 use denote.Triple.Walked.{says, Stays, stay-none, stay-none-slice, gave-slice, walkOf, Walks, ends-at, walked, goes-none, goes-none-slice, goes-gave-slice, walk-meets}
 use Rattle.cut_points.specs.CutPoints.{Holds, Sized, rounds-of, positions-of}
-use Rattle.cut_points.specs.Entries.{DoMoveReply}
+use Rattle.cut_moves.specs.Entries.{DoMoveReply}
 use Rattle.cut_points.specs.declared.CutPoint.{CutPoint}
 use Rattle.cut_points.specs.declared.CutNumbers.{CutNumbers}
-use Rattle.cut_points.proofs.FirstSix.{from-numbers}
+use Rattle.cut_moves.proofs.FirstSix.{from-numbers}
 use Rattle.cut_points.proofs.CutPoint as T
 use Rattle.cut_points.proofs.CutNumbers as N
 use Rattle.cut_points.proofs.CutNumbers.Laws as N′
 use Rattle.cut_points.proofs.cut_numbers as nums
 use Rattle.cut_points.proofs.cut_numbers.Symbol as nums-def
 use Rattle.cut_points.proofs.cut_numbers.Symbol.{name as #cut-points·cut-numbers}
 use Rattle.cut_points.proofs.cut_numbers.Met as nums-thm
-use Rattle.cut_points.proofs.do_move_numbers as do-move
-use Rattle.cut_points.proofs.do_move_numbers.Symbol as do-move-def
-use Rattle.cut_points.proofs.do_move_numbers.Symbol.{name as #cut-points·do-move-numbers}
-use Rattle.cut_points.proofs.do_move_numbers.Met as do-move-thm
-use Rattle.cut_points.proofs.k_opt_do_move.Key.{name as #cut-points·k-opt-do-move}
-use Rattle.cut_points.proofs.k_opt_do_move as f
-use Rattle.cut_points.proofs.k_opt_do_move.Statement as stated
-use Rattle.cut_points.proofs.k_opt_do_move.Code as code
+use Rattle.cut_moves.proofs.do_move_numbers as do-move
+use Rattle.cut_moves.proofs.do_move_numbers.Symbol as do-move-def
+use Rattle.cut_moves.proofs.do_move_numbers.Symbol.{name as #cut-moves·do-move-numbers}
+use Rattle.cut_moves.proofs.do_move_numbers.Met as do-move-thm
+use Rattle.cut_moves.proofs.k_opt_do_move.Key.{name as #cut-moves·k-opt-do-move}
+use Rattle.cut_moves.proofs.k_opt_do_move as f
+use Rattle.cut_moves.proofs.k_opt_do_move.Statement as stated
+use Rattle.cut_moves.proofs.k_opt_do_move.Code as code
 
 abbrev stayed : Stays (f.ended .signature .params) (f.ended .kept)
 stayed = (stay-none (λ _. usize) yes, (stay-none (λ _. usize) yes, (stay-none (λ _. usize) yes, (stay-none-slice (0 ∷ []) tt (plain (λ _. T.the-row)) yes, (gave-slice (1 ∷ []) tt (plain (λ _. u32)), (gave-slice (2 ∷ []) tt (plain (λ _. u32)), tt))))))
@@ -147,7 +147,7 @@ module _ {M : Type 1} (𝓤 : URA M) (H : Heap 𝓤) (A : Atoms 𝓤) (W : Given
       owned ! usize (Is usize) (uint-makes 𝓤 H A W w64) round _ (refl, round-fits) $ fjoin ! $ owned ! usize (Is usize) (uint-makes 𝓤 H A W w64) pattern _ (refl, pattern-fits) $ fjoin ! $
       owned ! usize (Is usize) (uint-makes 𝓤 H A W w64) k _ (refl, k-fits) $ fjoin ! $ frame ! $ done !
 
-  module _ (C : Calls 𝓤 H) (Λ : Loops 𝓤 H) (fm : FmC 𝓤 H (W .laws) C) (known-nums : Triple 𝓤 (C #cut-points·cut-numbers) (Nums 𝓤 H A mem run)) (known-do-move : Triple 𝓤 (C #cut-points·do-move-numbers) (DoMove 𝓤 H A mem run)) where
+  module _ (C : Calls 𝓤 H) (Λ : Loops 𝓤 H) (fm : FmC 𝓤 H (W .laws) C) (known-nums : Triple 𝓤 (C #cut-points·cut-numbers) (Nums 𝓤 H A mem run)) (known-do-move : Triple 𝓤 (C #cut-moves·do-move-numbers) (DoMove 𝓤 H A mem run)) where
     walk : Room T.the-row (length (s .now)) → Room u32 (length (route .now)) → Room u32 (length (journal .now))
         → ent 𝓤 (onEntry 𝓤 H A f.signature (κ₀, (κ₁, (κ₂, tt))) (q₀, (q₁, (q₂, tt))) a at) (WpFn 𝓤 H C Λ code.function (vint w64 k ∷ vint w64 pattern ∷ vint w64 round ∷ v ∷ vr ∷ vj ∷ []) Post)
     walk room room-r room-j =
@@ -185,7 +185,7 @@ module _ {M : Type 1} (𝓤 : URA M) (H : Heap 𝓤) (A : Atoms 𝓤) (W : Given
         keep ! (5 ∷ 1 ∷ 0 ∷ 6 ∷ 4 ∷ 2 ∷ []) $ by ! (exits r u (zs .1 .1 .1 .1 .0) (zs .1 .1 .1 .1 .1 .0) (from-numbers k pattern round (now s) h (now route) (now journal) r _ _ held e) lr lj))))))))))))))))))))))))
 
 module _ {M : Type 1} (𝓤 : URA M) (H : Heap 𝓤) (A : Atoms 𝓤) (W : Given 𝓤 H A) (mem : Memory → SProp 𝓤) (run : Routine → Fun 𝓤) where
-  do-move-walks : (C : Calls 𝓤 H) (Λ : Loops 𝓤 H) → FmC 𝓤 H (W .laws) C → Triple 𝓤 (C #cut-points·cut-numbers) (Nums 𝓤 H A mem run) → Triple 𝓤 (C #cut-points·do-move-numbers) (DoMove 𝓤 H A mem run)
+  do-move-walks : (C : Calls 𝓤 H) (Λ : Loops 𝓤 H) → FmC 𝓤 H (W .laws) C → Triple 𝓤 (C #cut-points·cut-numbers) (Nums 𝓤 H A mem run) → Triple 𝓤 (C #cut-moves·do-move-numbers) (DoMove 𝓤 H A mem run)
       → Walks 𝓤 H A f.ended stayed (WpFn 𝓤 H C Λ code.function) (f.clauses 𝓤 H A mem run)
   do-move-walks C Λ fm known-nums known-do-move = walked 𝓤 H A f.ended stayed (f.clauses 𝓤 H A mem run) (WpFn 𝓤 H C Λ code.function)
       (λ κs. (uint-vals w64, (uint-vals w64, (uint-vals w64, (slice-vals, (slice-vals, (slice-vals, tt)))))))
@@ -195,7 +195,7 @@ module _ {M : Type 1} (𝓤 : URA M) (H : Heap 𝓤) (A : Atoms 𝓤) (W : Given
       C Λ fm known-nums known-do-move (are .1 .1 .1 .0 .0 .1) (are .1 .1 .1 .1 .0 .0 .1) (are .1 .1 .1 .1 .1 .0 .0 .1)))
 
 do-move-meets : {M : Type 1} (𝓤 : URA M) (H : Heap 𝓤) (A : Atoms 𝓤) (W : Given 𝓤 H A) (mem : Memory → SProp 𝓤) (run : Routine → Fun 𝓤) (𝓣 : Tables 𝓤 H)
-    → Triple 𝓤 (𝓣 .C #cut-points·cut-numbers) (Nums 𝓤 H A mem run) → Triple 𝓤 (𝓣 .C #cut-points·do-move-numbers) (DoMove 𝓤 H A mem run)
+    → Triple 𝓤 (𝓣 .C #cut-points·cut-numbers) (Nums 𝓤 H A mem run) → Triple 𝓤 (𝓣 .C #cut-moves·do-move-numbers) (DoMove 𝓤 H A mem run)
     → Meets 𝓤 H A f.signature (WpFn 𝓤 H (𝓣 .C) (𝓣 .Λ) code.function) (f.spec 𝓤 H A mem run)
 do-move-meets 𝓤 H A W mem run 𝓣 known-nums known-do-move =
     walk-meets 𝓤 H A f.ended stayed W (
@@ -215,7 +215,7 @@ pub k-opt-do-move-spec : {M : Type 1} → stated.statement M
 unfolding code.routine tablesOf
 k-opt-do-move-spec 𝓤 H 𝓜 𝓖 𝓡 =
     entered 𝓤 H (tripleOf 𝓤 H (𝓖 .A) f.signature (f.spec 𝓤 H (𝓖 .A) (𝓜 .mem) (𝓡 .run)))
-    (tables 𝓤 H 𝓜 𝓡 code.env .C) (tables 𝓤 H 𝓜 𝓡 code.env .Λ) #cut-points·k-opt-do-move code.function (code.unfolded 𝓤 H 𝓜 𝓡)
+    (tables 𝓤 H 𝓜 𝓡 code.env .C) (tables 𝓤 H 𝓜 𝓡 code.env .Λ) #cut-moves·k-opt-do-move code.function (code.unfolded 𝓤 H 𝓜 𝓡)
     (do-move-meets 𝓤 H (𝓖 .A) (givenOf 𝓤 H 𝓜 𝓖) (𝓜 .mem) (𝓡 .run) (tablesOf 𝓤 H 𝓜 (tables 𝓤 H 𝓜 𝓡 code.env))
     (cited 𝓤 H (Nums 𝓤 H (𝓖 .A) (𝓜 .mem) (𝓡 .run)) 𝓜 𝓡 code.env #cut-points·cut-numbers nums-def.routine code.calls-cut-points·cut-numbers (nums-thm.met 𝓤 H 𝓜 𝓖 𝓡))
-    (cited 𝓤 H (DoMove 𝓤 H (𝓖 .A) (𝓜 .mem) (𝓡 .run)) 𝓜 𝓡 code.env #cut-points·do-move-numbers do-move-def.routine code.calls-cut-points·do-move-numbers (do-move-thm.met 𝓤 H 𝓜 𝓖 𝓡)))
+    (cited 𝓤 H (DoMove 𝓤 H (𝓖 .A) (𝓜 .mem) (𝓡 .run)) 𝓜 𝓡 code.env #cut-moves·do-move-numbers do-move-def.routine code.calls-cut-moves·do-move-numbers (do-move-thm.met 𝓤 H 𝓜 𝓖 𝓡)))

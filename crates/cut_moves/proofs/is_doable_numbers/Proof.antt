@@ -1,9 +1,9 @@
--- `cut_points::is_doable_numbers` meets its contract. Assumes nothing.
+-- `cut_moves::is_doable_numbers` meets its contract. Assumes nothing.
 use native.Mathlib.Omega.{arith}
 use lib.ListN.{length-take}
 use borrow.Author.Needs.{needs}
-use Rattle.cut_points.proofs.is_doable_numbers.Statement.{statement}
-use Rattle.cut_points.proofs.is_doable_numbers.Tie as tie
+use Rattle.cut_moves.proofs.is_doable_numbers.Statement.{statement}
+use Rattle.cut_moves.proofs.is_doable_numbers.Tie as tie
 
 array-share-prefix-rounds : tie.Need-array-share-prefix-rounds
 array-share-prefix-rounds c = search needs

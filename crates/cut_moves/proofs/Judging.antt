@@ -10,7 +10,7 @@ use Rattle.theory.specs.Answers.{reply, refused}
 use Rattle.theory.proofs.Refusals.{Passes, known, accepted}
 use Rattle.theory.proofs.Judged.{cut-count-fine}
 use Rattle.patterns.specs.Enumeration.{CutCount}
-use Rattle.cut_points.specs.Entries.{if-taken}
+use Rattle.cut_moves.specs.Entries.{if-taken}
 
 -- k is judged before what is counted by it.
 pub counted : (k a : ℕ) → a ≡ number (cut-count k) → a ≡ 0 → CutCount k

@@ -1,9 +1,9 @@
--- `cut_points::do_move_numbers` meets its contract. Assumes nothing.
+-- `cut_moves::do_move_numbers` meets its contract. Assumes nothing.
 use native.Mathlib.Omega.{arith}
 use lib.ListN.{length-take}
 use borrow.Author.Needs.{needs}
-use Rattle.cut_points.proofs.do_move_numbers.Statement.{statement}
-use Rattle.cut_points.proofs.do_move_numbers.Tie as tie
+use Rattle.cut_moves.proofs.do_move_numbers.Statement.{statement}
+use Rattle.cut_moves.proofs.do_move_numbers.Tie as tie
 
 array-share-prefix-rounds : tie.Need-array-share-prefix-rounds
 array-share-prefix-rounds c = search needs

@@ -1,0 +1,5 @@
+pub mod Judging
+pub mod DoMoveReply
+pub mod DoableReply
+pub mod FirstSix
+pub mod Cases
