@@ -1,4 +1,4 @@
--- What apply and doable promise of their cuts: the rules by which they refuse, and their replies.
+-- What apply, undo and doable promise: the rules by which they refuse, and their replies.
 use mathlib.Core.Path.{_≡_}
 use mathlib.Core.Bool.{cond}
 use mathlib.Core.List.{List, [], _∷_, _++_}
@@ -11,7 +11,7 @@ use Rattle.theory.specs.Polish.{move-at}
 use Rattle.theory.specs.Answers.{reply, doable-answer}
 use Rattle.theory.specs.declared.Doable.{Doable}
 use Rattle.applying.specs.Applying.{doable}
-use Rattle.theory.specs.Refusals.{Rule, refusal, cut-count, stop-count, pattern-index, cut-lists, cut-positions, own-round, room}
+use Rattle.theory.specs.Refusals.{Rule, refusal, cut-count, stop-count, pattern-index, cut-lists, cut-positions, own-round, room, journal-length}
 
 -- One thing where no rule applies, another where the call is refused.
 abbrev pub if-taken : {A : Type 0} → List Rule → A → A → A
@@ -33,6 +33,14 @@ pub record DoMoveReply (k pattern round : ℕ) (rounds positions route journal :
   pub number-is : answer ≡ refusal (do-move-rules k pattern round (length route) rounds positions (length journal))
   pub route-is : route′ ≡ if-taken (do-move-rules k pattern round (length route) rounds positions (length journal)) (reconnected (move-at (patterns k) positions pattern) route) route
   pub journal-is : journal′ ≡ if-taken (do-move-rules k pattern round (length route) rounds positions (length journal)) (route ++ drop (length route) journal) journal
+
+abbrev pub undo-rules : ℕ → ℕ → List Rule
+undo-rules n journal = stop-count n ∷ journal-length n journal ∷ []
+
+-- "Undo puts them back and keeps the journal."
+pub record UndoReply (route journal : List ℕ) (answer : ℕ) (route′ : List ℕ) : Type 0 where
+  pub number-is : answer ≡ refusal (undo-rules (length route) (length journal))
+  pub route-is : route′ ≡ if-taken (undo-rules (length route) (length journal)) journal route
 
 -- "Answers yes or no and gives only 1, 5 and 6."
 abbrev pub doable-rules : ℕ → ℕ → ℕ → List Rule

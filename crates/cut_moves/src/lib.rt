@@ -1,12 +1,12 @@
-// Apply and doable, judged, with the cuts as two lists of numbers or as a list of cut points. The functions that take cut points are proved by hand.
+// Apply, undo and doable, judged; the cuts are two lists of numbers or a list of cut points. The functions that take cut points are proved by hand.
 use cut_points::CutNumbers;
 use cut_points::CutPoint;
 use theory::Doable;
 ghost use mathlib.Core.Path.{_≡_};
-ghost use lib.ListN.{take};
-ghost use Rattle.theory.specs.Refusals.{number, refusal, cut-lists, own-round};
+ghost use lib.ListN.{length, take};
+ghost use Rattle.theory.specs.Refusals.{number, refusal, cut-lists, own-round, journal-length};
 ghost use Rattle.cut_points.specs.CutPoints.{Sized, rounds-of, positions-of};
-ghost use Rattle.cut_moves.specs.Entries.{do-move-rules, DoMoveReply, doable-rules, DoableReply};
+ghost use Rattle.cut_moves.specs.Entries.{do-move-rules, DoMoveReply, undo-rules, UndoReply, doable-rules, DoableReply};
 
 fn check_cut_lists(rounds: &[usize], positions: &[usize]) -> u32
     ensures { λ r. ⌜ r ≡ number (cut-lists (now (rounds .entry)) (now (positions .entry))) ⌝ }
@@ -119,6 +119,35 @@ pub fn k_opt_do_move(
         route,
         journal,
     )
+}
+
+fn check_journal_length(n: usize, journal: usize) -> u32
+    ensures { λ r. ⌜ r ≡ number (journal-length n journal) ⌝ }
+{
+    if journal != n {
+        return 22;
+    }
+    0
+}
+
+fn undo_refusal(n: usize, journal: usize) -> u32
+    ensures { λ r. ⌜ r ≡ refusal (undo-rules n journal) ⌝ }
+{
+    let bad_n = refusals::check_stop_count(n);
+    let bad_journal = check_journal_length(n, journal);
+    refusals::first(bad_n, bad_journal)
+}
+
+// Undo: the stops of the journal back into the route. Refuses 5, 22.
+pub fn k_opt_undo_move(route: &mut [u32], journal: &[u32]) -> u32
+    ensures { λ r. ⌜ UndoReply (now (route .entry)) (now (journal .entry)) r (now (route .exit)) ⌝ }
+{
+    let refused = undo_refusal(route.len(), journal.len());
+    if refused != 0 {
+        return refused;
+    }
+    applying::k_opt_undo_move(route, journal);
+    0
 }
 
 fn is_doable_refusal(k: usize, pattern: usize, n: usize) -> u32
