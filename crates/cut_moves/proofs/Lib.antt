@@ -1,0 +1,6 @@
+pub mod Judging
+pub mod DoMoveReply
+pub mod UndoReply
+pub mod DoableReply
+pub mod FirstSix
+pub mod Cases
