@@ -11,7 +11,7 @@ use Rattle.theory.proofs.Refusals.{known}
 use Rattle.applying.specs.Applying.{Appliable, Applied}
 use Rattle.applying.proofs.Judged.{appliable-fine}
 use Rattle.cut_moves.specs.Entries.{do-move-rules, DoMoveReply}
-use Rattle.cut_moves.proofs.Judging.{refused-kept, taken-done, taken-passes}
+use Rattle.theory.proofs.Taken.{refused-kept, taken-done, taken-passes}
 
 module _ (k pattern round : ℕ) (rounds positions route journal : List ℕ) where
   abbrev rules : List Rule

@@ -7,7 +7,7 @@ use Rattle.theory.specs.Refusals.{refusal}
 use Rattle.theory.specs.declared.Doable.the-variants as Do
 use Rattle.applying.specs.Applying.{doable}
 use Rattle.cut_moves.specs.Entries.{doable-rules, DoableReply}
-use Rattle.cut_moves.proofs.Judging.{refused-reply, taken-reply}
+use Rattle.theory.proofs.Taken.{refused-reply, taken-reply}
 
 module _ (k pattern round n : ℕ) (rounds positions : List ℕ) (number : ℕ) (judged : number ≡ refusal (doable-rules k pattern n)) where
   abbrev answers : List ℕ

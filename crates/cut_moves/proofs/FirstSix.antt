@@ -17,7 +17,7 @@ use Rattle.cut_points.specs.declared.CutPoint.{CutPoint}
 use Rattle.cut_points.specs.declared.CutNumbers.{CutNumbers}
 use Rattle.cut_points.specs.CutPoints.{rounds-of, positions-of, Holds}
 use Rattle.cut_moves.specs.Entries.{do-move-rules, DoMoveReply, doable-rules, DoableReply}
-use Rattle.cut_moves.proofs.Judging.{refused-kept}
+use Rattle.theory.proofs.Taken.{refused-kept}
 
 module _ (k pattern round n lent : ℕ) where
   abbrev many : ℕ

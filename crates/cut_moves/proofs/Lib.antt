@@ -1,4 +1,3 @@
-pub mod Judging
 pub mod DoMoveReply
 pub mod UndoReply
 pub mod DoableReply

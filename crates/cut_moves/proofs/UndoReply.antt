@@ -14,7 +14,7 @@ use Rattle.applying.specs.Applying.{Appliable, Applied, Undoable, Undone}
 use Rattle.applying.proofs.Judged.{undoable-fine}
 use Rattle.applying.proofs.Undo.{undo-after-apply, apply-keeps-length}
 use Rattle.cut_moves.specs.Entries.{do-move-rules, DoMoveReply, undo-rules, UndoReply}
-use Rattle.cut_moves.proofs.Judging.{refused-kept, taken-done, taken-passes}
+use Rattle.theory.proofs.Taken.{refused-kept, taken-done, taken-passes}
 use Rattle.cut_moves.proofs.DoMoveReply as Do
 
 module _ (route journal : List ℕ) where

@@ -3,7 +3,6 @@ use mathlib.Core.Path.{_≡_}
 use mathlib.Core.Bool.{cond}
 use mathlib.Core.List.{List, [], _∷_, _++_}
 use Prim.Native.Nat.{ℕ}
-use lib.Dec.{eqb}
 use lib.ListN.{length, drop}
 use Rattle.theory.specs.Moves.{patterns}
 use Rattle.theory.specs.Route.{reconnected}
@@ -11,11 +10,7 @@ use Rattle.theory.specs.Polish.{move-at}
 use Rattle.theory.specs.Answers.{reply, doable-answer}
 use Rattle.theory.specs.declared.Doable.{Doable}
 use Rattle.applying.specs.Applying.{doable}
-use Rattle.theory.specs.Refusals.{Rule, refusal, cut-count, stop-count, pattern-index, cut-lists, cut-positions, own-round, room, journal-length}
-
--- One thing where no rule applies, another where the call is refused.
-abbrev pub if-taken : {A : Type 0} → List Rule → A → A → A
-if-taken rules a b = cond (eqb (refusal rules) 0) a b
+use Rattle.theory.specs.Refusals.{Rule, refusal, if-taken, cut-count, stop-count, pattern-index, cut-lists, cut-positions, own-round, room, journal-length}
 
 abbrev pub do-move-rules : ℕ → ℕ → ℕ → ℕ → List ℕ → List ℕ → ℕ → List Rule
 do-move-rules k pattern round n rounds positions lent =

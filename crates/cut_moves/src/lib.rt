@@ -3,28 +3,10 @@ use cut_points::CutNumbers;
 use cut_points::CutPoint;
 use theory::Doable;
 ghost use mathlib.Core.Path.{_≡_};
-ghost use lib.ListN.{length, take};
-ghost use Rattle.theory.specs.Refusals.{number, refusal, cut-lists, own-round, journal-length};
+ghost use lib.ListN.{take};
+ghost use Rattle.theory.specs.Refusals.{refusal};
 ghost use Rattle.cut_points.specs.CutPoints.{Sized, rounds-of, positions-of};
 ghost use Rattle.cut_moves.specs.Entries.{do-move-rules, DoMoveReply, undo-rules, UndoReply, doable-rules, DoableReply};
-
-fn check_cut_lists(rounds: &[usize], positions: &[usize]) -> u32
-    ensures { λ r. ⌜ r ≡ number (cut-lists (now (rounds .entry)) (now (positions .entry))) ⌝ }
-{
-    if rounds.len() != positions.len() {
-        return 7;
-    }
-    0
-}
-
-fn check_own_round(round: usize, rounds: &[usize]) -> u32
-    ensures { λ r. ⌜ r ≡ number (own-round round (now (rounds .entry))) ⌝ }
-{
-    if applying::some_other(rounds, round) {
-        return 8;
-    }
-    0
-}
 
 fn do_move_refusal(
     k: usize,
@@ -43,9 +25,9 @@ fn do_move_refusal(
     }
     let bad_n = refusals::check_stop_count(n);
     let bad_pattern = refusals::check_pattern_index(k, pattern);
-    let bad_lists = check_cut_lists(rounds, positions);
+    let bad_lists = refusals::check_cut_lists(rounds, positions);
     let bad_cuts = refusals::check_cut_positions(k, n, positions);
-    let bad_round = check_own_round(round, rounds);
+    let bad_round = refusals::check_own_round(round, rounds);
     let bad_room = refusals::check_room(n, lent);
     let bad_list = refusals::first(
         bad_lists,
@@ -121,20 +103,11 @@ pub fn k_opt_do_move(
     )
 }
 
-fn check_journal_length(n: usize, journal: usize) -> u32
-    ensures { λ r. ⌜ r ≡ number (journal-length n journal) ⌝ }
-{
-    if journal != n {
-        return 22;
-    }
-    0
-}
-
 fn undo_refusal(n: usize, journal: usize) -> u32
     ensures { λ r. ⌜ r ≡ refusal (undo-rules n journal) ⌝ }
 {
     let bad_n = refusals::check_stop_count(n);
-    let bad_journal = check_journal_length(n, journal);
+    let bad_journal = refusals::check_journal_length(n, journal);
     refusals::first(bad_n, bad_journal)
 }
 

@@ -1,24 +1,12 @@
--- What every entry's proof shares: its reply and its lent memory where it is refused and where it is taken. Assumes nothing.
+-- What the proofs of the judged calls share: reply and lent memory where a call is refused and where it is taken. Assumes nothing.
 use mathlib.Core.Path.{_≡_, refl, sym, _∙_}
-use mathlib.Core.Bool.{Bool, true, false, cond}
+use mathlib.Core.Bool.{true}
 use mathlib.Core.List.{List}
 use Prim.Native.Nat.{ℕ, zero, suc}
-use native.Mathlib.Omega.{arith}
 use borrow.Author.Tests.{ne-eqb, eq-eqb}
-use Rattle.theory.specs.Refusals.{Rule, number, refusal, cut-count}
+use Rattle.theory.specs.Refusals.{Rule, refusal, if-taken}
 use Rattle.theory.specs.Answers.{reply, refused}
 use Rattle.theory.proofs.Refusals.{Passes, known, accepted}
-use Rattle.theory.proofs.Judged.{cut-count-fine}
-use Rattle.patterns.specs.Enumeration.{CutCount}
-use Rattle.mittenschist.specs.Promises.{if-taken}
-
--- k is judged before what is counted by it.
-pub counted : (k a : ℕ) → a ≡ number (cut-count k) → a ≡ 0 → CutCount k
-counted k a e h = let c = cut-count-fine k (by (cut-count k .1) (sym e ∙ h)) in record { least = c .0; most = c .1 }
-  where
-    by : (b : Bool) → _≡_ {A = ℕ} (cond b 1 0) 0 → b ≡ false
-    by true z = absurd (omega arith)
-    by false z = refl
 
 module _ (rules : List Rule) (number : ℕ) (judged : number ≡ refusal rules) where
   pub refused-reply : {A : Type 0} (values : List A) → (number ≡ 0 → ⊥) → refused number ≡ reply (refusal rules) values
