@@ -1,1 +1,4 @@
 pub mod FloatOrder
+pub mod Passing
+pub mod Found
+pub mod Query
