@@ -2,3 +2,4 @@ pub mod FloatOrder
 pub mod Passing
 pub mod Found
 pub mod Query
+pub mod Memo

@@ -1,5 +1,7 @@
+-- `neighbours::look_up` meets its contract. Assumes nothing.
 use native.Mathlib.Omega.{arith}
 use borrow.Author.Needs.{needs}
+use Rattle.neighbours.proofs.Memo.{neighbours-few, looked-up, found-before}
 use Rattle.neighbours.proofs.look_up.Statement.{statement}
 use Rattle.neighbours.proofs.look_up.Tie as tie
 use Rattle.neighbours.proofs.look_up.Reads as reads
@@ -28,11 +30,15 @@ nearby-positions-requires c κs = search needs
 
 -- src/lib.rt:84:22
 add-table : tie.Need-add-table
-add-table c = search needs
+add-table c =
+    let s = c .before .before .before .before .before .before .before .before in
+    omega (arith, c .before .before .nearby-positions .ensures .number-is, neighbours-few (s .args .distances .now) (s .args .n) (s .args .count) (s .args .cut), s .pre .most)
 
 -- src/lib.rt:84:21
 cast-table : tie.Need-cast-table
-cast-table c = search needs
+cast-table c =
+    let s = c .before .before .before .before .before .before .before .before in
+    omega (arith, c .before .before .nearby-positions .ensures .number-is, neighbours-few (s .args .distances .now) (s .args .n) (s .args .count) (s .args .cut), s .pre .most)
 
 -- src/lib.rt:84:9
 mul-table : tie.Need-mul-table
@@ -48,11 +54,17 @@ same-length c = search needs
 
 -- src/lib.rt:77:1
 returns : tie.Need-returns
-returns c = search needs
+returns c =
+    let s = c .before .before .before .before .before .before .before .before in
+    let q = c .before .before .nearby-positions in
+    rw (q .ensures .table-is)
+    (looked-up (s .args .distances .now) (s .args .n) (s .args .count) (s .args .cut) (s .args .table .now) (s .pre .known .few) (s .pre .most) (s .pre .known .origin-known) (s .pre .memo) (q .result) (q .ensures .number-is))
 
 -- src/lib.rt:77:1
 returns-2 : tie.Need-returns-2
-returns-2 c = search needs
+returns-2 c =
+    let s = c .before .before .before .before in
+    found-before (s .args .distances .now) (s .args .n) (s .args .count) (s .args .cut) (s .args .table .now) (s .pre .known .origin-known) (s .pre .memo) (c .if1 .left)
 
 pub look-up-spec : {M : Type 1} → statement M
 look-up-spec =

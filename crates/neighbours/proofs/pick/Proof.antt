@@ -59,11 +59,10 @@ loop-less c = search needs
 
 -- src/lib.rt:109:5
 loop-again : tie.Need-loop-again Inv-loop μ-loop
-loop-again c = 
+loop-again c =
     let s = c .before .before .before .before .before .before in
     let l = c .before .before .before .loop in
-    let t = between (s .args .low) (s .args .high) in
-    (
+    let t = between (s .args .low) (s .args .high) in (
       rw (c .counted .ensures) (counted-most (t (getD (s .args .row .now) (l .i) 0)) (l .number) (l .i) (l .inv .0)),
       omega arith,
       length-set (l .own) (l .number) _ ∙ l .inv .2,
@@ -76,7 +75,7 @@ same-length c = search needs
 
 -- src/lib.rt:103:1
 returns : tie.Need-returns Inv-loop μ-loop
-returns c = 
+returns c =
     let s = c .before .before .before .before in
     let l = c .before .loop in
     record {
