@@ -59,6 +59,7 @@ pub record Branchable (distances : List Float) (n m count behind : ℕ) (entries
   pub neighbours : count ≤ 32
   pub depth : behind < k
   pub missing : m * behind ≤ n
+  pub entries-few : length entries ≤ 32
   pub below : (i : ℕ) → i < length entries → getD entries i 0 < n
   pub room : Room k capacity seen lent
   pub memo : Memo distances n count table
