@@ -111,7 +111,7 @@ fn first_cuts(
     capacity: usize,
     lent: &mut [usize],
 ) -> usize
-    requires { ⌜ NearbyInput n (now distances) k m count (length (now lent)) × (capacity * k ≤ length (now lent)) ⌝ }
+    requires { ⌜ NearbyInput n (now distances) k m count (length (now lent)) × Room k capacity 0 (now lent) ⌝ }
     ensures { λ r. ⌜ (r, now (lent .exit)) ≡ pour capacity k 0 (now (lent .entry)) (nearby-sets (now (distances .entry)) n k m count) ⌝ }
 {
     let mut table = [0u16; 16896];
