@@ -137,9 +137,9 @@ module _ (own : ℕ → ℕ → List ℕ) where
             ∙ ap (behind-front front) (branch-cons behind cut others pos there)
             ∙ front-append front (map (λ s. cut ∷ s) (branch own (behind - 1) (own behind cut))) (cond (goes-on cut others) (branch own behind others) [])
             ∙ ap (λ (r : List (List ℕ)). r ++ rest (goes-on cut others))
-              (front-cons front cut (branch own (behind - 1) (own behind cut))
-              ∙ ap (λ (l : List ℕ). behind-front l (branch own (behind - 1) (own behind cut))) (sym longer-front)
-              ∙ ap (λ (l : List ℕ). behind-front front′ (branch own (behind - 1) l)) (sym is))
+            (front-cons front cut (branch own (behind - 1) (own behind cut))
+            ∙ ap (λ (l : List ℕ). behind-front l (branch own (behind - 1) (own behind cut))) (sym longer-front)
+            ∙ ap (λ (l : List ℕ). behind-front front′ (branch own (behind - 1) l)) (sym is))
 
         after : pour capacity k seen′ lent′ (rest (goes-on cut others)) ≡ pour capacity k seen lent (behind-front front (branch own behind (drop i entries)))
         after =

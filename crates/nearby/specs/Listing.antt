@@ -1,6 +1,6 @@
 -- The listing of the sets into a lent buffer: what it asks for, what it promises, and the running form of its parts.
 use mathlib.Core.Path.{_≡_}
-use mathlib.Core.List.{List, [], _∷_, _++_, map, flatten}
+use mathlib.Core.List.{List, [], _∷_, _++_, map, flatten, List·Memᴰ}
 use mathlib.Core.Bool.{Bool, true, false, cond}
 use Prim.Native.Nat.{ℕ, zero, suc, _+_, _-_, _*_, _/_, _^_, _≤_, _<_}
 use lib.Dec.{ltb}
@@ -12,7 +12,7 @@ use Rattle.theory.specs.Answers.{listing-answer, reply}
 use Rattle.theory.specs.declared.Listing.{Listing}
 use Rattle.neighbours.specs.Neighbours.{kept}
 use Rattle.neighbours.specs.Queries.{Memo}
-use Rattle.nearby.specs.Walk.{branch, nearby-sets}
+use Rattle.nearby.specs.Walk.{branch, Spaced}
 
 pub record NearbyInput (n : ℕ) (distances : List Float) (k m count lent : ℕ) : Type 0 where
   pub least : 2 ≤ k
@@ -29,10 +29,12 @@ pub record NearbyInput (n : ℕ) (distances : List Float) (k m count lent : ℕ)
 abbrev pub written : List (List ℕ) → ℕ → ℕ → List (List ℕ)
 written walk k lent = take (lent / k) walk
 
--- "And answers their number with ended or more; more exactly when the walk has another." What is left of the buffer is kept.
-pub record Lists (walk : List (List ℕ)) (k : ℕ) (lent : List ℕ) (answer : Listing) (lent′ : List ℕ) : Type 0 where
+-- "And answers their number with ended or more; more exactly when the walk has another." What is left of the buffer is kept. Each set of the walk has k
+-- cuts and leaves segments of at least m.
+pub record Lists (n k m : ℕ) (walk : List (List ℕ)) (lent : List ℕ) (answer : Listing) (lent′ : List ℕ) : Type 0 where
   pub answer-is : listing-answer answer ≡ reply 0 (length (written walk k (length lent)) ∷ cond (ltb (length lent / k) (length walk)) 1 0 ∷ [])
   pub lent-is : lent′ ≡ flatten (written walk k (length lent)) ++ drop (length (written walk k (length lent)) * k) lent
+  pub spaced : (s : List ℕ) → List·Memᴰ s walk → (length s ≡ k) × Spaced m 0 s n
 
 -- The running form: each set in turn to its place, while there is room; one more than fits is counted and ends the listing.
 unfoldable pub pour : ℕ → ℕ → ℕ → List ℕ → List (List ℕ) → ℕ × List ℕ

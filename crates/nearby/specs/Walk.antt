@@ -1,7 +1,7 @@
 -- Document 01, "Nearby cuts": the walk through the cut sets.
 use mathlib.Core.List.{List, [], _∷_, _++_, map, flatMap}
 use mathlib.Core.Bool.{Bool, true, false, cond}
-use Prim.Native.Nat.{ℕ, zero, suc, _+_, _-_, _*_}
+use Prim.Native.Nat.{ℕ, zero, suc, _+_, _-_, _*_, _≤_}
 use lib.Dec.{ltb}
 use lib.Ieee.{Float}
 use Rattle.theory.specs.Moves.{upfrom}
@@ -39,3 +39,8 @@ walk own n k m =
 unfoldable pub nearby-sets : List Float → ℕ → ℕ → ℕ → ℕ → List (List ℕ)
 unfolding walk kept
 nearby-sets distances n k m count = walk (kept distances n m count) n k m
+
+-- Segments of at least m stops: from `low` to the first cut, between the cuts, and from the last cut to n.
+abbrev pub Spaced : ℕ → ℕ → List ℕ → ℕ → Type 0
+Spaced m low [] n = low + m ≤ n
+Spaced m low (c ∷ cs) n = (low + m ≤ c) × Spaced m c cs n

@@ -83,13 +83,35 @@ fn branch(
     let mut i = 0;
     while i < entries.len() {
         let cut = entries[i];
-        let number = neighbours::kept_neighbours(distances, n, m, count, behind, cut, table, &mut own);
+        let number = neighbours::kept_neighbours(
+            distances,
+            n,
+            m,
+            count,
+            behind,
+            cut,
+            table,
+            &mut own,
+        );
         if number == 0 {
             return seen;
         }
         let mut longer = cuts;
         longer[k - 1 - behind] = cut;
-        seen = branch(distances, n, m, count, behind - 1, &own[..number], longer, k, capacity, seen, table, lent);
+        seen = branch(
+            distances,
+            n,
+            m,
+            count,
+            behind - 1,
+            &own[..number],
+            longer,
+            k,
+            capacity,
+            seen,
+            table,
+            lent,
+        );
         if seen > capacity {
             return seen;
         }
@@ -120,9 +142,31 @@ fn first_cuts(
     let mut seen = 0;
     let mut first = m;
     while first + k * m <= n {
-        let number = neighbours::kept_neighbours(distances, n, m, count, k - 1, first, &mut table, &mut own);
+        let number = neighbours::kept_neighbours(
+            distances,
+            n,
+            m,
+            count,
+            k - 1,
+            first,
+            &mut table,
+            &mut own,
+        );
         cuts[0] = first;
-        seen = branch(distances, n, m, count, k - 2, &own[..number], cuts, k, capacity, seen, &mut table, lent);
+        seen = branch(
+            distances,
+            n,
+            m,
+            count,
+            k - 2,
+            &own[..number],
+            cuts,
+            k,
+            capacity,
+            seen,
+            &mut table,
+            lent,
+        );
         if seen > capacity {
             return seen;
         }
@@ -141,7 +185,7 @@ pub fn nearby_cuts(
     sets: &mut [usize],
 ) -> theory::Listing
     requires { ⌜ NearbyInput n (now distances) k «min_segment_len» «max_nearby» (length (now sets)) ⌝ }
-    ensures { λ r. ⌜ Lists (nearby-sets (now (distances .entry)) n k «min_segment_len» «max_nearby») k (now (sets .entry)) r (now (sets .exit)) ⌝ }
+    ensures { λ r. ⌜ Lists n k «min_segment_len» (nearby-sets (now (distances .entry)) n k «min_segment_len» «max_nearby») (now (sets .entry)) r (now (sets .exit)) ⌝ }
 {
     let capacity = sets.len() / k;
     let seen = first_cuts(n, distances, k, min_segment_len, max_nearby, capacity, sets);

@@ -42,7 +42,7 @@ branch-Inv-loop distances n m count behind entries cuts k capacity seen table₀
     × (seen' ≤ capacity + 1)
     × Memo distances n count table
     × (pour capacity k seen' lent (behind-front (take (k - 1 - behind) cuts) (walk.branch (kept distances n m count) behind (drop i entries)))
-      ≡ pour capacity k seen lent₀ (behind-front (take (k - 1 - behind) cuts) (walk.branch (kept distances n m count) behind entries)))
+    ≡ pour capacity k seen lent₀ (behind-front (take (k - 1 - behind) cuts) (walk.branch (kept distances n m count) behind entries)))
 
 abbrev branch-μ-loop : branch-lts.MeasureT-loop
 branch-μ-loop distances n m count behind entries cuts k capacity seen table₀ lent₀ seen₀ own₀ i₀ table lent seen' own i =
@@ -85,7 +85,7 @@ branch-returns : (t : ℕ) → branch-lts.Need-returns (
   goes-on-reads.Asked,
   goes-on-reads.Learnt,
 ) (branch-at t) branch.Post branch-Inv-loop branch-μ-loop
-branch-returns t c = 
+branch-returns t c =
     let s = c .before .before .before .before .before .before .before .before .before in
     let q = c .before .before .last-cuts in
     record {
@@ -156,16 +156,16 @@ branch-kept-neighbours-requires : (t : ℕ) → branch-lts.Need-kept-neighbours-
   goes-on-reads.Asked,
   goes-on-reads.Learnt,
 ) (branch-at t) branch.Post branch-Inv-loop branch-μ-loop
-branch-kept-neighbours-requires t c κs = 
+branch-kept-neighbours-requires t c κs =
     let s = c .before .before .before .before .before .before .before .before .before .before in
     let l = c .before .before .before .before .loop in
     record {
       lookup =
-      record {
-        known = record { few = s .pre .1 .few; square = s .pre .1 .square; numbers = s .pre .1 .numbers; origin-known = s .pre .1 .below (l .i) (c .before .before .before .loop-test .taken) };
-        most = s .pre .1 .neighbours;
-        memo = l .inv .5;
-      };
+          record {
+            known = record { few = s .pre .1 .few; square = s .pre .1 .square; numbers = s .pre .1 .numbers; origin-known = s .pre .1 .below (l .i) (c .before .before .before .loop-test .taken) };
+            most = s .pre .1 .neighbours;
+            memo = l .inv .5;
+          };
       short = s .pre .1 .short;
       fits = s .pre .1 .missing;
       room = l .inv .2;
@@ -208,7 +208,7 @@ branch-returns-2 : (t : ℕ) → branch-lts.Need-returns-2 (
   goes-on-reads.Asked,
   goes-on-reads.Learnt,
 ) (branch-at t) branch.Post branch-Inv-loop branch-μ-loop
-branch-returns-2 t c = 
+branch-returns-2 t c =
     let s = c .before .before .before .before .before .before .before .before .before .before .before .before .before .before .before in
     let l = c .before .before .before .before .before .before .before .before .before .loop in
     let q = c .before .before .before .before .kept-neighbours in
@@ -323,7 +323,7 @@ branch-branch-requires : (t : ℕ) → branch-lts.Need-branch-requires (
   goes-on-reads.Asked,
   goes-on-reads.Learnt,
 ) (branch-at t) branch.Post branch-Inv-loop branch-μ-loop
-branch-branch-requires t c κs = 
+branch-branch-requires t c κs =
     let s = c .before .before .before .before .before .before .before .before .before .before .before .before .before .before .before .before .before .before in
     let l = c .before .before .before .before .before .before .before .before .before .before .before .before .loop in
     let q = c .before .before .before .before .before .before .before .kept-neighbours in
@@ -331,8 +331,7 @@ branch-branch-requires t c κs =
     let front = take (s .args .k - 1 - s .args .behind) (s .args .cuts) in
     let more = c .before .before .before .before .before .before .before .before .before .before .before .loop-test .taken in
     let list = take (q .result) (q .last .1 .1 .1 .1 .1 .1 .1 .0) in
-    let few : length list ≤ 32 = simp length-take (omega (arith, q .kept .1 .1 .1 .1 .1 .1 .1 .0, l .inv .2)) in
-    (
+    let few : length list ≤ 32 = simp length-take (omega (arith, q .kept .1 .1 .1 .1 .1 .1 .1 .0, l .inv .2)) in (
       omega (arith, s .pre .0, l .inv .0),
       record {
         few = s .pre .1 .few;
@@ -346,13 +345,13 @@ branch-branch-requires t c κs =
         entries-few = few;
         below = kept-below (s .args .distances .now) (s .args .n) (s .args .m) (s .args .count) (s .args .behind) _ list (q .ensures .list-is) (s .pre .1 .shortest) (l .inv .0) (s .pre .1 .below (l .i) more);
         room =
-        record {
-          least = s .pre .1 .room .least;
-          most = s .pre .1 .room .most;
-          fits = omega (arith, s .pre .1 .room .fits, l .inv .3);
-          small = omega (arith, s .pre .1 .room .small, l .inv .3);
-          counted = l .inv .4;
-        };
+            record {
+              least = s .pre .1 .room .least;
+              most = s .pre .1 .room .most;
+              fits = omega (arith, s .pre .1 .room .fits, l .inv .3);
+              small = omega (arith, s .pre .1 .room .small, l .inv .3);
+              counted = l .inv .4;
+            };
         memo = q .ensures .memo;
       },
     )
@@ -394,7 +393,7 @@ branch-returns-3 : (t : ℕ) → branch-lts.Need-returns-3 (
   goes-on-reads.Asked,
   goes-on-reads.Learnt,
 ) (branch-at t) branch.Post branch-Inv-loop branch-μ-loop
-branch-returns-3 t c = 
+branch-returns-3 t c =
     let s = c .before .before .before .before .before .before .before .before .before .before .before .before .before .before .before .before .before .before .before .before .before .before .before .before in
     let l = c .before .before .before .before .before .before .before .before .before .before .before .before .before .before .before .before .before .before .loop in
     let q = c .before .before .before .before .before .before .before .before .before .before .before .before .before .kept-neighbours in
@@ -457,7 +456,7 @@ branch-returns-4 : (t : ℕ) → branch-lts.Need-returns-4 (
   goes-on-reads.Asked,
   goes-on-reads.Learnt,
 ) (branch-at t) branch.Post branch-Inv-loop branch-μ-loop
-branch-returns-4 t c = 
+branch-returns-4 t c =
     let s = c .before .before .before .before .before .before .before .before .before .before .before .before .before .before .before .before .before .before .before .before .before .before .before .before .before .before in
     let l = c .before .before .before .before .before .before .before .before .before .before .before .before .before .before .before .before .before .before .before .before .loop in
     let q = c .before .before .before .before .before .before .before .before .before .before .before .before .before .before .before .kept-neighbours in
@@ -507,7 +506,7 @@ branch-loop-again : (t : ℕ) → branch-lts.Need-loop-again (
   goes-on-reads.Asked,
   goes-on-reads.Learnt,
 ) (branch-at t) branch.Post branch-Inv-loop branch-μ-loop
-branch-loop-again t c = 
+branch-loop-again t c =
     let s = c .before .before .before .before .before .before .before .before .before .before .before .before .before .before .before .before .before .before .before .before .before .before .before .before .before .before in
     let l = c .before .before .before .before .before .before .before .before .before .before .before .before .before .before .before .before .before .before .before .before .loop in
     let q = c .before .before .before .before .before .before .before .before .before .before .before .before .before .before .before .kept-neighbours in
@@ -517,8 +516,7 @@ branch-loop-again t c =
     let list = take (q .result) (q .last .1 .1 .1 .1 .1 .1 .1 .0) in
     let r = c .before .before .before .before .before .before .before .branch in
     let five : length (s .args .cuts) ≡ 5 = search needs in
-    let wider = longer (s .args .cuts) (s .args .k) (s .args .behind) (getD (s .args .entries .now) (l .i) 0) (l .inv .0) (s .pre .1 .depth) (omega (arith, s .pre .1 .room .most)) in
-    (
+    let wider = longer (s .args .cuts) (s .args .k) (s .args .behind) (getD (s .args .entries .now) (l .i) 0) (l .inv .0) (s .pre .1 .depth) (omega (arith, s .pre .1 .room .most)) in (
       l .inv .0,
       omega (arith, more),
       q .kept .1 .1 .1 .1 .1 .1 .1 .0 ∙ l .inv .2,
@@ -565,13 +563,13 @@ branch-returns-5 : (t : ℕ) → branch-lts.Need-returns-5 (
   goes-on-reads.Asked,
   goes-on-reads.Learnt,
 ) (branch-at t) branch.Post branch-Inv-loop branch-μ-loop
-branch-returns-5 t c = 
+branch-returns-5 t c =
     let s = c .before .before .before .before .before .before .before in
     let l = c .before .loop in
     record {
       poured =
-      ended (kept (s .args .distances .now) (s .args .n) (s .args .m) (s .args .count)) (s .args .capacity) (s .args .k) (s .args .behind) (take (s .args .k - 1 - s .args .behind) (s .args .cuts)) (s .args .entries .now) (l .inv .0) (l .i) (l .seen) (l .lent) (omega arith)
-      ∙ l .inv .6;
+          ended (kept (s .args .distances .now) (s .args .n) (s .args .m) (s .args .count)) (s .args .capacity) (s .args .k) (s .args .behind) (take (s .args .k - 1 - s .args .behind) (s .args .cuts)) (s .args .entries .now) (l .inv .0) (l .i) (l .seen) (l .lent) (omega arith)
+          ∙ l .inv .6;
       memo = l .inv .5;
     }
 

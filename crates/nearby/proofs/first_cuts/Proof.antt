@@ -34,9 +34,8 @@ abbrev μ-loop : tie.MeasureT-loop
 
 -- src/lib.rt:122:5
 loop-holds : tie.Need-loop-holds Inv-loop μ-loop
-loop-holds c = 
-    let s = c .before .before in
-    (
+loop-holds c =
+    let s = c .before .before in (
       omega arith,
       omega (arith, s .pre .0 .short),
       refl,
@@ -69,23 +68,23 @@ slice-aggregate-kept-neighbours-2 c = search needs
 
 -- src/lib.rt:123:13
 kept-neighbours-requires : tie.Need-kept-neighbours-requires Inv-loop μ-loop
-kept-neighbours-requires c κs = 
+kept-neighbours-requires c κs =
     let s = c .before .before .before .before .before .before in
     let l = c .before .before .before .loop in
     let more = c .before .before .loop-test .taken in
     record {
       lookup =
-      record {
-        known =
-        record {
-          few = s .pre .0 .few;
-          square = s .pre .0 .square;
-          numbers = s .pre .0 .numbers;
-          origin-known = first-below (s .args .n) (s .args .k) (s .args .m) (l .first) (s .pre .0 .least) (s .pre .0 .shortest) more;
-        };
-        most = s .pre .0 .neighbours;
-        memo = l .inv .6;
-      };
+          record {
+            known =
+                record {
+                  few = s .pre .0 .few;
+                  square = s .pre .0 .square;
+                  numbers = s .pre .0 .numbers;
+                  origin-known = first-below (s .args .n) (s .args .k) (s .args .m) (l .first) (s .pre .0 .least) (s .pre .0 .shortest) more;
+                };
+            most = s .pre .0 .neighbours;
+            memo = l .inv .6;
+          };
       short = s .pre .0 .short;
       fits = missing-one (s .args .n) (s .args .k) (s .args .m) (l .first) (s .pre .0 .least) (s .pre .0 .shortest) more;
       room = l .inv .2;
@@ -105,7 +104,7 @@ array-share-prefix-own c = c .before .before .kept-neighbours .ensures .within
 
 -- src/lib.rt:125:54
 slice-aggregate-branch : tie.Need-slice-aggregate-branch Inv-loop μ-loop
-slice-aggregate-branch c = 
+slice-aggregate-branch c =
     let q = c .before .before .before .kept-neighbours in
     let g : q .result ≡ length (take (q .result) (q .last .1 .1 .1 .1 .1 .1 .1 .0)) = simp length-take (omega (arith, q .ensures .within)) in
     g
@@ -116,7 +115,7 @@ slice-aggregate-branch-2 c = search needs
 
 -- src/lib.rt:125:9
 branch-requires : tie.Need-branch-requires Inv-loop μ-loop
-branch-requires c κs = 
+branch-requires c κs =
     let s = c .before .before .before .before .before .before .before .before .before .before .before .before in
     let l = c .before .before .before .before .before .before .before .before .before .loop in
     let q = c .before .before .before .before .before .kept-neighbours in
@@ -134,16 +133,16 @@ branch-requires c κs =
       missing = missing-two (s .args .n) (s .args .k) (s .args .m) (l .first) (s .pre .0 .least) (s .pre .0 .shortest) more;
       entries-few = few;
       below =
-      kept-below (s .args .distances .now) (s .args .n) (s .args .m) (s .args .count) (s .args .k - 1) (l .first) list (q .ensures .list-is) (s .pre .0 .shortest) (omega (arith, s .pre .0 .least))
-      (first-below (s .args .n) (s .args .k) (s .args .m) (l .first) (s .pre .0 .least) (s .pre .0 .shortest) more);
+          kept-below (s .args .distances .now) (s .args .n) (s .args .m) (s .args .count) (s .args .k - 1) (l .first) list (q .ensures .list-is) (s .pre .0 .shortest) (omega (arith, s .pre .0 .least))
+          (first-below (s .args .n) (s .args .k) (s .args .m) (l .first) (s .pre .0 .least) (s .pre .0 .shortest) more);
       room =
-      record {
-        least = s .pre .1 .least;
-        most = s .pre .1 .most;
-        fits = omega (arith, s .pre .1 .fits, l .inv .4);
-        small = omega (arith, s .pre .1 .small, l .inv .4);
-        counted = l .inv .5;
-      };
+          record {
+            least = s .pre .1 .least;
+            most = s .pre .1 .most;
+            fits = omega (arith, s .pre .1 .fits, l .inv .4);
+            small = omega (arith, s .pre .1 .small, l .inv .4);
+            counted = l .inv .5;
+          };
       memo = q .ensures .memo;
     }
 
@@ -153,7 +152,7 @@ same-length c = search needs
 
 -- src/lib.rt:127:13
 returns : tie.Need-returns Inv-loop μ-loop
-returns c = 
+returns c =
     let s = c .before .before .before .before .before .before .before .before .before .before .before .before .before .before .before .before .before in
     let l = c .before .before .before .before .before .before .before .before .before .before .before .before .before .before .loop in
     let q = c .before .before .before .before .before .before .before .before .before .before .kept-neighbours in
@@ -174,7 +173,7 @@ loop-less c = search needs
 
 -- src/lib.rt:122:5
 loop-again : tie.Need-loop-again Inv-loop μ-loop
-loop-again c = 
+loop-again c =
     let s = c .before .before .before .before .before .before .before .before .before .before .before .before .before .before .before .before .before in
     let l = c .before .before .before .before .before .before .before .before .before .before .before .before .before .before .loop in
     let q = c .before .before .before .before .before .before .before .before .before .before .kept-neighbours in
@@ -182,8 +181,7 @@ loop-again c =
     let list = take (q .result) (q .last .1 .1 .1 .1 .1 .1 .1 .0) in
     let r = c .before .before .before .before .branch in
     let own = kept (s .args .distances .now) (s .args .n) (s .args .m) (s .args .count) in
-    let only = alone (l .cuts) (s .args .k) (l .first) (s .pre .0 .least) (omega (arith, l .inv .3)) in
-    (
+    let only = alone (l .cuts) (s .args .k) (l .first) (s .pre .0 .least) (omega (arith, l .inv .3)) in (
       omega (arith, l .inv .0),
       omega (arith, more, s .pre .0 .few),
       q .kept .1 .1 .1 .1 .1 .1 .1 .0 ∙ l .inv .2,
@@ -200,7 +198,7 @@ same-length-2 c = search needs
 
 -- src/lib.rt:105:1
 returns-2 : tie.Need-returns-2 Inv-loop μ-loop
-returns-2 c = 
+returns-2 c =
     let s = c .before .before .before .before in
     let l = c .before .loop in
     first-ended (kept (s .args .distances .now) (s .args .n) (s .args .m) (s .args .count)) (s .args .n) (s .args .k) (s .args .m) (s .args .capacity) (l .first) (l .seen) (l .lent) (omega (arith, l .inv .0, s .pre .0 .shortest)) (c .loop-test .left)

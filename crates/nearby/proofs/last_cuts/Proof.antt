@@ -31,7 +31,7 @@ loop-holds c = search needs
 
 -- src/lib.rt:38:20
 add-result : tie.Need-add-result Inv-loop μ-loop
-add-result c = 
+add-result c =
     let s = c .before .before .before .before .before in
     omega (arith, capacity-small (s .args .k) (s .args .capacity) (length (s .args .lent .now)) (s .pre .least) (s .pre .fits), s .pre .small)
 
@@ -41,7 +41,7 @@ same-length c = search needs
 
 -- src/lib.rt:38:13
 returns : tie.Need-returns Inv-loop μ-loop
-returns c = 
+returns c =
     let s = c .before .before .before .before .before in
     let l = c .before .before .loop in
     sym (last-past (s .args .k) (s .args .capacity) (take (s .args .k - 1) (s .args .cuts)) (s .args .entries .now) (l .i) (c .before .loop-test .taken) (l .seen) (l .lent) (c .if1 .taken)) ∙ l .inv .4
@@ -68,28 +68,28 @@ array-write-row c = search needs
 
 -- src/lib.rt:41:17
 array-share-prefix-row : tie.Need-array-share-prefix-row Inv-loop μ-loop
-array-share-prefix-row c = 
+array-share-prefix-row c =
     let s = c .before .before .before .before .before .before in
     let l = c .before .before .before .loop in
     rw (length-set (l .row)) (omega (arith, l .inv .1, s .pre .most))
 
 -- src/lib.rt:41:17
 slice-aggregate-put-set : tie.Need-slice-aggregate-put-set Inv-loop μ-loop
-slice-aggregate-put-set c = 
+slice-aggregate-put-set c =
     let s = c .before .before .before .before .before .before .before in
     let l = c .before .before .before .before .loop in
     simp (length-take, length-set) (omega (arith, l .inv .1, s .pre .most))
 
 -- src/lib.rt:41:34
 mul-put-set : tie.Need-mul-put-set Inv-loop μ-loop
-mul-put-set c = 
+mul-put-set c =
     let s = c .before .before .before .before .before .before .before .before in
     let l = c .before .before .before .before .before .loop in
     omega (arith, places-left (s .args .k) (s .args .capacity) (l .seen) (length (s .args .lent .now)) (c .before .before .before .if1 .left) (s .pre .fits), s .pre .small)
 
 -- src/lib.rt:41:9
 put-set-requires : tie.Need-put-set-requires Inv-loop μ-loop
-put-set-requires c κs = 
+put-set-requires c κs =
     let s = c .before .before .before .before .before .before .before .before in
     let l = c .before .before .before .before .before .loop in
     simp (length-take, length-set)
@@ -109,17 +109,16 @@ loop-less c = search needs
 
 -- src/lib.rt:36:5
 loop-again : tie.Need-loop-again Inv-loop μ-loop
-loop-again c = 
+loop-again c =
     let s = c .before .before .before .before .before .before .before .before .before .before .before in
     let l = c .before .before .before .before .before .before .before .before .loop in
-    let q = c .before .before .put-set in
-    (
+    let q = c .before .before .put-set in (
       omega (arith, c .before .before .before .before .before .before .before .loop-test .taken),
       length-set (l .row) _ _ ∙ l .inv .1,
       take-set-le (s .args .k - 1) (l .row) (s .args .k - 1) _ (omega arith) ∙ l .inv .2,
       q .kept .1 .0 ∙ l .inv .3,
       last-next (s .args .k) (s .args .capacity) (take (s .args .k - 1) (s .args .cuts)) (s .args .entries .now) (l .i) (c .before .before .before .before .before .before .before .loop-test .taken) (l .row) (l .seen) (l .lent) (q .last .1 .0) (c .before .before .before .before .before .before .if1 .left) (s .pre .least) (omega (arith, l .inv .1, s .pre .most)) (l .inv .2) (q .ensures)
-      ∙ l .inv .4,
+          ∙ l .inv .4,
     )
 
 -- src/lib.rt:22:1
@@ -128,7 +127,7 @@ same-length-2 c = search needs
 
 -- src/lib.rt:22:1
 returns-2 : tie.Need-returns-2 Inv-loop μ-loop
-returns-2 c = 
+returns-2 c =
     let s = c .before .before .before .before in
     let l = c .before .loop in
     last-ended (s .args .k) (s .args .capacity) (take (s .args .k - 1) (s .args .cuts)) (s .args .entries .now) (l .i) (l .seen) (l .lent) (omega arith) ∙ l .inv .4

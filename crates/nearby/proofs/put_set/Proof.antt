@@ -52,7 +52,7 @@ loop-less c = search needs
 
 -- src/lib.rt:16:5
 loop-again : tie.Need-loop-again Inv-loop μ-loop
-loop-again c = 
+loop-again c =
     let l = c .before .before .loop in
     let s = c .before .before .before in
     (search needs, search needs, simp length-set (l .inv .2), store-next (l .lent) (s .args .cuts .now) (s .args .at) (l .j) (search needs) ∙ l .inv .3)
@@ -63,7 +63,7 @@ same-length c = search needs
 
 -- src/lib.rt:12:1
 returns : tie.Need-returns Inv-loop μ-loop
-returns c = 
+returns c =
     let l = c .before .loop in
     let s = c .before .before in
     let e : l .j ≡ length (s .args .cuts .now) = omega arith in
