@@ -217,72 +217,6 @@ fn show_pairs(k: usize, allowance: u64, pin: u8) {
     );
 }
 
-// Three rounds of one location: the first takes 70 candidates with k = 3, the second is short, the third pinned.
-fn show_rounds(allowance: u64) {
-    let mut stops = [0u32; 10];
-    let mut result = [9u64; 12];
-    show_run(
-        3,
-        allowance,
-        1,
-        &[0],
-        &[0],
-        &mut stops,
-        &[4, 2, 4],
-        &[0, 0, 0],
-        &[0, 0, 200],
-        &mut result,
-    );
-}
-
-// Undone with the first n places of a journal.
-fn show_undone(route: &mut [u32], journal: &[u32], n: usize) {
-    if journal.len() < n {
-        return;
-    }
-    let undone = mittenschist::mittenschist_k_opt_undo_move(route, &journal[..n]);
-    say(b" undone ");
-    say_number(undone as u64);
-    say_route(&route[..]);
-    say(b"\n");
-}
-
-// A move applied at two cuts, and undone with the first places of its journal.
-fn show_move(round: usize, first: usize, second: usize) {
-    let mut route = [11u32, 12, 13, 14];
-    let mut journal = [0u32; 6];
-    let mut result = [9u64; 1];
-    let rounds = [0, round];
-    let cuts = [first, second];
-    let judged = mittenschist::mittenschist_k_opt_is_doable(
-        2,
-        0,
-        0,
-        4,
-        &rounds,
-        &cuts,
-        &mut result,
-    );
-    say(b"doable ");
-    say_number(judged as u64);
-    say_result(&result);
-    let applied = mittenschist::mittenschist_k_opt_do_move(
-        2,
-        0,
-        0,
-        &rounds,
-        &cuts,
-        &mut route,
-        &mut journal,
-    );
-    say(b" applied ");
-    say_number(applied as u64);
-    say_route(&route);
-    say(b" journal");
-    say_route(&journal);
-    show_undone(&mut route, &journal, 4);
-}
-
 // A listing of nearby sets: what it answers, the two numbers, and the buffer.
 fn show_nearby(n: usize, distances: &[f64], k: usize, neighbours: usize, sets: &mut [usize]) {
     let mut result = [9u64; 2];
@@ -311,11 +245,14 @@ fn show_five(d: f64, neighbours: usize, sets: &mut [usize]) {
     show_nearby(5, &distances, 3, neighbours, sets);
 }
 
-fn main() {
-    show_patterns();
+fn show_cut_set_counts() {
     show_cut_sets(3, &mut [0, 1, 2]);
     show_cut_sets(4, &mut [0, 1, 2, 3]);
     show_cut_sets(5, &mut [0, 1, 2, 3, 4]);
+}
+
+// T as the document asks it,
+fn show_starred() {
     show_t(3, 100, 5, 4294967295);
     show_t(3, 11, 5, 4294967295);
     show_t(3, 10, 5, 4294967295);
@@ -323,6 +260,10 @@ fn main() {
     show_t(3, 100, 5, 1);
     show_t(3, 100, 5, 2);
     show_t(4, 100, 5, 4294967295);
+}
+
+// and at other bounds.
+fn show_bounds() {
     show_t(4, 0, 5, 4294967295);
     show_t(2, 100, 5, 4294967295);
     show_t(3, 4, 5, 4294967295);
@@ -330,23 +271,22 @@ fn main() {
     show_t(6, 100, 1000001, 4294967295);
     show_long(&mut [0u32; 512]);
     show_long(&mut [0u32; 513]);
+}
+
+fn show_runs() {
     show_pairs(2, 1000, 0);
-    show_pairs(2, 18, 0);
-    show_pairs(2, 17, 0);
-    show_pairs(2, 0, 1);
-    show_pairs(3, 1000, 0);
-    show_rounds(1000);
-    show_rounds(70);
-    show_rounds(69);
-    show_move(0, 1, 3);
-    show_move(7, 1, 3);
-    show_move(7, 3, 1);
-    show_move(0, 1, 5);
+}
+
+fn show_listings() {
     show_five(1.0, 4, &mut [99usize; 12]);
     show_five(2.0, 4, &mut [99usize; 12]);
-    show_five(2.0, 4, &mut [99usize; 13]);
-    show_five(2.0, 4, &mut [99usize; 3]);
-    show_five(2.0, 4, &mut [99usize; 2]);
-    show_five(2.0, 1, &mut [99usize; 3]);
-    show_five(0.0 / 0.0, 4, &mut [99usize; 3]);
+}
+
+fn main() {
+    show_patterns();
+    show_cut_set_counts();
+    show_starred();
+    show_bounds();
+    show_runs();
+    show_listings();
 }

@@ -1,9 +1,9 @@
--- `runs::show_undone` asks nothing that does not hold. Assumes nothing.
+-- `rulings::show_undone` asks nothing that does not hold. Assumes nothing.
 use lib.ListN.{length-take}
 use native.Mathlib.Omega.{arith}
 use borrow.Author.Needs.{needs}
-use Rattle.runs.proofs.show_undone.Statement.{statement}
-use Rattle.runs.proofs.show_undone.Tie as tie
+use Rattle.rulings.proofs.show_undone.Statement.{statement}
+use Rattle.rulings.proofs.show_undone.Tie as tie
 
 returns : tie.Need-returns
 returns c = search needs
