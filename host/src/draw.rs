@@ -28,6 +28,23 @@ pub fn leg_table(random: &mut Random, locations: usize) -> Vec<u32> {
     legs
 }
 
+/// Different legs, which leave much to be improved.
+pub fn lively_legs(random: &mut Random, locations: usize) -> Vec<u32> {
+    let longest = random.pick([20, 1000, u64::from(LONGEST_LEG)]);
+    (0..locations * locations)
+        .map(|_| random.below(longest + 1) as u32)
+        .collect()
+}
+
+/// One kind of table or the other.
+pub fn some_legs(random: &mut Random, locations: usize) -> Vec<u32> {
+    if random.one_in(2) {
+        lively_legs(random, locations)
+    } else {
+        leg_table(random, locations)
+    }
+}
+
 fn mirror(legs: &mut [u32], locations: usize) {
     for from in 0..locations {
         for to in 0..from {

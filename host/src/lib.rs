@@ -1,5 +1,7 @@
 //! The library beside the Rust it is ported from, on the same inputs.
 
+#![deny(unsafe_code)]
+
 // The Rust names these crates; the stand-ins below take their places.
 extern crate self as smallvec;
 extern crate self as solverforge_config;
@@ -20,6 +22,7 @@ mod heuristic;
 pub mod checks;
 mod damage;
 pub mod draw;
+#[allow(unsafe_code)]
 pub mod ffi;
 pub mod lent;
 pub mod moves;

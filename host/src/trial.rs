@@ -7,6 +7,9 @@ use std::thread;
 /// The stack on which the host calls the library.
 const SMALL_STACK: usize = 128 * 1024;
 
+/// Expected in place of an answer where the Rust, asked in two ways, or the Rust and document 01 disagree.
+pub const NO_ANSWER: u32 = u32::MAX;
+
 /// Everything a caller sees after a call: what was returned, and each slice that may be written, by its bits.
 #[derive(Debug, PartialEq, Eq)]
 pub struct Reply {
@@ -78,6 +81,11 @@ impl Family {
             small_stack: false,
             source,
         }
+    }
+
+    /// Whether a name is the family's or its first word.
+    pub fn is_of(&self, name: &str) -> bool {
+        self.name == name || self.name.split('/').next() == Some(name)
     }
 
     /// The library is called on a small stack. A call that needs more ends the whole run.

@@ -3,6 +3,8 @@
 //! A call that ends sooner is repeated until some two million candidates have been examined, so short routes include what a
 //! call costs besides its candidates. The best of a few turns counts, since other work may share the machine.
 
+#![forbid(unsafe_code)]
+
 use host::draw::plane;
 use host::polish::case::Case;
 use host::random::Random;

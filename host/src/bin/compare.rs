@@ -1,5 +1,8 @@
-//! compare [seed] [cases] [family index]: feeds the library and the Rust the same cases and compares all that a caller sees.
-//! Family and index, as a difference prints them, run that one case again, given the same seed and cases. Exit 1 on a difference.
+//! compare [seed] [cases] [family [index]]: feeds the library and the Rust the same cases and compares all that a caller sees.
+//! Family and index, as a difference prints them, run that one case again, given the same seed and cases; the first word of families runs
+//! all of them. Exit 1 on a difference.
+
+#![forbid(unsafe_code)]
 
 use host::random::Random;
 use host::trial::{judge, Drawn, Family, Reply, Source, Trial};
@@ -9,22 +12,23 @@ use std::env;
 use std::process::ExitCode;
 
 const SEED: u64 = 1965;
-const CASES: u64 = 100_000;
+const CASES: u64 = 120_000;
 const MOST_PRINTED: u64 = 10;
 
 struct Settings {
     seed: u64,
     cases: u64,
-    only: Option<(String, u64)>,
+    family: Option<String>,
+    index: Option<u64>,
 }
 
 impl Settings {
-    fn wants_family(&self, family: &str) -> bool {
-        self.only.as_ref().is_none_or(|only| only.0 == family)
+    fn wants_family(&self, family: &Family) -> bool {
+        self.family.as_ref().is_none_or(|name| family.is_of(name))
     }
 
     fn wants(&self, index: u64) -> bool {
-        self.only.as_ref().is_none_or(|only| only.1 == index)
+        self.index.is_none_or(|only| only == index)
     }
 }
 
@@ -88,7 +92,7 @@ fn main() -> ExitCode {
     let Some(settings) = settings(&words, &families) else {
         let names: Vec<&str> = families.iter().map(|family| family.name).collect();
         eprintln!(
-            "usage: compare [seed] [cases] [family index]; the families: {}",
+            "usage: compare [seed] [cases] [family [index]]; the families: {}",
             names.join(", ")
         );
         return ExitCode::from(2);
@@ -100,7 +104,7 @@ fn main() -> ExitCode {
     }
     let mut tallies = Tallies::default();
     for (salt, family) in (0..).zip(&families) {
-        if settings.wants_family(family.name) {
+        if settings.wants_family(family) {
             run_family(&mut tallies, &settings, family, salt);
         }
     }
@@ -123,17 +127,18 @@ fn settings(words: &[String], families: &[Family]) -> Option<Settings> {
             .get(place)
             .map_or(Some(usual), |word| word.parse().ok())
     };
-    let only = match words.get(2) {
-        None => None,
-        Some(name) => {
-            families.iter().find(|family| family.name == name)?;
-            Some((name.clone(), words.get(3)?.parse().ok()?))
-        }
-    };
+    let family = words.get(2);
+    if family.is_some_and(|name| !families.iter().any(|family| family.is_of(name))) {
+        return None;
+    }
     Some(Settings {
         seed: number(0, SEED)?,
         cases: number(1, CASES)?,
-        only,
+        family: family.cloned(),
+        index: match words.get(3) {
+            Some(word) => Some(word.parse().ok()?),
+            None => None,
+        },
     })
 }
 

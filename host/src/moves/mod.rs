@@ -29,20 +29,20 @@ pub const FAMILIES: [Family; 11] = [
     Family::new(
         APPLY,
         "apply/random",
-        Source::Drawn(300, 0, generate::draw_apply),
+        Source::Drawn(600, 0, generate::draw_apply),
     ),
     Family::new(
         APPLY,
         "apply/loose",
-        Source::Drawn(100, 0, generate::draw_loose),
+        Source::Drawn(300, 0, generate::draw_loose),
     ),
     Family::new(
         APPLY,
         "apply/damaged",
-        Source::Drawn(100, damage::APPLY_SETS, damage::draw_apply),
+        Source::Drawn(300, damage::APPLY_SETS, damage::draw_apply),
     ),
     Family::new(UNDO, "undo/lengths", Source::Each(undo::each_length)),
-    Family::new(UNDO, "undo/random", Source::Drawn(50, 0, undo::draw)),
+    Family::new(UNDO, "undo/random", Source::Drawn(200, 0, undo::draw)),
     Family::new(
         DOABLE,
         "doable/few-cuts",
@@ -51,11 +51,11 @@ pub const FAMILIES: [Family; 11] = [
     Family::new(
         DOABLE,
         "doable/random",
-        Source::Drawn(100, 0, generate::draw_doable),
+        Source::Drawn(300, 0, generate::draw_doable),
     ),
     Family::new(
         DOABLE,
         "doable/damaged",
-        Source::Drawn(30, damage::DOABLE_SETS, damage::draw_doable),
+        Source::Drawn(100, damage::DOABLE_SETS, damage::draw_doable),
     ),
 ];

@@ -24,7 +24,7 @@ pub fn random_case(random: &mut Random) -> Case {
         1 => 32,
         2 => random.index(33),
         3 => n.saturating_sub(1).min(32),
-        _ => random.within(2, 12),
+        _ => random.within(3, 20),
     };
     let sets = random.pick([1, 2, 3, 10, 30, 60]);
     Case {

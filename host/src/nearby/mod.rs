@@ -17,10 +17,14 @@ pub const FAMILIES: [Family; 5] = [
     Family::new(CALL, "nearby/short", Source::Each(short::each)),
     Family::new(CALL, "nearby/rooms", Source::Each(short::each_room)),
     Family::new(CALL, "nearby/bounds", Source::Each(bounds::each)).on_small_stack(),
-    Family::new(CALL, "nearby/random", Source::Drawn(400, 0, generate::draw)),
+    Family::new(
+        CALL,
+        "nearby/random",
+        Source::Drawn(1000, 0, generate::draw),
+    ),
     Family::new(
         CALL,
         "nearby/damaged",
-        Source::Drawn(50, damage::SETS, damage::draw),
+        Source::Drawn(200, damage::SETS, damage::draw),
     ),
 ];

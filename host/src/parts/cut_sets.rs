@@ -7,7 +7,7 @@ use crate::oracle::seen;
 use crate::random::Random;
 use crate::rules::{bad_cuts, bad_k, lowest, too_many_stops, MOST_STOPS};
 use crate::tables::listed;
-use crate::trial::{damages, put, Drawn, Reply, Trial, Visit};
+use crate::trial::{damages, put, Drawn, Reply, Trial, Visit, NO_ANSWER};
 use crate::{draw, ffi};
 use std::fmt::{Display, Formatter, Result as Written};
 
@@ -31,11 +31,22 @@ impl Step {
         ])
     }
 
-    fn next(&self) -> Option<Vec<usize>> {
+    /// The next set, none after the last; an error if the Rust was seen to do otherwise.
+    fn next(&self) -> Result<Option<Vec<usize>>, u32> {
+        let next = next_by_force(&self.cuts, self.n);
         match &self.seen {
-            Some(next) => next.clone(),
-            None => next_by_force(&self.cuts, self.n),
+            Some(seen) if *seen != next => Err(NO_ANSWER),
+            _ => Ok(next),
         }
+    }
+
+    fn answer(&self, cuts: &mut Vec<usize>, result: &mut [u64]) -> Result<(), u32> {
+        let next = self.next()?;
+        put(result, &[u64::from(next.is_some())]);
+        if let Some(next) = next {
+            *cuts = next;
+        }
+        Ok(())
     }
 }
 
@@ -53,13 +64,12 @@ fn next_by_force(cuts: &[usize], n: usize) -> Option<Vec<usize>> {
 
 impl Trial for Step {
     fn expected(&self) -> Reply {
-        let code = self.refusal();
+        let mut code = self.refusal();
         let mut result = filled(self.room);
         let mut cuts = self.cuts.clone();
         if code == 0 {
-            let next = self.next();
-            put(&mut result, &[u64::from(next.is_some())]);
-            cuts = next.unwrap_or(cuts);
+            let answer = self.answer(&mut cuts, &mut result);
+            code = answer.err().unwrap_or(0);
         }
         Reply::new(code, [("cuts", bits(&cuts)), ("result", result)])
     }

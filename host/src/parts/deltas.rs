@@ -4,18 +4,16 @@
 use super::cut_sets::damage_cuts;
 use super::route::{damage_route, of_stops, random_route, Route};
 use crate::damage::{legs_size, wrong_k, wrong_pattern};
+use crate::draw::lively_legs;
 use crate::ffi;
 use crate::lent::{bits, Lent};
 use crate::moves::generate::random_cuts;
 use crate::oracle::{moves, seen};
 use crate::random::Random;
 use crate::rules::{bad_cuts, bad_k, bad_pattern, lowest, pattern_count};
-use crate::tables::listed;
-use crate::trial::{damages, Drawn, Reply, Trial};
+use crate::tables::{listed, Tables};
+use crate::trial::{damages, Drawn, Reply, Trial, Visit, NO_ANSWER};
 use std::fmt::{Display, Formatter, Result as Written};
-
-/// Returned in place of a reply where the Rust's own delta is not the difference of the lengths.
-const RUST_DIFFERS: u32 = u32::MAX;
 
 struct Delta {
     k: usize,
@@ -104,7 +102,7 @@ impl Trial for Delta {
         if code == 0 {
             result[0] = self.difference();
             if self.seen && !self.pinned() {
-                code = RUST_DIFFERS;
+                code = NO_ANSWER;
             }
         }
         Reply::new(code, [("result", bits(&result))])
@@ -174,6 +172,35 @@ fn on_route(random: &mut Random, mut route: Route) -> Delta {
 pub fn draw(random: &mut Random, _index: u64) -> Drawn {
     let route = random_route(random);
     (Box::new(on_route(random, route)), None)
+}
+
+/// Every pattern of every k on a few routes on which it shows.
+pub fn each_pattern(random: &mut Random, visit: Visit) {
+    for k in 2..=5 {
+        for pattern in 0..pattern_count(k) {
+            for stops in [k + 1, 2 * k, 2 * k + 2] {
+                visit(Box::new(of_pattern(random, k, pattern, stops)));
+            }
+        }
+    }
+}
+
+fn of_pattern(random: &mut Random, k: usize, pattern: usize, stops: usize) -> Delta {
+    let locations = stops + 1;
+    let head = usize::from(stops > k + 1);
+    let route = Route {
+        tables: Tables::of_legs(locations, lively_legs(random, locations)),
+        depot: 0,
+        stops: (1..locations as u32).collect(),
+    };
+    Delta {
+        k,
+        pattern,
+        cuts: (0..k).map(|cut| cut * stops / k + head).collect(),
+        route,
+        room: 1,
+        seen: stops == k + 1,
+    }
 }
 
 pub fn draw_short(random: &mut Random, _index: u64) -> Drawn {

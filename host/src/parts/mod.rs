@@ -21,53 +21,58 @@ const LENGTH: &str = "route_length";
 const DELTA: &str = "delta";
 const FEASIBLE: &str = "route_feasible";
 
-pub const FAMILIES: [Family; 16] = [
+pub const FAMILIES: [Family; 17] = [
     Family::new(PATTERN, "pattern/each", Source::Each(patterns::each)),
     Family::new(CUTS, "cuts/short", Source::Each(cut_sets::each_short)),
     Family::new(CUTS, "cuts/wrong", Source::Each(cut_sets::each_wrong)),
-    Family::new(CUTS, "cuts/random", Source::Drawn(50, 0, cut_sets::draw)),
+    Family::new(CUTS, "cuts/random", Source::Drawn(200, 0, cut_sets::draw)),
     Family::new(
         CUTS,
         "cuts/damaged",
-        Source::Drawn(20, cut_sets::SETS, cut_sets::draw_damaged),
+        Source::Drawn(100, cut_sets::SETS, cut_sets::draw_damaged),
     ),
     Family::new(REJOIN, "rejoin/short", Source::Each(rejoining::each_short)),
     Family::new(
         REJOIN,
         "rejoin/random",
-        Source::Drawn(50, 0, rejoining::draw),
+        Source::Drawn(200, 0, rejoining::draw),
     ),
     Family::new(
         REJOIN,
         "rejoin/damaged",
-        Source::Drawn(20, rejoining::SETS, rejoining::draw_damaged),
+        Source::Drawn(100, rejoining::SETS, rejoining::draw_damaged),
     ),
-    Family::new(LENGTH, "length/random", Source::Drawn(50, 0, lengths::draw)),
+    Family::new(
+        LENGTH,
+        "length/random",
+        Source::Drawn(200, 0, lengths::draw),
+    ),
     Family::new(
         LENGTH,
         "length/damaged",
-        Source::Drawn(20, lengths::SETS, lengths::draw_damaged),
+        Source::Drawn(100, lengths::SETS, lengths::draw_damaged),
     ),
+    Family::new(DELTA, "delta/patterns", Source::Each(deltas::each_pattern)),
     Family::new(
         DELTA,
         "delta/short",
         Source::Drawn(20, 0, deltas::draw_short),
     ),
-    Family::new(DELTA, "delta/random", Source::Drawn(50, 0, deltas::draw)),
+    Family::new(DELTA, "delta/random", Source::Drawn(200, 0, deltas::draw)),
     Family::new(
         DELTA,
         "delta/damaged",
-        Source::Drawn(20, deltas::SETS, deltas::draw_damaged),
+        Source::Drawn(100, deltas::SETS, deltas::draw_damaged),
     ),
     Family::new(
         FEASIBLE,
         "feasible/random",
-        Source::Drawn(50, 0, feasible::draw),
+        Source::Drawn(200, 0, feasible::draw),
     ),
     Family::new(
         FEASIBLE,
         "feasible/damaged",
-        Source::Drawn(20, feasible::SETS, feasible::draw_damaged),
+        Source::Drawn(100, feasible::SETS, feasible::draw_damaged),
     ),
     Family::new(
         FEASIBLE,

@@ -11,7 +11,7 @@ use crate::rules::{
     bad_cuts, bad_k, bad_pattern, lowest, pattern_count, too_many_stops, MOST_STOPS,
 };
 use crate::tables::listed;
-use crate::trial::{damages, Drawn, Reply, Trial, Visit};
+use crate::trial::{damages, Drawn, Reply, Trial, Visit, NO_ANSWER};
 use std::fmt::{Display, Formatter, Result as Written};
 
 struct Rejoin {
@@ -36,19 +36,25 @@ impl Rejoin {
         ])
     }
 
-    fn rejoined(&self) -> Vec<u32> {
-        let by_move = || moves::do_move(self.k, self.pattern, 0, &self.cuts, &self.route).0;
-        self.seen.clone().unwrap_or_else(by_move)
+    /// As `k_opt_do_move` rejoins; an error if `reconnect` was seen to do otherwise.
+    fn rejoined(&self) -> Result<Vec<u32>, u32> {
+        let (route, _) = moves::do_move(self.k, self.pattern, 0, &self.cuts, &self.route);
+        match &self.seen {
+            Some(seen) if *seen != route => Err(NO_ANSWER),
+            _ => Ok(route),
+        }
     }
 }
 
 impl Trial for Rejoin {
     fn expected(&self) -> Reply {
-        let code = self.refusal();
+        let mut code = self.refusal();
         let mut out = filled_u32(self.room);
         if code == 0 {
-            let route = self.rejoined();
-            out[..route.len()].copy_from_slice(&route);
+            match self.rejoined() {
+                Ok(route) => out[..route.len()].copy_from_slice(&route),
+                Err(number) => code = number,
+            }
         }
         Reply::new(code, [("out", bits(&out))])
     }
@@ -72,8 +78,8 @@ impl Trial for Rejoin {
 
     fn kind(&self, _expected: &Reply) -> &'static str {
         match self.seen {
-            Some(_) => "as polish_route rejoins",
-            None => "as k_opt_do_move rejoins",
+            Some(_) => "seen in polish_route too",
+            None => "as k_opt_do_move alone",
         }
     }
 }

@@ -1,7 +1,7 @@
 //! A route with its tables, as length, delta and the deadline check take it.
 
 use crate::damage;
-use crate::draw::{leg_table, order, set_deadlines, some_depot};
+use crate::draw::{order, set_deadlines, some_depot, some_legs};
 use crate::random::Random;
 use crate::rules::{too_many_stops, MOST_STOPS};
 use crate::tables::{listed, Tables};
@@ -47,8 +47,11 @@ pub fn random_route(random: &mut Random) -> Route {
 }
 
 pub fn of_stops(random: &mut Random, stops: usize) -> Route {
-    let locations = random.within(1, 14);
-    let mut tables = Tables::of_legs(locations, leg_table(random, locations));
+    let locations = match random.below(3) {
+        0 => random.within(1, 14),
+        _ => stops.min(20) + random.within(1, 3),
+    };
+    let mut tables = Tables::of_legs(locations, some_legs(random, locations));
     let depot = some_depot(random, locations);
     let stops = order(random, locations, depot, stops);
     set_deadlines(random, &mut tables, depot, &stops);

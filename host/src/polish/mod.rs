@@ -4,7 +4,7 @@ pub mod bounds;
 pub mod case;
 mod damage;
 mod generate;
-mod planted;
+pub mod planted;
 mod short;
 
 use crate::trial::{Family, Source};

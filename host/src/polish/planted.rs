@@ -11,18 +11,22 @@ use crate::trial::Drawn;
 /// The patterns of all k together.
 pub const PATTERNS: u64 = 1 + 7 + 47 + 383;
 
-/// A case for the pattern of this index, those of k = 2 first.
 pub fn draw(random: &mut Random, index: u64) -> Drawn {
+    (Box::new(planted_case(random, index, 0)), None)
+}
+
+/// A case for the pattern of this index, those of k = 2 first, with at least so many stops.
+pub fn planted_case(random: &mut Random, index: u64, least: usize) -> Case {
     let mut all = (2..=5).flat_map(enumerate_reconnections);
     let pattern = all
         .nth((index % PATTERNS) as usize)
         .expect("438 patterns of the Rust");
-    let bounds = segment_bounds(random, &pattern);
-    let stops = bounds[pattern.segment_count()];
+    let mut bounds = segment_bounds(random, &pattern);
+    let stops = bounds[pattern.segment_count()].max(least);
+    bounds[pattern.segment_count()] = stops;
     let route: Vec<u32> = (1..=stops as u32).collect();
     let target = rejoined(&route, &bounds, &pattern);
-    let case = on_time_only(random, pattern.k(), route, &target);
-    (Box::new(case), None)
+    on_time_only(random, pattern.k(), route, &target)
 }
 
 /// Where each segment begins and the last one ends. A segment that is reversed has two stops, so that it shows; the others have

@@ -1,7 +1,7 @@
 //! Random runs that document 01 does not refuse.
 
 use super::case::{Case, NUMBERS_A_ROUND};
-use crate::draw::{leg_table, order, set_deadlines, some_depot};
+use crate::draw::{order, set_deadlines, some_depot, some_legs};
 use crate::oracle::run::{run, run_quietly};
 use crate::random::Random;
 use crate::rules::{MOST_ROUNDS, MOST_STOPS};
@@ -50,7 +50,7 @@ fn length(random: &mut Random, k: usize) -> usize {
 }
 
 fn of_lengths(random: &mut Random, k: usize, locations: usize, lengths: &[usize]) -> Case {
-    let mut tables = Tables::of_legs(locations, leg_table(random, locations));
+    let mut tables = Tables::of_legs(locations, some_legs(random, locations));
     let one_depot = some_depot(random, locations);
     let mut rounds = Vec::new();
     for &stops in lengths {
@@ -58,7 +58,7 @@ fn of_lengths(random: &mut Random, k: usize, locations: usize, lengths: &[usize]
         let depot = random.pick([one_depot, one_depot, other]);
         rounds.push((depot, order(random, locations, depot, stops)));
     }
-    if !rounds.is_empty() {
+    if !rounds.is_empty() && random.one_in(2) {
         let (depot, route) = &rounds[random.index(rounds.len())];
         set_deadlines(random, &mut tables, *depot, route);
     }
