@@ -11,7 +11,7 @@ const RUST_FILES: [(&str, &str); 7] = [
     ("k_opt_reconnection", "heuristic/move/k_opt_reconnection.rs"),
     ("k_opt", "heuristic/move/k_opt.rs"),
     ("metadata", "heuristic/move/metadata.rs"),
-    ("list_kernel", "heuristic/move/list_kernel/k_opt.rs"),
+    ("k_opt_moves", "heuristic/move/list_kernel/k_opt.rs"),
     (
         "nearby_state",
         "heuristic/selector/list_kernel/k_opt/nearby_state.rs",

@@ -13,8 +13,8 @@ pub(crate) mod r#move {
     pub(crate) mod list_kernel {
         use crate::stand_ins::lists::{ListRangeAccess, ListWindowAccess};
 
-        include!(concat!(env!("OUT_DIR"), "/list_kernel.rs"));
-        pub(crate) use list_kernel::{k_opt_do_move, k_opt_is_doable, k_opt_undo_move};
+        include!(concat!(env!("OUT_DIR"), "/k_opt_moves.rs"));
+        pub(crate) use k_opt_moves::{k_opt_do_move, k_opt_is_doable, k_opt_undo_move};
     }
 }
 

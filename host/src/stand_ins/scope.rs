@@ -89,6 +89,9 @@ impl<'t, S, D, BestCb> PhaseScope<'t, '_, S, D, BestCb> {
     }
 }
 
+/// Left out by document 01.
+pub(crate) struct Score;
+
 /// A step of a phase: here one round being committed.
 pub(crate) struct StepScope<'t, 'a, 'b, S, D, BestCb> {
     phase_scope: &'b mut PhaseScope<'t, 'a, S, D, BestCb>,
@@ -110,9 +113,11 @@ impl<'t, 'a, 'b, S, D: Director<S>, BestCb> StepScope<'t, 'a, 'b, S, D, BestCb> 
         self.phase_scope
     }
 
-    pub(crate) fn calculate_score(&mut self) {}
+    pub(crate) fn calculate_score(&mut self) -> Score {
+        Score
+    }
 
-    pub(crate) fn set_step_score(&mut self, _score: ()) {}
+    pub(crate) fn set_step_score(&mut self, _score: Score) {}
 
     pub(crate) fn complete(self) {}
 }
