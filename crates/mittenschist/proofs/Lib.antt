@@ -6,3 +6,6 @@ pub mod ReconnectReply
 pub mod DeltaReply
 pub mod FeasibleReply
 pub mod PolishReply
+pub mod Written
+pub mod MoveReplies
+pub mod RunReply

@@ -1,21 +1,22 @@
--- The replies of the entry `next_cut_set`, over plain values. Assumes nothing.
-use mathlib.Core.Path.{_≡_, refl, ap, _∙_}
+-- The replies of the entry `next_cut_set` and of its C function, over plain values. Assumes nothing.
+use mathlib.Core.Path.{_≡_, refl, sym, ap, _∙_}
 use mathlib.Core.Bool.{Bool, cond}
-use mathlib.Core.List.{List, [], _∷_}
-use Prim.Native.Nat.{ℕ}
+use mathlib.Core.List.{List, [], _∷_, _++_}
+use Prim.Native.Nat.{ℕ, _≤_}
 use native.Mathlib.Omega.{arith}
-use lib.ListN.{length}
+use lib.ListN.{length, drop, set}
 use Rattle.theory.specs.Moves.{next-cuts}
 use Rattle.theory.specs.Tables.{CutSet}
-use Rattle.theory.specs.Refusals.{refusal}
+use Rattle.theory.specs.Refusals.{Rule, refusal}
 use Rattle.theory.specs.Answers.{reply, step-answer}
 use Rattle.theory.specs.declared.CutStep.{CutStep}
 use Rattle.theory.specs.declared.CutStep.the-variants.{Refused}
-use Rattle.theory.proofs.Refusals.{known}
-use Rattle.theory.proofs.Judged.{cuts-fine}
+use Rattle.theory.proofs.Refusals.{Passes, known}
+use Rattle.theory.proofs.Judged.{cuts-fine, room-fine}
 use Rattle.cuts.specs.Step.{found, or-kept, Stepped}
-use Rattle.mittenschist.specs.Promises.{NextCutSetReply, next-cut-set-rules}
+use Rattle.mittenschist.specs.Promises.{NextCutSetReply, next-cut-set-rules, with-room, step-values, NextCutSetWritten}
 use Rattle.mittenschist.proofs.Entries.{refused-reply, taken-reply, refused-kept, taken-done, taken-passes}
+use Rattle.mittenschist.proofs.Written.{first-place}
 
 module _ (k n : ℕ) (cuts : List ℕ) (number : ℕ) (judged : number ≡ refusal (next-cut-set-rules k n cuts)) where
   pub refused : (number ≡ 0 → ⊥) → NextCutSetReply k n cuts (Refused number) cuts
@@ -38,4 +39,38 @@ module _ (k n : ℕ) (cuts : List ℕ) (number : ℕ) (judged : number ≡ refus
         record {
           reply-is = e ∙ ap (λ b. reply 0 (cond b 1 0 ∷ [])) (s .moved) ∙ taken-reply (next-cut-set-rules k n cuts) number judged (cond (found (next-cuts n cuts)) 1 0 ∷ []) h;
           cuts-are = s .cuts-after ∙ taken-done (next-cut-set-rules k n cuts) number judged (or-kept (next-cuts n cuts) cuts) cuts h;
+        }
+
+module _ (k n : ℕ) (cuts result : List ℕ) (number : ℕ) (judged : number ≡ refusal (with-room (next-cut-set-rules k n cuts) 1 (length result))) where
+  abbrev asked : List Rule
+  asked = with-room (next-cut-set-rules k n cuts) 1 (length result)
+
+  pub refused-call : (number ≡ 0 → ⊥) → NextCutSetWritten k n cuts result number cuts result
+  refused-call h =
+      record {
+        written = record { number-is = judged; result-is = refused-kept asked number judged (step-values n cuts ++ drop 1 result) result h };
+        cuts-are = refused-kept asked number judged (or-kept (next-cuts n cuts) cuts) cuts h;
+      }
+
+  module _ (h : number ≡ 0) where
+    passes : Passes asked
+    unfolding known
+    passes = taken-passes asked number judged refl h
+
+    pub fine-call : CutSet (length cuts) n cuts
+    fine-call =
+        let c = cuts-fine k n cuts (passes .0) (passes .1 .0) (passes .1 .1 .0) in
+        record { least = omega (arith, c .many, c .least); most = omega (arith, c .many, c .most); short = c .short; many = refl; rising = c .rising }
+
+    pub space : 1 ≤ length result
+    space = room-fine 1 (length result) (passes .1 .1 .1 .0)
+
+    pub stepped-call : (b : Bool) (cuts′ : List ℕ) → Stepped n cuts b cuts′ → NextCutSetWritten k n cuts result 0 cuts′ (set result 0 (cond b 1 0))
+    stepped-call b cuts′ s =
+        record {
+          written = record {
+            number-is = sym h ∙ judged;
+            result-is = first-place (cond b 1 0) result space ∙ ap (λ b. cond b 1 0 ∷ drop 1 result) (s .moved) ∙ taken-done asked number judged (step-values n cuts ++ drop 1 result) result h;
+          };
+          cuts-are = s .cuts-after ∙ taken-done asked number judged (or-kept (next-cuts n cuts) cuts) cuts h;
         }

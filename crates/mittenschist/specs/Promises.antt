@@ -2,26 +2,38 @@
 use mathlib.Core.Path.{_≡_}
 use mathlib.Core.Bool.{cond}
 use mathlib.Core.List.{List, [], _∷_, _++_}
-use Prim.Native.Nat.{ℕ, _+_, _-_}
+use Prim.Native.Nat.{ℕ, _+_, _-_, _*_}
 use lib.Dec.{eqb}
 use lib.ListN.{length, getD, drop, replicate}
 use Rattle.theory.specs.Moves.{Pattern, patterns, next-cuts}
 use Rattle.theory.specs.Route.{tour-length, reconnected}
 use Rattle.theory.specs.Polish.{move-at, polish, Demand3}
 use Rattle.theory.specs.Tables.{problem, legs-only}
-use Rattle.theory.specs.Refusals.{Rule, refusal, cut-count, leg-table, deadline-list, leg-sizes, known-stops, stop-count, pattern-index, cut-positions, room, problem-rules}
-use Rattle.theory.specs.Answers.{reply, step-answer, length-answer, delta-answer, feasibility-answer, Verdict, five-numbers, handed-back}
+use Rattle.theory.specs.Refusals.{Rule, refusal, cut-count, leg-table, deadline-list, leg-sizes, known-stops, stop-count, pattern-index, cut-positions, cut-lists, own-round, journal-length, known-rounds, round-lists, room, problem-rules}
+use Rattle.theory.specs.Answers.{reply, step-answer, length-answer, delta-answer, feasibility-answer, doable-answer, Verdict, five-numbers, handed-back}
 use Rattle.moves.specs.Moves.{length-change}
 use Rattle.cuts.specs.Step.{found, or-kept}
+use Rattle.applying.specs.Applying.{doable}
+use Rattle.run.specs.Run.{run, rounds, routes, numbers, Ran}
 use Rattle.theory.specs.declared.CutStep.{CutStep}
 use Rattle.theory.specs.declared.RouteLength.{RouteLength}
 use Rattle.theory.specs.declared.LengthDelta.{LengthDelta}
 use Rattle.theory.specs.declared.Feasibility.{Feasibility}
 use Rattle.theory.specs.declared.ReconnectionAt.{ReconnectionAt}
+use Rattle.theory.specs.declared.Doable.{Doable}
 
 -- One thing where no rule applies, another where the call is refused.
 abbrev pub if-taken : {A : Type 0} → List Rule → A → A → A
 if-taken rules a b = cond (eqb (refusal rules) 0) a b
+
+-- The rules of a call that writes its values into a lent result: 21 where that has fewer places than are needed.
+abbrev pub with-room : List Rule → ℕ → ℕ → List Rule
+with-room rules needed lent = rules ++ (room needed lent ∷ [])
+
+-- The refusal number or 0; and the values in the first places of the lent result, whose places beyond keep their contents.
+pub record Written {A : Type 0} (rules : List Rule) (needed : ℕ) (values result : List A) (answer : ℕ) (result′ : List A) : Type 0 where
+  pub number-is : answer ≡ refusal (with-room rules needed (length result))
+  pub result-is : result′ ≡ if-taken (with-room rules needed (length result)) (values ++ drop needed result) result
 
 -- ---- pattern of an index
 
@@ -46,6 +58,14 @@ next-cut-set-rules k n cuts = cut-count k ∷ stop-count n ∷ cut-positions k n
 pub record NextCutSetReply (k n : ℕ) (cuts : List ℕ) (answer : CutStep) (cuts′ : List ℕ) : Type 0 where
   pub reply-is : step-answer answer ≡ reply (refusal (next-cut-set-rules k n cuts)) (cond (found (next-cuts n cuts)) 1 0 ∷ [])
   pub cuts-are : cuts′ ≡ if-taken (next-cut-set-rules k n cuts) (or-kept (next-cuts n cuts) cuts) cuts
+
+-- 1 moved, or 0 and the cuts kept.
+abbrev pub step-values : ℕ → List ℕ → List ℕ
+step-values n cuts = cond (found (next-cuts n cuts)) 1 0 ∷ []
+
+pub record NextCutSetWritten (k n : ℕ) (cuts result : List ℕ) (answer : ℕ) (cuts′ result′ : List ℕ) : Type 0 where
+  pub written : Written (next-cut-set-rules k n cuts) 1 (step-values n cuts) result answer result′
+  pub cuts-are : cuts′ ≡ if-taken (with-room (next-cut-set-rules k n cuts) 1 (length result)) (or-kept (next-cuts n cuts) cuts) cuts
 
 -- ---- reconnect
 
@@ -88,6 +108,11 @@ pub record FeasibleReply (locations : ℕ) (legs latest : List ℕ) (depot : ℕ
   pub reply-is : feasibility-answer (length route) answer ≡ reply (refusal (problem-rules locations legs latest depot route)) (position ∷ [])
   pub verdict : refusal (problem-rules locations legs latest depot route) ≡ 0 → Verdict (problem locations legs latest depot) route position
 
+pub record FeasibleWritten (locations : ℕ) (legs latest : List ℕ) (depot : ℕ) (route result : List ℕ) (answer : ℕ) (result′ : List ℕ) : Type 0 where
+  pub position : ℕ
+  pub written : Written (problem-rules locations legs latest depot route) 1 (position ∷ []) result answer result′
+  pub verdict : answer ≡ 0 → Verdict (problem locations legs latest depot) route position
+
 -- ---- polishing
 
 abbrev pub polish-rules : ℕ → ℕ → List ℕ → List ℕ → ℕ → List ℕ → ℕ → List Rule
@@ -110,3 +135,68 @@ pub record PolishReply (k allowance locations : ℕ) (legs latest : List ℕ) (d
       (five-numbers (problem locations legs latest depot) route (polish (problem locations legs latest depot) k allowance route) ++ drop 5 result)
       result
   pub demand3 : answer ≡ 0 → Demand3 (problem locations legs latest depot) (patterns k) k allowance route (handed-back result′ route′)
+
+-- ---- apply, undo, doable
+
+abbrev pub do-move-rules : ℕ → ℕ → ℕ → List ℕ → List ℕ → ℕ → ℕ → List Rule
+do-move-rules k pattern round rounds positions n lent =
+    cut-count k
+    ∷ stop-count n
+    ∷ pattern-index k pattern
+    ∷ cut-lists rounds positions
+    ∷ cut-positions k n positions
+    ∷ own-round round rounds
+    ∷ room n lent
+    ∷ []
+
+-- "Apply puts the old stops in the first n journal places and leaves those beyond."
+pub record DoMoveReply (k pattern round : ℕ) (rounds positions route journal : List ℕ) (answer : ℕ) (route′ journal′ : List ℕ) : Type 0 where
+  pub number-is : answer ≡ refusal (do-move-rules k pattern round rounds positions (length route) (length journal))
+  pub route-is : route′
+      ≡ if-taken (do-move-rules k pattern round rounds positions (length route) (length journal)) (reconnected (move-at (patterns k) positions pattern) route) route
+  pub journal-is : journal′
+      ≡ if-taken (do-move-rules k pattern round rounds positions (length route) (length journal)) (route ++ drop (length route) journal) journal
+
+abbrev pub undo-rules : ℕ → ℕ → List Rule
+undo-rules n journal = stop-count n ∷ journal-length n journal ∷ []
+
+-- "Undo puts them back and keeps the journal", which it is lent to read only.
+pub record UndoMoveReply (route journal : List ℕ) (answer : ℕ) (route′ : List ℕ) : Type 0 where
+  pub number-is : answer ≡ refusal (undo-rules (length route) (length journal))
+  pub route-is : route′ ≡ if-taken (undo-rules (length route) (length journal)) journal route
+
+-- "`k_opt_is_doable` answers yes or no and gives only 1, 5 and 6."
+abbrev pub doable-rules : ℕ → ℕ → ℕ → List Rule
+doable-rules k pattern n = cut-count k ∷ stop-count n ∷ pattern-index k pattern ∷ []
+
+-- 1 yes or 0 no.
+abbrev pub doable-values : ℕ → ℕ → ℕ → List ℕ → List ℕ → List ℕ
+doable-values k round n rounds positions = cond (doable k round n rounds positions) 1 0 ∷ []
+
+pub record DoableReply (k pattern round n : ℕ) (rounds positions : List ℕ) (answer : Doable) : Type 0 where
+  pub reply-is : doable-answer answer ≡ reply (refusal (doable-rules k pattern n)) (doable-values k round n rounds positions)
+
+-- ---- the run
+
+abbrev pub run-rules : ℕ → ℕ → List ℕ → List ℕ → List ℕ → List ℕ → List ℕ → List ℕ → ℕ → List Rule
+run-rules k locations legs latest stops lengths depots pins lent =
+    cut-count k
+    ∷ leg-table locations legs
+    ∷ deadline-list locations latest
+    ∷ leg-sizes legs
+    ∷ known-rounds locations depots stops
+    ∷ round-lists lengths depots pins (length stops)
+    ∷ room (4 * length lengths) lent
+    ∷ []
+
+-- Stops and result are those of document 01's run; and whenever it returns 0 each round holds the same stops, none is reached after a spent one, and with k
+-- from 3 to 5 each that finished is k-optimal (`Ran`).
+pub record RunReply (k allowance locations : ℕ) (legs latest stops lengths depots pins result : List ℕ) (answer : ℕ) (stops′ result′ : List ℕ) : Type 0 where
+  pub number-is : answer ≡ refusal (run-rules k locations legs latest stops lengths depots pins (length result))
+  pub stops-are : stops′
+      ≡ if-taken (run-rules k locations legs latest stops lengths depots pins (length result)) (routes (run (problem locations legs latest) k allowance (rounds lengths depots pins stops))) stops
+  pub result-is : result′
+      ≡ if-taken (run-rules k locations legs latest stops lengths depots pins (length result))
+      (numbers (run (problem locations legs latest) k allowance (rounds lengths depots pins stops)) ++ drop (4 * length lengths) result)
+      result
+  pub ran : answer ≡ 0 → Ran k allowance locations legs latest stops lengths depots pins result stops′ result′

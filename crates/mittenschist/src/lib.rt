@@ -1,9 +1,19 @@
 // The entries. Each takes whatever it is handed, judges it, and refuses it or calls the crate below that does the work.
 ghost use mathlib.Core.Path.{_≡_};
-ghost use Rattle.theory.specs.Refusals.{refusal};
-ghost use Rattle.mittenschist.specs.Promises.{NextCutSetReply, next-cut-set-rules, RouteLengthReply, route-length-rules, pattern-rules, ReconnectionReply, reconnect-rules, ReconnectReply, delta-rules, DeltaReply, FeasibleReply, polish-rules, PolishReply};
+ghost use mathlib.Core.List.{[], _∷_};
+ghost use Prim.Native.Nat.{_+_};
+ghost use Rattle.theory.specs.Route.{tour-length};
+ghost use Rattle.theory.specs.Polish.{move-at};
+ghost use Rattle.theory.specs.Moves.{patterns};
+ghost use Rattle.theory.specs.Tables.{legs-only};
+ghost use Rattle.theory.specs.Refusals.{refusal, problem-rules};
+ghost use Rattle.theory.specs.Answers.{deadline-position};
+ghost use Rattle.moves.specs.Moves.{length-change, pattern-values};
+ghost use Rattle.mittenschist.specs.Promises.{NextCutSetReply, next-cut-set-rules, RouteLengthReply, route-length-rules, pattern-rules, ReconnectionReply, reconnect-rules, ReconnectReply, delta-rules, DeltaReply, FeasibleReply, polish-rules, PolishReply, Written, NextCutSetWritten, FeasibleWritten, do-move-rules, DoMoveReply, undo-rules, UndoMoveReply, doable-rules, doable-values, DoableReply, run-rules, RunReply, with-room};
 ghost use lib.ListN.{length};
 use theory::CutStep;
+use theory::Deadline;
+use theory::Doable;
 use theory::Feasibility;
 use theory::KOptReconnection;
 use theory::LengthDelta;
@@ -215,5 +225,344 @@ pub extern "C" fn mittenschist_polish_route(
     }
     let answer = polishing::polish_route(k, allowance, locations, legs, latest, depot, route);
     polishing::put_polished(answer, result);
+    0
+}
+
+// The C functions of the other entries: the same refusals, then 21, and the values into the first places of the lent result.
+
+// One number into the first place of a lent result, or 21.
+fn give(value: u64, result: &mut [u64]) -> u32
+    ensures { λ r. ⌜ Written [] 1 (value ∷ []) (now (result .entry)) r (now (result .exit)) ⌝ }
+{
+    if result.len() < 1 {
+        return 21;
+    }
+    result[0] = value;
+    0
+}
+
+fn give_signed(value: i64, result: &mut [i64]) -> u32
+    ensures { λ r. ⌜ Written [] 1 (value ∷ []) (now (result .entry)) r (now (result .exit)) ⌝ }
+{
+    if result.len() < 1 {
+        return 21;
+    }
+    result[0] = value;
+    0
+}
+
+// k + 1 segment numbers, then the mask. Refuses 1, 6, 21.
+#[no_mangle]
+pub extern "C" fn mittenschist_reconnection_at(k: usize, pattern: usize, result: &mut [u64]) -> u32
+    ensures { λ r. ⌜ Written (pattern-rules k pattern) (k + 2) (pattern-values k pattern) (now (result .entry)) r (now (result .exit)) ⌝ }
+{
+    let bad_pattern = pattern_refusal(k, pattern);
+    if bad_pattern != 0 {
+        return bad_pattern;
+    }
+    let bad_room = refusals::check_room(k + 2, result.len());
+    if bad_room != 0 {
+        return bad_room;
+    }
+    moves::put_pattern(k, pattern, result);
+    0
+}
+
+// 1 and the next cuts, or 0 and the cuts kept. Refuses 1, 5, 7, 21.
+#[no_mangle]
+pub extern "C" fn mittenschist_next_cut_set(
+    k: usize,
+    n: usize,
+    cuts: &mut [usize],
+    result: &mut [u64],
+) -> u32
+    ensures { λ r. ⌜ NextCutSetWritten k n (now (cuts .entry)) (now (result .entry)) r (now (cuts .exit)) (now (result .exit)) ⌝ }
+{
+    let bad_cuts = next_cut_set_refusal(k, n, &cuts[..]);
+    let bad_room = refusals::check_room(1, result.len());
+    let refused = refusals::first(bad_cuts, bad_room);
+    if refused != 0 {
+        return refused;
+    }
+    if cuts::next_cut_set(cuts, n) {
+        result[0] = 1;
+        return 0;
+    }
+    result[0] = 0;
+    0
+}
+
+// Refuses 1, 5, 6, 7, 21.
+#[no_mangle]
+pub extern "C" fn mittenschist_reconnect(
+    k: usize,
+    pattern: usize,
+    cuts: &[usize],
+    route: &[u32],
+    out: &mut [u32],
+) -> u32
+    ensures { λ r. ⌜ ReconnectReply k pattern (now (cuts .entry)) (now (route .entry)) (now (out .entry)) r (now (out .exit)) ⌝ }
+{
+    reconnect(k, pattern, cuts, route, out)
+}
+
+// Refuses 2, 3, 4, 5, 21.
+#[no_mangle]
+pub extern "C" fn mittenschist_route_length(
+    locations: usize,
+    legs: &[u32],
+    depot: u32,
+    route: &[u32],
+    result: &mut [u64],
+) -> u32
+    ensures { λ r. ⌜ Written (route-length-rules locations (now (legs .entry)) depot (now (route .entry))) 1 (tour-length (legs-only locations (now (legs .entry)) depot) (now (route .entry)) ∷ []) (now (result .entry)) r (now (result .exit)) ⌝ }
+{
+    match route_length(locations, legs, depot, route) {
+        RouteLength::Refused(number) => number,
+        RouteLength::Seconds(seconds) => give(seconds, result),
+    }
+}
+
+// Refuses 1 to 7, 21.
+#[no_mangle]
+pub extern "C" fn mittenschist_delta(
+    k: usize,
+    pattern: usize,
+    cuts: &[usize],
+    locations: usize,
+    legs: &[u32],
+    depot: u32,
+    route: &[u32],
+    result: &mut [i64],
+) -> u32
+    ensures { λ r. ⌜ Written (delta-rules k pattern (now (cuts .entry)) locations (now (legs .entry)) depot (now (route .entry))) 1 (length-change (legs-only locations (now (legs .entry)) depot) (move-at (patterns k) (now (cuts .entry)) pattern) (now (route .entry)) ∷ []) (now (result .entry)) r (now (result .exit)) ⌝ }
+{
+    match delta(k, pattern, cuts, locations, legs, depot, route) {
+        LengthDelta::Refused(number) => number,
+        LengthDelta::Seconds(seconds) => give_signed(seconds, result),
+    }
+}
+
+// The position that says what the deadline check answered for a route of n stops.
+fn position_of(answer: Deadline, n: usize) -> u64
+    ensures { λ r. ⌜ r ≡ deadline-position n answer ⌝ }
+{
+    match answer {
+        Deadline::Kept => n as u64,
+        Deadline::Late(position) => position as u64,
+    }
+}
+
+// A late position, or the number of stops where every deadline is kept. Refuses 2, 3, 4, 5, 21.
+#[no_mangle]
+pub extern "C" fn mittenschist_route_feasible(
+    locations: usize,
+    legs: &[u32],
+    latest: &[u32],
+    depot: u32,
+    route: &[u32],
+    result: &mut [u64],
+) -> u32
+    ensures { λ r. ⌜ FeasibleWritten locations (now (legs .entry)) (now (latest .entry)) depot (now (route .entry)) (now (result .entry)) r (now (result .exit)) ⌝ }
+{
+    match route_feasible(locations, legs, latest, depot, route) {
+        Feasibility::Refused(number) => number,
+        Feasibility::Checked(answer) => give(position_of(answer, route.len()), result),
+    }
+}
+
+fn do_move_refusal(
+    k: usize,
+    pattern: usize,
+    round: usize,
+    rounds: &[usize],
+    positions: &[usize],
+    n: usize,
+    lent: usize,
+) -> u32
+    ensures { λ r. ⌜ r ≡ refusal (do-move-rules k pattern round (now (rounds .entry)) (now (positions .entry)) n lent) ⌝ }
+{
+    let bad_k = refusals::check_cut_count(k);
+    if bad_k != 0 {
+        return bad_k;
+    }
+    let bad_n = refusals::check_stop_count(n);
+    let bad_pattern = refusals::check_pattern_index(k, pattern);
+    let bad_lists = refusals::check_cut_lists(rounds, positions);
+    let bad_cuts = refusals::check_cut_positions(k, n, positions);
+    let bad_round = refusals::check_own_round(round, rounds);
+    let bad_room = refusals::check_room(n, lent);
+    let bad_cut_points = refusals::first(bad_lists, refusals::first(bad_cuts, bad_round));
+    refusals::first(
+        bad_n,
+        refusals::first(bad_pattern, refusals::first(bad_cut_points, bad_room)),
+    )
+}
+
+// Applies a pattern at the cuts: the old stops go into the first n journal places. Refuses 1, 5, 6, 7, 8, 21.
+#[no_mangle]
+pub extern "C" fn mittenschist_k_opt_do_move(
+    k: usize,
+    pattern: usize,
+    round: usize,
+    rounds: &[usize],
+    positions: &[usize],
+    route: &mut [u32],
+    journal: &mut [u32],
+) -> u32
+    ensures { λ r. ⌜ DoMoveReply k pattern round (now (rounds .entry)) (now (positions .entry)) (now (route .entry)) (now (journal .entry)) r (now (route .exit)) (now (journal .exit)) ⌝ }
+{
+    let n = route.len();
+    let lent = journal.len();
+    let refused = do_move_refusal(k, pattern, round, rounds, positions, n, lent);
+    if refused != 0 {
+        return refused;
+    }
+    applying::k_opt_do_move(k, pattern, positions, route, journal);
+    0
+}
+
+fn undo_refusal(n: usize, journal: usize) -> u32
+    ensures { λ r. ⌜ r ≡ refusal (undo-rules n journal) ⌝ }
+{
+    let bad_n = refusals::check_stop_count(n);
+    let bad_journal = refusals::check_journal_length(n, journal);
+    refusals::first(bad_n, bad_journal)
+}
+
+// Puts the stops of the journal back. Refuses 5, 22.
+#[no_mangle]
+pub extern "C" fn mittenschist_k_opt_undo_move(route: &mut [u32], journal: &[u32]) -> u32
+    ensures { λ r. ⌜ UndoMoveReply (now (route .entry)) (now (journal .entry)) r (now (route .exit)) ⌝ }
+{
+    let refused = undo_refusal(route.len(), journal.len());
+    if refused != 0 {
+        return refused;
+    }
+    applying::k_opt_undo_move(route, journal);
+    0
+}
+
+fn doable_refusal(k: usize, pattern: usize, n: usize) -> u32
+    ensures { λ r. ⌜ r ≡ refusal (doable-rules k pattern n) ⌝ }
+{
+    let bad_k = refusals::check_cut_count(k);
+    if bad_k != 0 {
+        return bad_k;
+    }
+    let bad_n = refusals::check_stop_count(n);
+    let bad_pattern = refusals::check_pattern_index(k, pattern);
+    refusals::first(bad_n, bad_pattern)
+}
+
+// Whether a move can be done. Refuses 1, 5, 6.
+pub fn k_opt_is_doable(
+    k: usize,
+    pattern: usize,
+    round: usize,
+    n: usize,
+    rounds: &[usize],
+    positions: &[usize],
+) -> Doable
+    ensures { λ r. ⌜ DoableReply k pattern round n (now (rounds .entry)) (now (positions .entry)) r ⌝ }
+{
+    let refused = doable_refusal(k, pattern, n);
+    if refused != 0 {
+        return Doable::Refused(refused);
+    }
+    if applying::k_opt_is_doable(k, round, n, rounds, positions) {
+        return Doable::Yes;
+    }
+    Doable::No
+}
+
+// 1 yes or 0 no. Refuses 1, 5, 6, 21.
+#[no_mangle]
+pub extern "C" fn mittenschist_k_opt_is_doable(
+    k: usize,
+    pattern: usize,
+    round: usize,
+    n: usize,
+    rounds: &[usize],
+    positions: &[usize],
+    result: &mut [u64],
+) -> u32
+    ensures { λ r. ⌜ Written (doable-rules k pattern n) 1 (doable-values k round n (now (rounds .entry)) (now (positions .entry))) (now (result .entry)) r (now (result .exit)) ⌝ }
+{
+    match k_opt_is_doable(k, pattern, round, n, rounds, positions) {
+        Doable::Refused(number) => number,
+        Doable::No => give(0, result),
+        Doable::Yes => give(1, result),
+    }
+}
+
+fn run_refusal(
+    k: usize,
+    locations: usize,
+    legs: &[u32],
+    latest: &[u32],
+    stops: &[u32],
+    lengths: &[usize],
+    depots: &[u32],
+    pins: &[u8],
+    lent: usize,
+) -> u32
+    ensures { λ r. ⌜ r ≡ refusal (run-rules k locations (now (legs .entry)) (now (latest .entry)) (now (stops .entry)) (now (lengths .entry)) (now (depots .entry)) (now (pins .entry)) lent) ⌝ }
+{
+    let bad_k = refusals::check_cut_count(k);
+    let bad_table = refusals::check_leg_table(locations, legs);
+    let bad_latest = refusals::check_deadline_list(locations, latest);
+    let bad_legs = refusals::check_leg_sizes(legs);
+    let bad_stops = refusals::check_known_rounds(locations, depots, stops);
+    let bad_rounds = refusals::check_round_lists(lengths, depots, pins, stops.len());
+    let bad_room = refusals::check_room(4 * lengths.len(), lent);
+    let bad_lists = refusals::first(bad_stops, refusals::first(bad_rounds, bad_room));
+    let bad_tables = refusals::first(bad_table, refusals::first(bad_latest, bad_legs));
+    refusals::first(bad_k, refusals::first(bad_tables, bad_lists))
+}
+
+// The run over rounds that lie end to end. Refuses 1, 2, 3, 4, 5, 21. The result receives four numbers a round: state, examined, accepted, applied.
+#[no_mangle]
+pub extern "C" fn mittenschist_run_list_k_opt(
+    k: usize,
+    allowance: u64,
+    locations: usize,
+    legs: &[u32],
+    latest: &[u32],
+    stops: &mut [u32],
+    lengths: &[usize],
+    depots: &[u32],
+    pins: &[u8],
+    result: &mut [u64],
+) -> u32
+    ensures { λ r. ⌜ RunReply k allowance locations (now (legs .entry)) (now (latest .entry)) (now (stops .entry)) (now (lengths .entry)) (now (depots .entry)) (now (pins .entry)) (now (result .entry)) r (now (stops .exit)) (now (result .exit)) ⌝ }
+{
+    let lent = result.len();
+    let refused = run_refusal(
+        k,
+        locations,
+        legs,
+        latest,
+        &stops[..],
+        lengths,
+        depots,
+        pins,
+        lent,
+    );
+    if refused != 0 {
+        return refused;
+    }
+    run::run_list_k_opt_in_phase(
+        k,
+        allowance,
+        locations,
+        legs,
+        latest,
+        stops,
+        lengths,
+        depots,
+        pins,
+        result,
+    );
     0
 }

@@ -1,10 +1,10 @@
 -- The pattern that the index names, as the struct holds it: an order of the segments and a mask for k cuts. Assumes nothing.
 use mathlib.Core.Path.{_≡_, sym, _∙_}
-use mathlib.Core.List.{List, [], List·Memᴰ}
+use mathlib.Core.List.{List, [], _++_, List·Memᴰ}
 use Prim.Native.Nat.{ℕ, zero, suc, _+_, _≤_, _<_}
 use native.Mathlib.Numerals.{add-one}
 use native.Mathlib.Omega.{arith}
-use lib.ListN.{length, take, length-append, length-take}
+use lib.ListN.{length, take, drop, set, length-append, length-take}
 use lib.Seq.{take-at}
 use Rattle.theory.specs.Moves.{Pattern, patterns}
 use Rattle.theory.specs.Tables.{CutSet, Order, ForK}
@@ -13,6 +13,8 @@ use Rattle.theory.proofs.Moves.{rearranges}
 use Rattle.theory.proofs.Index.{mem-getD, length-pattern}
 use Rattle.theory.proofs.ForK.{pattern-for-k}
 use Rattle.patterns.specs.Enumeration.{pattern, Holds}
+use Rattle.moves.specs.Moves.{pattern-values}
+use Rattle.moves.proofs.Shown.{mask-behind}
 
 listed-for-k : (k : ℕ) (p : Pattern) → List·Memᴰ p (patterns k) → 2 ≤ k → ForK k (p .order) (p .mask)
 listed-for-k zero p i h = absurd (omega arith)
@@ -22,7 +24,7 @@ listed-once : (k : ℕ) (p : Pattern) → List·Memᴰ p (patterns k) → 2 ≤ 
 listed-once zero p i h = absurd (omega arith)
 listed-once (suc m) p i h = record { once = rearranges m p i }
 
-module _ (k index : ℕ) (cuts route : List ℕ) (cut-set : CutSet k (length route) cuts) (known : index < length (patterns k)) (found : KOptReconnection) (holds : Holds k (pattern k index) found) where
+module _ (k index : ℕ) (known : index < length (patterns k)) (found : KOptReconnection) (holds : Holds k (pattern k index) found) where
   member : List·Memᴰ (pattern k index) (patterns k)
   member = mem-getD (patterns k) index (record { order = []; mask = 0 }) known
 
@@ -38,18 +40,21 @@ module _ (k index : ℕ) (cuts route : List ℕ) (cut-set : CutSet k (length rou
   order-is : take (k + 1) (found .«segment_order») ≡ pattern k index .order
   order-is = rw (holds .order) (take-at (pattern k index .order) _ (k + 1) size)
 
-  as-many : k ≡ length cuts
-  as-many = sym (cut-set .many)
+  -- The values of the index, behind which the result keeps its contents.
+  pub values-are : (result : List ℕ) → k + 2 ≤ length result →
+      set (take (k + 1) (found .«segment_order») ++ drop (length (take (k + 1) (found .«segment_order»))) result) (k + 1) (found .«reverse_mask») ≡ pattern-values k index ++ drop (k + 2) result
+  values-are result h = rw (order-is, holds .mask) (mask-behind (pattern k index .order) result (pattern k index .mask) k size h)
 
+module _ (k index : ℕ) (cuts route : List ℕ) (cut-set : CutSet k (length route) cuts) (known : index < length (patterns k)) (found : KOptReconnection) (holds : Holds k (pattern k index) found) where
   pub own-cuts : CutSet (length cuts) (length route) cuts
   own-cuts = rw (cut-set .many) cut-set
 
   pub once : Order (length cuts) (take (k + 1) (found .«segment_order»))
-  once = rw (cut-set .many, order-is) (listed-once k (pattern k index) member (cut-set .least))
+  once = rw (cut-set .many, order-is k index known found holds) (listed-once k (pattern k index) (member k index known found holds) (cut-set .least))
 
   pub for-k : ForK (length cuts) (take (k + 1) (found .«segment_order»)) (found .«reverse_mask»)
-  for-k = rw (cut-set .many, order-is, holds .mask) (listed-for-k k (pattern k index) member (cut-set .least))
+  for-k = rw (cut-set .many, order-is k index known found holds, holds .mask) (listed-for-k k (pattern k index) (member k index known found holds) (cut-set .least))
 
   -- The move that the code makes is the move of the index.
   pub same-move : {A : Type 0} (f : List ℕ → ℕ → A) → f (take (k + 1) (found .«segment_order»)) (found .«reverse_mask») ≡ f (pattern k index .order) (pattern k index .mask)
-  same-move f = rw (order-is, holds .mask)
+  same-move f = rw (order-is k index known found holds, holds .mask)

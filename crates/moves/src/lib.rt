@@ -1,12 +1,34 @@
 // A move by the index of its pattern: its route and its change of the length. No entry: the crates above call it.
 ghost use mathlib.Core.Path.{_≡_};
 ghost use mathlib.Core.List.{_++_};
+ghost use Prim.Native.Nat.{_+_, _≤_};
 ghost use lib.ListN.{length, drop};
 ghost use Rattle.theory.specs.Moves.{patterns};
 ghost use Rattle.theory.specs.Route.{reconnected};
 ghost use Rattle.theory.specs.Polish.{move-at};
 ghost use Rattle.theory.specs.Tables.{legs-only};
-ghost use Rattle.moves.specs.Moves.{Applicable, Comparable, length-change};
+ghost use Rattle.moves.specs.Moves.{Applicable, Comparable, length-change, pattern-values, Shown};
+
+fn put_order(order: &[u8], result: &mut [u64])
+    requires { ⌜ length (now order) ≤ length (now result) ⌝ }
+    ensures { λ _. ⌜ now (result .exit) ≡ now (order .entry) ++ drop (length (now (order .entry))) (now (result .entry)) ⌝ }
+{
+    for i in 0..order.len() {
+        result[i] = order[i] as u64;
+    }
+}
+
+// The segment numbers of the pattern with this index, then its mask, into the first places of the result.
+pub fn put_pattern(k: usize, index: usize, result: &mut [u64])
+    requires { ⌜ Shown k index (now result) ⌝ }
+    ensures { λ _. ⌜ now (result .exit) ≡ pattern-values k index ++ drop (k + 2) (now (result .entry)) ⌝ }
+{
+    let found = patterns::pattern_at(k, index);
+    let order = found.segment_order;
+    let segments = k + 1;
+    put_order(&order[..segments], result);
+    result[segments] = found.reverse_mask as u64;
+}
 
 // The route after the pattern with this index is applied at the cuts, into the first places of out.
 pub fn reconnect_pattern(k: usize, index: usize, cuts: &[usize], route: &[u32], out: &mut [u32])

@@ -20,7 +20,7 @@ or-false true b e = absurd (true≢false e)
 or-false false b e = (refl, e)
 
 -- Where no element passes a test, none does at any place.
-none-at : (t : ℕ → Bool) (l : List ℕ) → some t l ≡ false → (i : ℕ) → i < length l → t (getD l i 0) ≡ false
+pub none-at : (t : ℕ → Bool) (l : List ℕ) → some t l ≡ false → (i : ℕ) → i < length l → t (getD l i 0) ≡ false
 unfolding some
 none-at t [] e i h = absurd (omega arith)
 none-at t (x ∷ l) e zero h = or-false (t x) (some t l) e .0

@@ -17,6 +17,7 @@ pub mod Steps
 pub mod Cuts
 pub mod Stops
 pub mod Refusals
+pub mod LastRule
 pub mod Judged
 pub mod ForK
 pub mod Rows

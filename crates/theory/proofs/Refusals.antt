@@ -236,12 +236,16 @@ unfolding either
 either-zero zero = refl
 either-zero (suc n) = refl
 
-either-assoc : (a b c : ℕ) → either (either a b) c ≡ either a (either b c)
+pub either-assoc : (a b c : ℕ) → either (either a b) c ≡ either a (either b c)
 unfolding either
 either-assoc zero b c = refl
 either-assoc (suc a) b c = refl
 
 -- Checks that are judged together, and then the others.
+pub three-then : (a b c rest : ℕ) → either (either a (either b c)) rest ≡ either a (either b (either c rest))
+unfolding either
+three-then a b c rest = simp either-assoc
+
 pub four-then : (a b c d rest : ℕ) → either (either a (either b (either c (either d 0)))) rest ≡ either a (either b (either c (either d rest)))
 unfolding either
 four-then a b c d rest = simp either-assoc

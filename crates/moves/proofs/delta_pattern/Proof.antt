@@ -25,13 +25,13 @@ array-share-prefix-order : tie.Need-array-share-prefix-order
 array-share-prefix-order c =
     let f = c .before .before .before .before .before .before .before .pattern-at in
     let s = c .before .before .before .before .before .before .before .before .before .before .before in
-    wide (s .args .k) (s .args .index) (s .args .cuts .now) (s .args .route .now) (s .pre .cut-set) (s .pre .listed) (f .result) (f .ensures)
+    wide (s .args .k) (s .args .index) (s .pre .listed) (f .result) (f .ensures)
 
 slice-aggregate-delta : tie.Need-slice-aggregate-delta
 slice-aggregate-delta c =
     let f = c .before .before .before .before .before .before .before .before .pattern-at in
     let s = c .before .before .before .before .before .before .before .before .before .before .before .before in
-    long (s .args .k) (s .args .index) (s .args .cuts .now) (s .args .route .now) (s .pre .cut-set) (s .pre .listed) (f .result) (f .ensures)
+    long (s .args .k) (s .args .index) (s .pre .listed) (f .result) (f .ensures)
 
 delta-requires : tie.Need-delta-requires
 delta-requires c κs =

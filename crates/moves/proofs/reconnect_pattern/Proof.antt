@@ -19,13 +19,13 @@ array-share-prefix-order : tie.Need-array-share-prefix-order
 array-share-prefix-order c =
     let f = c .before .pattern-at in
     let s = c .before .before .before .before .before in
-    wide (s .args .k) (s .args .index) (s .args .cuts .now) (s .args .route .now) (s .pre .cut-set) (s .pre .listed) (f .result) (f .ensures)
+    wide (s .args .k) (s .args .index) (s .pre .listed) (f .result) (f .ensures)
 
 slice-aggregate-reconnect : tie.Need-slice-aggregate-reconnect
 slice-aggregate-reconnect c =
     let f = c .before .before .pattern-at in
     let s = c .before .before .before .before .before .before in
-    long (s .args .k) (s .args .index) (s .args .cuts .now) (s .args .route .now) (s .pre .cut-set) (s .pre .listed) (f .result) (f .ensures)
+    long (s .args .k) (s .args .index) (s .pre .listed) (f .result) (f .ensures)
 
 slice-relend-prefix-reconnect : tie.Need-slice-relend-prefix-reconnect
 slice-relend-prefix-reconnect c = search needs

@@ -33,7 +33,7 @@ returns : tie.Need-returns Inv-loop μ-loop
 returns c =
     let s = c .before .before .before .before in
     let l = c .before .before .before .loop in
-    some-here (λ x. leb (s .args .locations) x) (s .args .stops .now) (l .i) (c .before .before .loop-test .taken) (le-leb _ _ (c .if1 .taken)) (l .inv .1)
+    some-here 0 (λ x. leb (s .args .locations) x) (s .args .stops .now) (l .i) (c .before .before .loop-test .taken) (le-leb _ _ (c .if1 .taken)) (l .inv .1)
 
 add-i : tie.Need-add-i Inv-loop μ-loop
 add-i c = search needs
@@ -45,7 +45,7 @@ loop-again : tie.Need-loop-again Inv-loop μ-loop
 loop-again c =
     let s = c .before .before .before .before in
     let l = c .before .before .before .loop in
-    (omega arith, some-more (λ x. leb (s .args .locations) x) (s .args .stops .now) (l .i) (c .before .before .loop-test .taken) (lt-leb _ _ (c .if1 .left)) (l .inv .1))
+    (omega arith, some-more 0 (λ x. leb (s .args .locations) x) (s .args .stops .now) (l .i) (c .before .before .loop-test .taken) (lt-leb _ _ (c .if1 .left)) (l .inv .1))
 
 returns-2 : tie.Need-returns-2 Inv-loop μ-loop
 returns-2 c =

@@ -1,0 +1,85 @@
+-- `pair_loop::pair_loop` meets its contract. The invariant: the passes from what stands make those from the start. Assumes nothing.
+use mathlib.Core.Path.{_≡_, refl, _∙_}
+use Prim.Native.Nat.{_-_}
+use lib.ListN.{length}
+use Rattle.theory.specs.Route.{Problem}
+use Rattle.theory.specs.Tables.{problem}
+use Rattle.pair_loop.specs.PairLoop.{reply-of, passes, pair-loop}
+use Rattle.pair_loop.specs.Parts.{Going}
+use Rattle.pair_loop.proofs.Progress.{going-after-pass, stopped-there, nothing-accepted, passes-further, examined-more, told, passes-first}
+use native.Mathlib.Omega.{arith}
+use borrow.Author.Needs.{needs}
+use borrow.Author.Tests.{not-true, not-false}
+use Rattle.pair_loop.proofs.pair_loop.Statement.{statement}
+use Rattle.pair_loop.proofs.pair_loop.Tie as tie
+
+abbrev Inv-loop : tie.InvT-loop
+Inv-loop allowance locations legs latest depot route₀ so-far₀ route so-far =
+    Going allowance locations legs latest depot so-far route
+    × (length route ≡ length route₀)
+    × (passes (problem locations legs latest depot) allowance (length route₀) allowance (reply-of so-far route) ≡ pair-loop (problem locations legs latest depot) allowance route₀)
+
+abbrev μ-loop : tie.MeasureT-loop
+μ-loop allowance locations legs latest depot route₀ so-far₀ route so-far = allowance - so-far .examined
+
+abbrev P : tie.Start Inv-loop μ-loop → Problem
+P s = problem (s .args .locations) (s .args .legs .now) (s .args .latest .now) (s .args .depot)
+
+loop-holds : tie.Need-loop-holds Inv-loop μ-loop
+loop-holds c =
+    let s = c .before .before .before in
+    (record { timed = s .pre; going = refl; within = omega arith; fewer = omega arith }, refl, passes-first (P s) (s .args .allowance) (s .args .route .now))
+
+try-pass-requires : tie.Need-try-pass-requires Inv-loop μ-loop
+try-pass-requires c κs = c .before .loop .inv .0
+
+same-length : tie.Need-same-length Inv-loop μ-loop
+same-length c = search needs
+
+returns : tie.Need-returns Inv-loop μ-loop
+returns c =
+    let s = c .before .before .before .before .before .before .before .before .before .before in
+    let l = c .before .before .before .before .before .before .loop in
+    told (P s) (s .args .allowance) (s .args .route .now) (stopped-there (P s) (s .args .allowance) (l .inv .0) (length (s .args .route .now)) (l .inv .1) (c .before .before .before .before .try-pass .ensures) (not-true _ (c .if1 .taken)) ∙ l .inv .2)
+
+same-length-2 : tie.Need-same-length-2 Inv-loop μ-loop
+same-length-2 c = search needs
+
+returns-2 : tie.Need-returns-2 Inv-loop μ-loop
+returns-2 c =
+    let s = c .before .before .before .before .before .before .before .before .before .before .before .before .before in
+    let l = c .before .before .before .before .before .before .before .before .before .loop in
+    told (P s) (s .args .allowance) (s .args .route .now) (nothing-accepted (P s) (s .args .allowance) (l .inv .0) (length (s .args .route .now)) (l .inv .1) (c .before .before .before .before .before .before .before .try-pass .ensures) (c .if2 .taken) ∙ l .inv .2)
+
+loop-less : tie.Need-loop-less Inv-loop μ-loop
+loop-less c =
+    let s = c .before .before .before .before .before .before .before .before .before .before .before .before .before in
+    let l = c .before .before .before .before .before .before .before .before .before .loop in
+    let e = c .before .before .before .before .before .before .before .try-pass .ensures in
+    let k = going-after-pass (P s) (s .args .allowance) (l .inv .0) (length (l .route)) e (not-false _ (c .before .before .before .if1 .left)) in
+    let more = examined-more (P s) (s .args .allowance) (l .inv .0) (length (s .args .route .now)) (l .inv .1) e (c .if2 .left) in
+    omega (arith, more, k .0 .within)
+
+loop-again : tie.Need-loop-again Inv-loop μ-loop
+loop-again c =
+    let s = c .before .before .before .before .before .before .before .before .before .before .before .before .before in
+    let l = c .before .before .before .before .before .before .before .before .before .loop in
+    let e = c .before .before .before .before .before .before .before .try-pass .ensures in
+    let f = not-false _ (c .before .before .before .if1 .left) in
+    let k = going-after-pass (P s) (s .args .allowance) (l .inv .0) (length (l .route)) e f in
+    (k .0, k .1 ∙ l .inv .1, passes-further (P s) (s .args .allowance) (l .inv .0) (length (s .args .route .now)) (l .inv .1) e f (c .if2 .left) ∙ l .inv .2)
+
+pub pair-loop-spec : {M : Type 1} → statement M
+pair-loop-spec =
+    tie.close
+    (tie.spec
+    Inv-loop
+    μ-loop
+    loop-holds
+    try-pass-requires
+    same-length
+    returns
+    same-length-2
+    returns-2
+    loop-less
+    loop-again)

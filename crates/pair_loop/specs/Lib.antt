@@ -1,0 +1,2 @@
+pub mod PairLoop
+pub mod Parts

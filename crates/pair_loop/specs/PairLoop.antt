@@ -1,0 +1,95 @@
+-- The pair loop of document 01: what it makes of a route, sentence by sentence. What it has come to is a reply; `finished` stays true until the allowance
+-- ends the loop.
+use mathlib.Core.Path.{_≡_}
+use mathlib.Core.Bool.{Bool, true, false, _&&_, not, cond}
+use mathlib.Core.List.{List, [], _∷_, _++_, reverse, foldl}
+use Prim.Native.Nat.{ℕ, zero, suc, _+_, _-_, _≤_}
+use lib.Dec.{ltb, eqb}
+use lib.ListN.{length, getD, take, drop}
+use lib.Seq.{slice}
+use Rattle.theory.specs.Moves.{upfrom}
+use Rattle.theory.specs.Route.{Problem, count, feasible}
+use Rattle.theory.specs.Scan.{Reply}
+use Rattle.pair_loop.specs.declared.PairLoop.{PairLoop}
+
+-- "The stop before i, or the depot."
+abbrev pub stop-before : (depot : ℕ) → List ℕ → ℕ → ℕ
+stop-before depot r i = getD (depot ∷ r) i 0
+
+-- "The one after, or the depot."
+abbrev pub stop-after : (depot : ℕ) → List ℕ → ℕ → ℕ
+stop-after depot r j = getD (r ++ (depot ∷ [])) (suc j) 0
+
+-- "Turn i..j": the stops i to j are reversed.
+unfoldable pub turned : ℕ → ℕ → List ℕ → List ℕ
+turned i j r = take i r ++ (reverse (slice i (suc j) r) ++ drop (suc j) r)
+
+-- "d(a,c) + d(b,e) < d(a,b) + d(c,e)"
+unfoldable pub shortens : (d : ℕ → ℕ → ℕ) → (a b c e : ℕ) → Bool
+shortens d a b c e = ltb (d a c + d b e) (d a b + d c e)
+
+-- "c is stop j and e the one after, or the depot. If .., turn i..j; late, turn back": the turn stays exactly where it shortens and keeps every deadline.
+unfoldable pub accepts : Problem → (a b i : ℕ) → List ℕ → (j : ℕ) → Bool
+unfolding shortens turned
+accepts P a b i r j = shortens (P .leg) a b (getD r j 0) (stop-after (P .depot) r j) && feasible P (turned i j r)
+
+-- What the loop has come to while the allowance lasts.
+abbrev pub so-far : (examined accepted : ℕ) → List ℕ → Reply (List ℕ)
+so-far examined accepted route = record { finished = true; examined = examined; accepted = accepted; route = route }
+
+-- "Then the pair counts as examined."
+unfoldable pub examine : Problem → (a b i : ℕ) → Reply (List ℕ) → (j : ℕ) → Reply (List ℕ)
+unfolding accepts turned
+examine P a b i s j =
+    cond (accepts P a b i (s .route) j)
+    (so-far (suc (s .examined)) (suc (s .accepted)) (turned i j (s .route)))
+    (so-far (suc (s .examined)) (s .accepted) (s .route))
+
+-- The same when the allowance is reached.
+abbrev pub spent : Reply (List ℕ) → Reply (List ℕ)
+spent s = record { finished = false; examined = s .examined; accepted = s .accepted; route = s .route }
+
+-- "Before each pair the allowance is tested as in polishing": "at the allowance the answer is spent", and no further pair is tried.
+unfoldable pub pair : Problem → (allowance a b i : ℕ) → Reply (List ℕ) → (j : ℕ) → Reply (List ℕ)
+unfolding examine
+pair P allowance a b i s j = cond (s .finished && not (eqb (s .examined) allowance)) (examine P a b i s j) (spent s)
+
+-- "a .. and b (stop i) are read once; for j from i+1 to n−1": "b is not read anew after a turn".
+unfoldable pub row : Problem → (allowance n : ℕ) → Reply (List ℕ) → (i : ℕ) → Reply (List ℕ)
+unfolding pair upfrom
+row P allowance n s i = foldl (pair P allowance (stop-before (P .depot) (s .route) i) (getD (s .route) i 0) i) s (upfrom (suc i) (n - suc i))
+
+-- "For i from 0 to n−2."
+unfoldable pub pass : Problem → (allowance n : ℕ) → Reply (List ℕ) → Reply (List ℕ)
+unfolding row upfrom
+pass P allowance n s = foldl (row P allowance n) s (upfrom 0 (n - 1))
+
+-- From s to t something was accepted, and the allowance was not reached.
+abbrev pub goes-on : Reply (List ℕ) → Reply (List ℕ) → Bool
+goes-on s t = t .finished && ltb (s .accepted) (t .accepted)
+
+-- "Passes repeat until one accepts nothing. Nothing but the allowance is promised to end them": a pass that accepts examines a pair, so that there are at
+-- most as many of them as the allowance, and one more. That this number ends none early is the law `passes-repeat`.
+unfoldable pub passes : Problem → (allowance n more : ℕ) → Reply (List ℕ) → Reply (List ℕ)
+unfolding pass
+passes P allowance n zero s = pass P allowance n s
+passes P allowance n (suc more) s =
+    let t = pass P allowance n s in
+    let further = passes P allowance n more t in
+    cond (goes-on s t) further t
+
+unfoldable pub pair-loop : Problem → (allowance : ℕ) → List ℕ → Reply (List ℕ)
+unfolding passes
+pair-loop P allowance r = passes P allowance (length r) allowance (so-far 0 0 r)
+
+-- An answer of the code, with the route that it hands back, as a reply.
+abbrev pub reply-of : PairLoop → List ℕ → Reply (List ℕ)
+reply-of answer route = record { finished = answer .finished; examined = answer .examined; accepted = answer .accepted; route = route }
+
+-- What the pair loop promises, of the route handed in, the answer and the route handed back.
+pub record PairsTried (P : Problem) (allowance : ℕ) (route : List ℕ) (answer : PairLoop) (route′ : List ℕ) : Type 0 where
+  pub loop : reply-of answer route′ ≡ pair-loop P allowance route
+  pub same-stops : (x : ℕ) → count x route′ ≡ count x route
+  pub unchanged : answer .accepted ≡ 0 → route′ ≡ route
+  pub within : answer .examined ≤ allowance
+  pub spent : answer .finished ≡ false → answer .examined ≡ allowance

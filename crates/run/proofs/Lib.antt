@@ -1,0 +1,5 @@
+pub mod Numbers
+pub mod Outcomes
+pub mod Turn
+pub mod Judged
+pub mod Runs

@@ -1,0 +1,65 @@
+-- Runs over small rounds as one table: what is asked, and what document 01 says. Assumes nothing.
+use mathlib.Core.Path.{_≡_, refl}
+use mathlib.Core.List.{List, [], _∷_, _++_, map}
+use Prim.Native.Nat.{ℕ}
+use lib.ListN.{getD}
+use Rattle.theory.specs.Moves.{total, patterns, cut-sets, candidates}
+use Rattle.theory.specs.Route.{Problem, tour-length, feasible, reconnected}
+use Rattle.theory.specs.Scan.{scan-from}
+use Rattle.pair_loop.specs.PairLoop.{pair-loop}
+use Rattle.round.specs.Round.{run-round}
+use Rattle.run.specs.Run.{rounds, run, routes, numbers}
+
+-- Rounds with the depot 0; a leg that the rows lack is 0, and no deadline is in force.
+pub record Ask : Type 0 where
+  pub k : ℕ
+  pub allowance : ℕ
+  pub legs : List (List ℕ)
+  pub lengths : List ℕ
+  pub pins : List ℕ
+  pub stops : List ℕ
+
+abbrev problem-of : Ask → ℕ → Problem
+problem-of q depot = record { leg = λ a b. getD (getD (q .legs) a []) b 0; latest = λ a. 4294967295; depot = depot }
+
+-- Four numbers a round, and then the stops.
+unfoldable pub answer : Ask → List ℕ
+unfolding rounds run routes numbers
+answer q = let os = run (problem-of q) (q .k) (q .allowance) (rounds (q .lengths) [] (q .pins) (q .stops)) in numbers os ++ routes os
+
+-- "DA 10, DB 1, DC 5, DE 1, AB 1, AC 1, AE 1, BC 10, BE 10, CE 1; round A B C E."
+abbrev document-legs : List (List ℕ)
+document-legs = (0 ∷ 10 ∷ 1 ∷ 5 ∷ 1 ∷ []) ∷ (10 ∷ 0 ∷ 1 ∷ 1 ∷ 1 ∷ []) ∷ (1 ∷ 1 ∷ 0 ∷ 10 ∷ 10 ∷ []) ∷ (5 ∷ 1 ∷ 10 ∷ 0 ∷ 1 ∷ []) ∷ (1 ∷ 1 ∷ 10 ∷ 1 ∷ 0 ∷ []) ∷ []
+
+-- The round twice, with two cuts.
+abbrev twice : ℕ → Ask
+twice allowance = record { k = 2; allowance = allowance; legs = document-legs; lengths = 4 ∷ 4 ∷ []; pins = 0 ∷ 0 ∷ []; stops = 1 ∷ 2 ∷ 3 ∷ 4 ∷ 1 ∷ 2 ∷ 3 ∷ 4 ∷ [] }
+
+-- Four stops with legs of 0 and then a pinned round, with three cuts: 7 patterns on 10 cut sets.
+abbrev idle : ℕ → Ask
+idle allowance = record { k = 3; allowance = allowance; legs = []; lengths = 4 ∷ 1 ∷ []; pins = 0 ∷ 200 ∷ []; stops = 1 ∷ 2 ∷ 3 ∷ 4 ∷ 5 ∷ [] }
+
+abbrev passed-over : ℕ → Ask
+passed-over allowance = record { k = 3; allowance = allowance; legs = []; lengths = 4 ∷ 3 ∷ 3 ∷ 0 ∷ []; pins = 1 ∷ 200 ∷ 0 ∷ 0 ∷ []; stops = 1 ∷ 2 ∷ 3 ∷ 4 ∷ 5 ∷ 6 ∷ 7 ∷ 8 ∷ 9 ∷ 10 ∷ [] }
+
+abbrev runs : List (Ask × List ℕ)
+runs =
+    -- "18 examined, 3 accepted, end B A C E", each of the two.
+    (twice 36, 4 ∷ 18 ∷ 3 ∷ 3 ∷ 4 ∷ 18 ∷ 3 ∷ 3 ∷ 2 ∷ 1 ∷ 3 ∷ 4 ∷ 2 ∷ 1 ∷ 3 ∷ 4 ∷ [])
+    -- "A spent round is put back as handed in, and the run stops."
+    ∷ (twice 19, 4 ∷ 18 ∷ 3 ∷ 3 ∷ 5 ∷ 1 ∷ 1 ∷ 0 ∷ 2 ∷ 1 ∷ 3 ∷ 4 ∷ 1 ∷ 2 ∷ 3 ∷ 4 ∷ [])
+    ∷ (twice 18, 4 ∷ 18 ∷ 3 ∷ 3 ∷ 0 ∷ 0 ∷ 0 ∷ 0 ∷ 2 ∷ 1 ∷ 3 ∷ 4 ∷ 1 ∷ 2 ∷ 3 ∷ 4 ∷ [])
+    ∷ (twice 17, 5 ∷ 17 ∷ 3 ∷ 0 ∷ 0 ∷ 0 ∷ 0 ∷ 0 ∷ 1 ∷ 2 ∷ 3 ∷ 4 ∷ 1 ∷ 2 ∷ 3 ∷ 4 ∷ [])
+    -- "Allowance reached, stop; pinned, skip": in this order.
+    ∷ (idle 71, 3 ∷ 70 ∷ 0 ∷ 0 ∷ 1 ∷ 0 ∷ 0 ∷ 0 ∷ 1 ∷ 2 ∷ 3 ∷ 4 ∷ 5 ∷ [])
+    ∷ (idle 70, 3 ∷ 70 ∷ 0 ∷ 0 ∷ 0 ∷ 0 ∷ 0 ∷ 0 ∷ 1 ∷ 2 ∷ 3 ∷ 4 ∷ 5 ∷ [])
+    ∷ (idle 69, 5 ∷ 69 ∷ 0 ∷ 0 ∷ 0 ∷ 0 ∷ 0 ∷ 0 ∷ 1 ∷ 2 ∷ 3 ∷ 4 ∷ 5 ∷ [])
+    -- "Pinned, skip; under 4 stops, skip."
+    ∷ (passed-over 1, 1 ∷ 0 ∷ 0 ∷ 0 ∷ 1 ∷ 0 ∷ 0 ∷ 0 ∷ 2 ∷ 0 ∷ 0 ∷ 0 ∷ 2 ∷ 0 ∷ 0 ∷ 0 ∷ 1 ∷ 2 ∷ 3 ∷ 4 ∷ 5 ∷ 6 ∷ 7 ∷ 8 ∷ 9 ∷ 10 ∷ [])
+    ∷ (passed-over 0, 0 ∷ 0 ∷ 0 ∷ 0 ∷ 0 ∷ 0 ∷ 0 ∷ 0 ∷ 0 ∷ 0 ∷ 0 ∷ 0 ∷ 0 ∷ 0 ∷ 0 ∷ 0 ∷ 1 ∷ 2 ∷ 3 ∷ 4 ∷ 5 ∷ 6 ∷ 7 ∷ 8 ∷ 9 ∷ 10 ∷ [])
+    ∷ (record { k = 5; allowance = 9; legs = []; lengths = []; pins = []; stops = [] }, [])
+    ∷ []
+
+pub runs-right : map (λ q. answer (q .0)) runs ≡ map (λ q. q .1) runs
+unfolding answer run-round total pair-loop scan-from candidates patterns cut-sets tour-length feasible reconnected
+runs-right = refl
