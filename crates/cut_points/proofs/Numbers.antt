@@ -1,7 +1,7 @@
 -- The numbers read out of a list of cut points are those of its first six. Assumes nothing.
 use mathlib.Core.Path.{_≡_, refl}
 use mathlib.Core.List.{List, [], _∷_}
-use Prim.Native.Nat.{ℕ, suc, min, _≤_}
+use Prim.Native.Nat.{ℕ, min, _≤_}
 use native.Mathlib.Omega.{arith}
 use lib.ListN.{length}
 use Rattle.cut_points.specs.declared.CutPoint.{CutPoint}
@@ -12,15 +12,15 @@ six : (n : ℕ) → 6 ≤ n → min n 6 ≡ 6
 six n h = omega arith
 
 held : (cuts : List CutPoint) → Holds cuts (numbers-of (length cuts) (cut-at cuts 0) (cut-at cuts 1) (cut-at cuts 2) (cut-at cuts 3) (cut-at cuts 4) (cut-at cuts 5))
-held [] = record { rounds-long = omega arith; positions-long = omega arith; rounds-held = refl; positions-held = refl }
-held (a ∷ []) = record { rounds-long = omega arith; positions-long = omega arith; rounds-held = refl; positions-held = refl }
-held (a ∷ b ∷ []) = record { rounds-long = omega arith; positions-long = omega arith; rounds-held = refl; positions-held = refl }
-held (a ∷ b ∷ c ∷ []) = record { rounds-long = omega arith; positions-long = omega arith; rounds-held = refl; positions-held = refl }
-held (a ∷ b ∷ c ∷ d ∷ []) = record { rounds-long = omega arith; positions-long = omega arith; rounds-held = refl; positions-held = refl }
-held (a ∷ b ∷ c ∷ d ∷ e ∷ []) = record { rounds-long = omega arith; positions-long = omega arith; rounds-held = refl; positions-held = refl }
+held [] = record { sized = record { rounds-long = omega arith; positions-long = omega arith }; rounds-held = refl; positions-held = refl }
+held (a ∷ []) = record { sized = record { rounds-long = omega arith; positions-long = omega arith }; rounds-held = refl; positions-held = refl }
+held (a ∷ b ∷ []) = record { sized = record { rounds-long = omega arith; positions-long = omega arith }; rounds-held = refl; positions-held = refl }
+held (a ∷ b ∷ c ∷ []) = record { sized = record { rounds-long = omega arith; positions-long = omega arith }; rounds-held = refl; positions-held = refl }
+held (a ∷ b ∷ c ∷ d ∷ []) = record { sized = record { rounds-long = omega arith; positions-long = omega arith }; rounds-held = refl; positions-held = refl }
+held (a ∷ b ∷ c ∷ d ∷ e ∷ []) = record { sized = record { rounds-long = omega arith; positions-long = omega arith }; rounds-held = refl; positions-held = refl }
 held (a ∷ b ∷ c ∷ d ∷ e ∷ f ∷ cuts) =
     let z = six (length (a ∷ b ∷ c ∷ d ∷ e ∷ f ∷ cuts)) (omega arith) in
-    record { rounds-long = omega arith; positions-long = omega arith; rounds-held = rw z refl; positions-held = rw z refl }
+    record { sized = record { rounds-long = omega arith; positions-long = omega arith }; rounds-held = rw z refl; positions-held = rw z refl }
 
 -- As the walk has them: each number by an equation.
 pub held-by : (cuts : List CutPoint) (n : ℕ) (a b c d e f : CutPoint) (r : CutNumbers) →

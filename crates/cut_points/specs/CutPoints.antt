@@ -24,9 +24,13 @@ numbers-of count a b c d e f =
       positions = a .position ∷ b .position ∷ c .position ∷ d .position ∷ e .position ∷ f .position ∷ [];
     }
 
--- The numbers of the first six cut points.
-pub record Holds (cuts : List CutPoint) (held : CutNumbers) : Type 0 where
+-- As many numbers as the length says, at least.
+pub record Sized (held : CutNumbers) : Type 0 where
   pub rounds-long : held .len ≤ length (held .rounds)
   pub positions-long : held .len ≤ length (held .positions)
+
+-- The numbers of the first six cut points.
+pub record Holds (cuts : List CutPoint) (held : CutNumbers) : Type 0 where
+  pub sized : Sized held
   pub rounds-held : take (held .len) (held .rounds) ≡ take 6 (rounds-of cuts)
   pub positions-held : take (held .len) (held .positions) ≡ take 6 (positions-of cuts)

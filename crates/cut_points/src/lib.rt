@@ -1,4 +1,4 @@
-// Cut points, and a slice of them read into numbers: the functions that take the slice are proved by hand.
+// Cut points, and a slice of them read into numbers: the functions that take the slice are proved by hand. No entry: the crates above call it.
 ghost use mathlib.Core.Path.{_≡_};
 ghost use Prim.Native.Nat.{min};
 ghost use lib.ListN.{length};
@@ -10,7 +10,7 @@ pub struct CutPoint {
     pub position: usize,
 }
 
-// The first six cut points as numbers. There are at most five cuts, so that six are as many as more.
+// The first six cut points as numbers. A move has at most five cuts, so that six tell as much as more.
 pub struct CutNumbers {
     pub len: usize,
     pub rounds: [usize; 6],
@@ -23,6 +23,7 @@ fn cut_count(cuts: &[CutPoint]) -> usize
     cuts.len()
 }
 
+// The cut point at place i, or zeros beyond the last.
 fn cut_or_zero(cuts: &[CutPoint], i: usize) -> CutPoint
     ensures { λ r. ⌜ r ≡ cut-at (now (cuts .entry)) i ⌝ }
 {

@@ -14,7 +14,7 @@ use Rattle.theory.proofs.Refusals.{known}
 use Rattle.theory.proofs.Judged.{measurable-fine, pattern-fine, cuts-fine}
 use Rattle.moves.specs.Moves.{Comparable, length-change}
 use Rattle.mittenschist.specs.Promises.{DeltaReply, delta-rules}
-use Rattle.mittenschist.proofs.Entries.{refused-reply, taken-reply, taken-passes}
+use Rattle.theory.proofs.Taken.{refused-reply, taken-reply, taken-passes}
 
 module _ (k pattern : ℕ) (cuts : List ℕ) (locations : ℕ) (legs : List ℕ) (depot : ℕ) (route : List ℕ) (number : ℕ)
     (judged : number ≡ refusal (delta-rules k pattern cuts locations legs depot route)) where

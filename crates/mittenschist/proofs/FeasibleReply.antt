@@ -16,7 +16,7 @@ use Rattle.theory.proofs.Refusals.{known}
 use Rattle.theory.proofs.LastRule.{early}
 use Rattle.theory.proofs.Judged.{measurable-fine, deadlines-fine}
 use Rattle.mittenschist.specs.Promises.{FeasibleReply, Written, FeasibleWritten}
-use Rattle.mittenschist.proofs.Entries.{refused-reply, taken-reply, taken-passes}
+use Rattle.theory.proofs.Taken.{refused-reply, taken-reply, taken-passes}
 use Rattle.mittenschist.proofs.Written.{told-refused, told-values, passed-on, handed-over}
 
 module _ (locations : ℕ) (legs latest : List ℕ) (depot : ℕ) (route : List ℕ) (number : ℕ) (judged : number ≡ refusal (problem-rules locations legs latest depot route)) where

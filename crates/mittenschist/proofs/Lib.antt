@@ -1,4 +1,3 @@
-pub mod Entries
 pub mod NextCutSet
 pub mod RouteLengthReply
 pub mod ReconnectionReply
@@ -7,5 +6,4 @@ pub mod DeltaReply
 pub mod FeasibleReply
 pub mod PolishReply
 pub mod Written
-pub mod MoveReplies
 pub mod RunReply

@@ -15,7 +15,7 @@ use Rattle.theory.proofs.Refusals.{Passes, known}
 use Rattle.theory.proofs.Judged.{cuts-fine, room-fine}
 use Rattle.cuts.specs.Step.{found, or-kept, Stepped}
 use Rattle.mittenschist.specs.Promises.{NextCutSetReply, next-cut-set-rules, with-room, step-values, NextCutSetWritten}
-use Rattle.mittenschist.proofs.Entries.{refused-reply, taken-reply, refused-kept, taken-done, taken-passes}
+use Rattle.theory.proofs.Taken.{refused-reply, taken-reply, refused-kept, taken-done, taken-passes}
 use Rattle.mittenschist.proofs.Written.{first-place}
 
 module _ (k n : ℕ) (cuts : List ℕ) (number : ℕ) (judged : number ≡ refusal (next-cut-set-rules k n cuts)) where

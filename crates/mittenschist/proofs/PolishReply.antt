@@ -16,7 +16,7 @@ use Rattle.theory.proofs.Judged.{room-fine}
 use Rattle.polishing.specs.Loop.{Polishable}
 use Rattle.polishing.proofs.Judged.{polishable-fine}
 use Rattle.mittenschist.specs.Promises.{PolishReply, polish-rules}
-use Rattle.mittenschist.proofs.Entries.{refused-kept, taken-done, taken-passes}
+use Rattle.theory.proofs.Taken.{refused-kept, taken-done, taken-passes}
 
 -- The numbers of an answer are those of its reply, and the reply can be read off them again.
 values-are : (P : Problem) (route route′ : List ℕ) (answer : Polished) → counts-of answer .before ≡ tour-length P route → counts-of answer .after ≡ tour-length P route′ →

@@ -9,7 +9,7 @@ use Rattle.theory.proofs.Refusals.{known}
 use Rattle.theory.proofs.Judged.{cut-count-fine, pattern-fine}
 use Rattle.patterns.specs.Enumeration.{Listed, Holds}
 use Rattle.mittenschist.specs.Promises.{ReconnectionReply, pattern-rules, pattern-at}
-use Rattle.mittenschist.proofs.Entries.{refused-kept, taken-done, taken-passes}
+use Rattle.theory.proofs.Taken.{refused-kept, taken-done, taken-passes}
 
 module _ (k pattern number : ℕ) (judged : number ≡ refusal (pattern-rules k pattern)) where
   pub refused : (number ≡ 0 → ⊥) → ReconnectionReply k pattern (record { refusal = number; reconnection = record { «segment_order» = replicate 6 0; «reverse_mask» = 0; len = 0 } })

@@ -11,7 +11,7 @@ use Rattle.theory.specs.declared.RouteLength.the-variants.{Refused, Seconds}
 use Rattle.theory.proofs.Refusals.{known, four-then}
 use Rattle.theory.proofs.Judged.{measurable-fine}
 use Rattle.mittenschist.specs.Promises.{RouteLengthReply, route-length-rules}
-use Rattle.mittenschist.proofs.Entries.{refused-reply, taken-reply, taken-passes}
+use Rattle.theory.proofs.Taken.{refused-reply, taken-reply, taken-passes}
 
 -- The rules of the route, and then the others.
 pub route-then : (locations : ℕ) (legs : List ℕ) (depot : ℕ) (route : List ℕ) (rest : ℕ) →

@@ -9,7 +9,7 @@ use Rattle.theory.proofs.Refusals.{known}
 use Rattle.run.specs.Run.{run, rounds, routes, numbers, Runnable, Ran}
 use Rattle.run.proofs.Judged.{runnable-fine}
 use Rattle.mittenschist.specs.Promises.{RunReply, run-rules}
-use Rattle.mittenschist.proofs.Entries.{refused-kept, taken-done, taken-passes}
+use Rattle.theory.proofs.Taken.{refused-kept, taken-done, taken-passes}
 
 module _ (k A locations : ℕ) (legs latest stops lengths depots pins result : List ℕ) (number : ℕ)
     (judged : number ≡ refusal (run-rules k locations legs latest stops lengths depots pins (length result))) where

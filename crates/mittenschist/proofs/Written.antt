@@ -10,8 +10,8 @@ use borrow.Author.Tests.{lt-ltb, le-ltb, ltb-false}
 use Rattle.theory.specs.Refusals.{Rule, number, either, rules-of, first-in, refusal, room}
 use Rattle.theory.specs.Answers.{Answer, reply, refused}
 use Rattle.theory.proofs.LastRule.{early, room-last}
-use Rattle.mittenschist.specs.Promises.{if-taken, with-room, Written}
-use Rattle.mittenschist.proofs.Entries.{refused-kept, taken-done}
+use Rattle.mittenschist.specs.Promises.{with-room, Written}
+use Rattle.theory.proofs.Taken.{refused-kept, taken-done}
 
 -- What an answer with values says of the number and of the values.
 pub told-refused : {A : Type 0} (n m : ℕ) (v : A) (vs : List A) → refused n ≡ reply m (v ∷ vs) → (n ≡ m) × (n ≡ 0 → ⊥)

@@ -3,14 +3,13 @@ use mathlib.Core.Path.{_≡_}
 use mathlib.Core.Bool.{cond}
 use mathlib.Core.List.{List, [], _∷_, _++_}
 use Prim.Native.Nat.{ℕ, _+_, _-_, _*_}
-use lib.Dec.{eqb}
 use lib.ListN.{length, getD, drop, replicate}
 use Rattle.theory.specs.Moves.{Pattern, patterns, next-cuts}
 use Rattle.theory.specs.Route.{tour-length, reconnected}
 use Rattle.theory.specs.Polish.{move-at, polish, Demand3}
 use Rattle.theory.specs.Tables.{problem, legs-only}
-use Rattle.theory.specs.Refusals.{Rule, refusal, cut-count, leg-table, deadline-list, leg-sizes, known-stops, stop-count, pattern-index, cut-positions, cut-lists, own-round, journal-length, known-rounds, round-lists, room, problem-rules}
-use Rattle.theory.specs.Answers.{reply, step-answer, length-answer, delta-answer, feasibility-answer, doable-answer, Verdict, five-numbers, handed-back}
+use Rattle.theory.specs.Refusals.{Rule, refusal, if-taken, cut-count, leg-table, deadline-list, leg-sizes, known-stops, stop-count, pattern-index, cut-positions, known-rounds, round-lists, room, problem-rules}
+use Rattle.theory.specs.Answers.{reply, step-answer, length-answer, delta-answer, feasibility-answer, Verdict, five-numbers, handed-back}
 use Rattle.moves.specs.Moves.{length-change}
 use Rattle.cuts.specs.Step.{found, or-kept}
 use Rattle.applying.specs.Applying.{doable}
@@ -20,11 +19,6 @@ use Rattle.theory.specs.declared.RouteLength.{RouteLength}
 use Rattle.theory.specs.declared.LengthDelta.{LengthDelta}
 use Rattle.theory.specs.declared.Feasibility.{Feasibility}
 use Rattle.theory.specs.declared.ReconnectionAt.{ReconnectionAt}
-use Rattle.theory.specs.declared.Doable.{Doable}
-
--- One thing where no rule applies, another where the call is refused.
-abbrev pub if-taken : {A : Type 0} → List Rule → A → A → A
-if-taken rules a b = cond (eqb (refusal rules) 0) a b
 
 -- The rules of a call that writes its values into a lent result: 21 where that has fewer places than are needed.
 abbrev pub with-room : List Rule → ℕ → ℕ → List Rule
@@ -136,45 +130,11 @@ pub record PolishReply (k allowance locations : ℕ) (legs latest : List ℕ) (d
       result
   pub demand3 : answer ≡ 0 → Demand3 (problem locations legs latest depot) (patterns k) k allowance route (handed-back result′ route′)
 
--- ---- apply, undo, doable
-
-abbrev pub do-move-rules : ℕ → ℕ → ℕ → List ℕ → List ℕ → ℕ → ℕ → List Rule
-do-move-rules k pattern round rounds positions n lent =
-    cut-count k
-    ∷ stop-count n
-    ∷ pattern-index k pattern
-    ∷ cut-lists rounds positions
-    ∷ cut-positions k n positions
-    ∷ own-round round rounds
-    ∷ room n lent
-    ∷ []
-
--- "Apply puts the old stops in the first n journal places and leaves those beyond."
-pub record DoMoveReply (k pattern round : ℕ) (rounds positions route journal : List ℕ) (answer : ℕ) (route′ journal′ : List ℕ) : Type 0 where
-  pub number-is : answer ≡ refusal (do-move-rules k pattern round rounds positions (length route) (length journal))
-  pub route-is : route′
-      ≡ if-taken (do-move-rules k pattern round rounds positions (length route) (length journal)) (reconnected (move-at (patterns k) positions pattern) route) route
-  pub journal-is : journal′
-      ≡ if-taken (do-move-rules k pattern round rounds positions (length route) (length journal)) (route ++ drop (length route) journal) journal
-
-abbrev pub undo-rules : ℕ → ℕ → List Rule
-undo-rules n journal = stop-count n ∷ journal-length n journal ∷ []
-
--- "Undo puts them back and keeps the journal", which it is lent to read only.
-pub record UndoMoveReply (route journal : List ℕ) (answer : ℕ) (route′ : List ℕ) : Type 0 where
-  pub number-is : answer ≡ refusal (undo-rules (length route) (length journal))
-  pub route-is : route′ ≡ if-taken (undo-rules (length route) (length journal)) journal route
-
--- "`k_opt_is_doable` answers yes or no and gives only 1, 5 and 6."
-abbrev pub doable-rules : ℕ → ℕ → ℕ → List Rule
-doable-rules k pattern n = cut-count k ∷ stop-count n ∷ pattern-index k pattern ∷ []
+-- ---- doable; apply and undo promise what they do over cut points (crate cut_moves)
 
 -- 1 yes or 0 no.
 abbrev pub doable-values : ℕ → ℕ → ℕ → List ℕ → List ℕ → List ℕ
 doable-values k round n rounds positions = cond (doable k round n rounds positions) 1 0 ∷ []
-
-pub record DoableReply (k pattern round n : ℕ) (rounds positions : List ℕ) (answer : Doable) : Type 0 where
-  pub reply-is : doable-answer answer ≡ reply (refusal (doable-rules k pattern n)) (doable-values k round n rounds positions)
 
 -- ---- the run
 

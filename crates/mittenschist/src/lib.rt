@@ -8,8 +8,9 @@ ghost use Rattle.theory.specs.Moves.{patterns};
 ghost use Rattle.theory.specs.Tables.{legs-only};
 ghost use Rattle.theory.specs.Refusals.{refusal, problem-rules};
 ghost use Rattle.theory.specs.Answers.{deadline-position};
+ghost use Rattle.cut_moves.specs.Entries.{DoMoveReply, UndoReply, doable-rules};
 ghost use Rattle.moves.specs.Moves.{length-change, pattern-values};
-ghost use Rattle.mittenschist.specs.Promises.{NextCutSetReply, next-cut-set-rules, RouteLengthReply, route-length-rules, pattern-rules, ReconnectionReply, reconnect-rules, ReconnectReply, delta-rules, DeltaReply, FeasibleReply, polish-rules, PolishReply, Written, NextCutSetWritten, FeasibleWritten, do-move-rules, DoMoveReply, undo-rules, UndoMoveReply, doable-rules, doable-values, DoableReply, run-rules, RunReply, with-room};
+ghost use Rattle.mittenschist.specs.Promises.{NextCutSetReply, next-cut-set-rules, RouteLengthReply, route-length-rules, pattern-rules, ReconnectionReply, reconnect-rules, ReconnectReply, delta-rules, DeltaReply, FeasibleReply, polish-rules, PolishReply, Written, NextCutSetWritten, FeasibleWritten, doable-values, run-rules, RunReply, with-room};
 ghost use lib.ListN.{length};
 use theory::CutStep;
 use theory::Deadline;
@@ -371,34 +372,6 @@ pub extern "C" fn mittenschist_route_feasible(
     }
 }
 
-fn do_move_refusal(
-    k: usize,
-    pattern: usize,
-    round: usize,
-    rounds: &[usize],
-    positions: &[usize],
-    n: usize,
-    lent: usize,
-) -> u32
-    ensures { λ r. ⌜ r ≡ refusal (do-move-rules k pattern round (now (rounds .entry)) (now (positions .entry)) n lent) ⌝ }
-{
-    let bad_k = refusals::check_cut_count(k);
-    if bad_k != 0 {
-        return bad_k;
-    }
-    let bad_n = refusals::check_stop_count(n);
-    let bad_pattern = refusals::check_pattern_index(k, pattern);
-    let bad_lists = refusals::check_cut_lists(rounds, positions);
-    let bad_cuts = refusals::check_cut_positions(k, n, positions);
-    let bad_round = refusals::check_own_round(round, rounds);
-    let bad_room = refusals::check_room(n, lent);
-    let bad_cut_points = refusals::first(bad_lists, refusals::first(bad_cuts, bad_round));
-    refusals::first(
-        bad_n,
-        refusals::first(bad_pattern, refusals::first(bad_cut_points, bad_room)),
-    )
-}
-
 // Applies a pattern at the cuts: the old stops go into the first n journal places. Refuses 1, 5, 6, 7, 8, 21.
 #[no_mangle]
 pub extern "C" fn mittenschist_k_opt_do_move(
@@ -412,68 +385,15 @@ pub extern "C" fn mittenschist_k_opt_do_move(
 ) -> u32
     ensures { λ r. ⌜ DoMoveReply k pattern round (now (rounds .entry)) (now (positions .entry)) (now (route .entry)) (now (journal .entry)) r (now (route .exit)) (now (journal .exit)) ⌝ }
 {
-    let n = route.len();
-    let lent = journal.len();
-    let refused = do_move_refusal(k, pattern, round, rounds, positions, n, lent);
-    if refused != 0 {
-        return refused;
-    }
-    applying::k_opt_do_move(k, pattern, positions, route, journal);
-    0
-}
-
-fn undo_refusal(n: usize, journal: usize) -> u32
-    ensures { λ r. ⌜ r ≡ refusal (undo-rules n journal) ⌝ }
-{
-    let bad_n = refusals::check_stop_count(n);
-    let bad_journal = refusals::check_journal_length(n, journal);
-    refusals::first(bad_n, bad_journal)
+    cut_moves::do_move_lists(k, pattern, round, rounds, positions, route, journal)
 }
 
 // Puts the stops of the journal back. Refuses 5, 22.
 #[no_mangle]
 pub extern "C" fn mittenschist_k_opt_undo_move(route: &mut [u32], journal: &[u32]) -> u32
-    ensures { λ r. ⌜ UndoMoveReply (now (route .entry)) (now (journal .entry)) r (now (route .exit)) ⌝ }
+    ensures { λ r. ⌜ UndoReply (now (route .entry)) (now (journal .entry)) r (now (route .exit)) ⌝ }
 {
-    let refused = undo_refusal(route.len(), journal.len());
-    if refused != 0 {
-        return refused;
-    }
-    applying::k_opt_undo_move(route, journal);
-    0
-}
-
-fn doable_refusal(k: usize, pattern: usize, n: usize) -> u32
-    ensures { λ r. ⌜ r ≡ refusal (doable-rules k pattern n) ⌝ }
-{
-    let bad_k = refusals::check_cut_count(k);
-    if bad_k != 0 {
-        return bad_k;
-    }
-    let bad_n = refusals::check_stop_count(n);
-    let bad_pattern = refusals::check_pattern_index(k, pattern);
-    refusals::first(bad_n, bad_pattern)
-}
-
-// Whether a move can be done. Refuses 1, 5, 6.
-pub fn k_opt_is_doable(
-    k: usize,
-    pattern: usize,
-    round: usize,
-    n: usize,
-    rounds: &[usize],
-    positions: &[usize],
-) -> Doable
-    ensures { λ r. ⌜ DoableReply k pattern round n (now (rounds .entry)) (now (positions .entry)) r ⌝ }
-{
-    let refused = doable_refusal(k, pattern, n);
-    if refused != 0 {
-        return Doable::Refused(refused);
-    }
-    if applying::k_opt_is_doable(k, round, n, rounds, positions) {
-        return Doable::Yes;
-    }
-    Doable::No
+    cut_moves::k_opt_undo_move(route, journal)
 }
 
 // 1 yes or 0 no. Refuses 1, 5, 6, 21.
@@ -489,7 +409,7 @@ pub extern "C" fn mittenschist_k_opt_is_doable(
 ) -> u32
     ensures { λ r. ⌜ Written (doable-rules k pattern n) 1 (doable-values k round n (now (rounds .entry)) (now (positions .entry))) (now (result .entry)) r (now (result .exit)) ⌝ }
 {
-    match k_opt_is_doable(k, pattern, round, n, rounds, positions) {
+    match cut_moves::is_doable_lists(k, pattern, round, n, rounds, positions) {
         Doable::Refused(number) => number,
         Doable::No => give(0, result),
         Doable::Yes => give(1, result),

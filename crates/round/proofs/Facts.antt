@@ -18,7 +18,6 @@ use Rattle.theory.proofs.Stops.{as-many}
 use Rattle.theory.specs.declared.RoundState.{RoundState}
 use Rattle.theory.specs.declared.RoundState.the-variants as State
 use Rattle.pair_loop.proofs.Progress.{loop-onward, loop-bounded}
-use Rattle.round.proofs.Pairs.{pairs-unchanged}
 use Rattle.round.specs.Round.{Outcome, polish-round, outcome, run-round, number-of, examined-of, Finished, RoundRan}
 
 module _ (P : Problem) (k left : ℕ) (r : List ℕ) where
@@ -61,7 +60,7 @@ reply-sound P (suc (suc zero)) left r h =
       same = loop-onward P left r .same;
       within = loop-bounded P left r .within;
       spent = loop-bounded P left r .spent;
-      unchanged = pairs-unchanged P left r;
+      unchanged = loop-onward P left r .unchanged;
       optimal = λ l f. absurd (omega arith);
     }
 reply-sound P (suc (suc (suc k))) left r h =

@@ -1,27 +1,15 @@
 -- What the rules of a run establish, where none applies. Assumes nothing.
-use mathlib.Core.Path.{_≡_, refl}
-use mathlib.Core.Bool.{Bool, true, false, not, _||_, true≢false}
-use mathlib.Core.List.{List, [], _∷_}
-use Prim.Native.Nat.{ℕ, zero, suc, _*_, _<_}
-use native.Mathlib.Omega.{arith}
+use mathlib.Core.Path.{_≡_}
+use mathlib.Core.Bool.{false, not, _||_}
+use mathlib.Core.List.{List}
+use Prim.Native.Nat.{ℕ, _*_}
 use lib.Dec.{leb, ltb, eqb}
 use lib.ListN.{length, getD}
 use borrow.Author.Tests.{ltb-false, leb-false, eqb-true, not-false}
 use Rattle.theory.specs.Moves.{total}
 use Rattle.theory.specs.Refusals.{some, cut-count, leg-table, deadline-list, leg-sizes, known-rounds, round-lists, room}
-use Rattle.theory.proofs.Judged.{cut-count-fine, table-fine, deadlines-fine, room-fine}
+use Rattle.theory.proofs.Judged.{or-false, none-at, cut-count-fine, table-fine, deadlines-fine, room-fine}
 use Rattle.run.specs.Run.{Runnable}
-
-neither : (a b : Bool) → (a || b) ≡ false → (a ≡ false) × (b ≡ false)
-neither true b e = absurd (true≢false e)
-neither false b e = (refl, e)
-
--- Where no element passes a test, none does at any place.
-nowhere : (t : ℕ → Bool) (l : List ℕ) → some t l ≡ false → (i : ℕ) → i < length l → t (getD l i 0) ≡ false
-unfolding some
-nowhere t [] e i h = absurd (omega arith)
-nowhere t (x ∷ l) e zero h = neither (t x) (some t l) e .0
-nowhere t (x ∷ l) e (suc i) h = nowhere t l (neither (t x) (some t l) e .1) i (omega arith)
 
 pub runnable-fine : (k locations : ℕ) (legs latest stops lengths depots pins result : List ℕ) →
     cut-count k .1 ≡ false → leg-table locations legs .1 ≡ false → deadline-list locations latest .1 ≡ false → leg-sizes legs .1 ≡ false →
@@ -29,25 +17,25 @@ pub runnable-fine : (k locations : ℕ) (legs latest stops lengths depots pins r
     room (4 * length lengths) (length result) .1 ≡ false → Runnable k locations legs latest stops lengths depots pins result
 runnable-fine k locations legs latest stops lengths depots pins result a b c d e f g =
     let n = cut-count-fine k a in
-    let p = neither (some (λ s. leb locations s) depots) (some (λ s. leb locations s) stops) e in
+    let p = or-false (some (λ s. leb locations s) depots) (some (λ s. leb locations s) stops) e in
     let many = ltb 64 (length lengths) in
     let long = some (λ n. ltb 512 n) lengths in
     let depots-differ = not (eqb (length depots) (length lengths)) in
     let pins-differ = not (eqb (length pins) (length lengths)) in
     let stops-differ = not (eqb (total (λ n. n) lengths) (length stops)) in
-    let q₁ = neither (many || long || depots-differ || pins-differ) stops-differ f in
-    let q₂ = neither (many || long || depots-differ) pins-differ (q₁ .0) in
-    let q₃ = neither (many || long) depots-differ (q₂ .0) in
-    let q₄ = neither many long (q₃ .0) in
+    let q₁ = or-false (many || long || depots-differ || pins-differ) stops-differ f in
+    let q₂ = or-false (many || long || depots-differ) pins-differ (q₁ .0) in
+    let q₃ = or-false (many || long) depots-differ (q₂ .0) in
+    let q₄ = or-false many long (q₃ .0) in
     record {
       least = n .0;
       most = n .1;
       table = table-fine locations legs b d;
       deadlines = deadlines-fine locations latest c;
-      stops-known = λ i h. leb-false locations (getD stops i 0) (nowhere (λ s. leb locations s) stops (p .1) i h);
-      depots-known = λ i h. leb-false locations (getD depots i 0) (nowhere (λ s. leb locations s) depots (p .0) i h);
+      stops-known = λ i h. leb-false locations (getD stops i 0) (none-at (λ s. leb locations s) stops (p .1) i h);
+      depots-known = λ i h. leb-false locations (getD depots i 0) (none-at (λ s. leb locations s) depots (p .0) i h);
       few = ltb-false 64 (length lengths) (q₄ .0);
-      short = λ i h. ltb-false 512 (getD lengths i 0) (nowhere (λ n. ltb 512 n) lengths (q₄ .1) i h);
+      short = λ i h. ltb-false 512 (getD lengths i 0) (none-at (λ n. ltb 512 n) lengths (q₄ .1) i h);
       depots-each = eqb-true (length depots) (length lengths) (not-false _ (q₃ .1));
       pins-each = eqb-true (length pins) (length lengths) (not-false _ (q₂ .1));
       end-to-end = eqb-true (total (λ n. n) lengths) (length stops) (not-false _ (q₁ .1));

@@ -14,8 +14,8 @@ use Rattle.theory.specs.declared.RoundState.the-variants as State
 use Rattle.theory.proofs.Moves.{length-upfrom}
 use Rattle.round.specs.Round.{Outcome, run-round, number-of, examined-of}
 use Rattle.round.proofs.Facts.{Fine, round-fine, round-length}
-use Rattle.run.specs.Run.{Given, round-at, given, rounds, run, routes, numbers, Runnable, Ran}
-use Rattle.run.proofs.Numbers.{none, number-at}
+use Rattle.run.specs.Run.{Given, round-at, given, rounds, run, routes, numbers, examined-in, Runnable, Ran}
+use Rattle.run.proofs.Numbers.{none, number-at, taken, taken-is}
 
 -- What stands for no round.
 abbrev unasked : Given
@@ -52,6 +52,25 @@ module _ (P : ℕ → Problem) (k : ℕ) where
         let z : left - e ≡ 0 = omega (arith, round-fine (P (g .depot)) k left (g .pin) (g .route) least .spent s) in
         rw z (ap (λ (o : Outcome). number-of (o .state)) (none-left gs j (omega arith)))
     after-spent (g ∷ gs) left (suc i) (suc j) l h s = after-spent gs _ i j (omega arith) (omega arith) s
+
+    taken-within : (gs : List Given) (left : ℕ) → taken (run P k left gs) ≤ left
+    unfolding run taken
+    taken-within [] left = omega arith
+    taken-within (g ∷ gs) left =
+        let e = examined-of (run-round (P (g .depot)) k left (g .pin) (g .route) .state) in
+        omega (arith, round-fine (P (g .depot)) k left (g .pin) (g .route) least .within, taken-within gs (left - e))
+
+    all-taken : (gs : List Given) (left i : ℕ) → i < length gs → number-of (getD (run P k left gs) i none .state) ≡ 5 → taken (run P k left gs) ≡ left
+    unfolding run taken
+    all-taken [] left i h s = absurd (omega arith)
+    all-taken (g ∷ gs) left zero h s =
+        let f = round-fine (P (g .depot)) k left (g .pin) (g .route) least in
+        let e = examined-of (run-round (P (g .depot)) k left (g .pin) (g .route) .state) in
+        omega (arith, f .spent s, taken-within gs (left - e))
+    all-taken (g ∷ gs) left (suc i) h s =
+        let f = round-fine (P (g .depot)) k left (g .pin) (g .route) least in
+        let e = examined-of (run-round (P (g .depot)) k left (g .pin) (g .route) .state) in
+        omega (arith, f .within, all-taken gs (left - e) i (omega arith) s)
 
     same-lengths : (gs : List Given) (left : ℕ) → map (λ (o : Outcome). length (o .route)) (run P k left gs) ≡ map (λ (g : Given). length (g .route)) gs
     unfolding run
@@ -142,10 +161,18 @@ module _ (k A locations : ℕ) (legs latest stops lengths depots pins result : L
       λ i h. ap (λ (l : List ℕ). getD l (4 * i) 0) n ∙ number-at os rest i (listed i h) in
       let route : (i : ℕ) → i < length lengths → round-at lengths stops′ i ≡ getD os i none .route =
       λ i h. ap (λ (l : List ℕ). round-at lengths l i) s ∙ route-is i h in
+      let many : length lengths ≡ length os = sym (as-many (problem locations legs latest) k gs A ∙ how-many lengths depots pins stops) in
+      let examined : examined-in result′ (length lengths) ≡ taken os = rw (many, n) (taken-is os rest) in
       record {
         stops-are = s;
         result-is = n;
         same-stops = λ i h x. ap (count x) (route i h) ∙ fine i h .same (λ y. cond (eqb x y) 1 0);
+        unchanged = λ i h e. route i h ∙ fine i h .unchanged (rw (number i h) at e);
+        within = rw examined (taken-within (problem locations legs latest) k (ok .least) gs A);
+        spent = λ i h e.
+            examined
+            ∙ all-taken (problem locations legs latest) k (ok .least) gs A i (omega (arith, how-many lengths depots pins stops, h))
+            (sym (number i h) ∙ e);
         stopped = λ i j l h e.
             number j h
             ∙ after-spent (problem locations legs latest) k (ok .least) gs A i j l (omega (arith, how-many lengths depots pins stops, h))

@@ -1,7 +1,7 @@
 -- Document 01, "Run": the rounds one after the other, with one allowance for all of them.
 use mathlib.Core.Path.{_≡_}
 use mathlib.Core.List.{List, [], _∷_, _++_, map, flatMap}
-use Prim.Native.Nat.{ℕ, _-_, _*_, _≤_, _<_}
+use Prim.Native.Nat.{ℕ, _+_, _-_, _*_, _≤_, _<_}
 use lib.ListN.{length, getD, take, drop}
 use Rattle.theory.specs.Moves.{patterns, total, upfrom}
 use Rattle.theory.specs.Route.{Problem, count}
@@ -43,6 +43,10 @@ unfoldable pub numbers : List Outcome → List ℕ
 unfolding flatMap
 numbers os = flatMap (λ o. round-values (o .state)) os
 
+-- The candidates that the first n rounds examined, as they stand in a result.
+abbrev pub examined-in : List ℕ → ℕ → ℕ
+examined-in result n = total (λ i. getD result (4 * i + 1) 0) (upfrom 0 n)
+
 -- What the checks establish for a run.
 pub record Runnable (k locations : ℕ) (legs latest stops lengths depots pins result : List ℕ) : Type 0 where
   pub least : 2 ≤ k
@@ -59,11 +63,15 @@ pub record Runnable (k locations : ℕ) (legs latest stops lengths depots pins r
   pub room : 4 * length lengths ≤ length result
 
 -- What a run promises: stops and result by the definition, the places of the result beyond those written kept; each round holds the same stops, each as
--- often; after a spent round none is reached; and with k from 3 to 5 each round that finished is k-optimal.
+-- often, and in the order handed in unless its state is 4; all rounds together examine no more than the allowance, and a round is spent only when they
+-- have examined all of it, after which none is reached; and with k from 3 to 5 each round that finished is k-optimal.
 pub record Ran (k allowance locations : ℕ) (legs latest stops lengths depots pins result stops′ result′ : List ℕ) : Type 0 where
   pub stops-are : stops′ ≡ routes (run (problem locations legs latest) k allowance (rounds lengths depots pins stops))
   pub result-is : result′ ≡ numbers (run (problem locations legs latest) k allowance (rounds lengths depots pins stops)) ++ drop (4 * length lengths) result
   pub same-stops : (i : ℕ) → i < length lengths → (x : ℕ) → count x (round-at lengths stops′ i) ≡ count x (round-at lengths stops i)
+  pub unchanged : (i : ℕ) → i < length lengths → ¬ (getD result′ (4 * i) 0 ≡ 4) → round-at lengths stops′ i ≡ round-at lengths stops i
+  pub within : examined-in result′ (length lengths) ≤ allowance
+  pub spent : (i : ℕ) → i < length lengths → getD result′ (4 * i) 0 ≡ 5 → examined-in result′ (length lengths) ≡ allowance
   pub stopped : (i j : ℕ) → i < j → j < length lengths → getD result′ (4 * i) 0 ≡ 5 → getD result′ (4 * j) 0 ≡ 0
   pub optimal : 3 ≤ k → (i : ℕ) → i < length lengths → Finished (getD result′ (4 * i) 0) →
       KOptimal (problem locations legs latest (getD depots i 0)) (patterns k) k (round-at lengths stops′ i)

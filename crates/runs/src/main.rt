@@ -131,98 +131,149 @@ fn show_patterns() {
     show_pattern(6, 0);
 }
 
-// The text program's answer to a text.
-fn show_text(text: &[u8]) {
-    let answer = text::polish_text(text);
-    let bytes = answer.bytes;
-    let length = answer.length;
-    say(b"text ");
-    say(&bytes[..length]);
-}
-
-// Texts that are not of the form, one fault each: of the lines,
-fn show_malformed_lines() {
-    show_text(b"");
-    show_text(b"k=2\nallowance=1\nlocations=1\ndepot=0\nlegs=0\nlatest=0\nround=0");
-    show_text(b"k=2\r\nallowance=1\nlocations=1\ndepot=0\nlegs=0\nlatest=0\nround=0\n");
-    show_text(b"k=2\n\nallowance=1\nlocations=1\ndepot=0\nlegs=0\nlatest=0\nround=0\n");
-    show_text(b"allowance=1\nk=2\nlocations=1\ndepot=0\nlegs=0\nlatest=0\nround=0\n");
-    show_text(b"k=9\nallowance=1\nlocations=1\ndepot=0\nlegs=0\nlatest=0\nround=0\nround=0\n");
-}
-
-// of the numbers,
-fn show_malformed_numbers() {
-    show_text(b"k= 2\nallowance=1\nlocations=1\ndepot=0\nlegs=0\nlatest=0\nround=0\n");
-    show_text(b"k=+2\nallowance=1\nlocations=1\ndepot=0\nlegs=0\nlatest=0\nround=0\n");
-    show_text(b"k=02\nallowance=1\nlocations=1\ndepot=0\nlegs=0\nlatest=0\nround=0\n");
-    show_text(b"k=2\nallowance=4294967296\nlocations=1\ndepot=0\nlegs=0\nlatest=0\nround=0\n");
-}
-
-// and of the lists.
-fn show_malformed_lists() {
-    show_text(b"k=2\nallowance=1\nlocations=1\ndepot=0\nlegs=0,0\nlatest=0\nround=0\n");
-    show_text(b"k=2\nallowance=1\nlocations=97\ndepot=0\nlegs=0\nlatest=0\nround=0\n");
-    show_text(b"k=2\nallowance=1\nlocations=1\ndepot=0\nlegs=0\nlatest=0\nround=0,\n");
-    show_text(b"k=2\nallowance=1\nlocations=1\ndepot=0\nlegs=0\nlatest=0\nround=,\n");
-}
-
-// Texts of the form with a value beyond its bound, and two that are answered.
-fn show_judged() {
-    show_text(
-        b"k=4294967295\nallowance=1\nlocations=1\ndepot=1\nlegs=1000001\nlatest=0\nround=0\n",
+// A run: what it answers, the numbers of its rounds, and their stops.
+fn show_run(
+    k: usize,
+    allowance: u64,
+    locations: usize,
+    legs: &[u32],
+    latest: &[u32],
+    stops: &mut [u32],
+    lengths: &[usize],
+    depots: &[u32],
+    pins: &[u8],
+    result: &mut [u64],
+) {
+    let refused = mittenschist::mittenschist_run_list_k_opt(
+        k,
+        allowance,
+        locations,
+        legs,
+        latest,
+        stops,
+        lengths,
+        depots,
+        pins,
+        result,
     );
-    show_text(b"k=2\nallowance=1\nlocations=1\ndepot=1\nlegs=1000001\nlatest=0\nround=0\n");
-    show_text(b"k=2\nallowance=1\nlocations=1\ndepot=1\nlegs=1000000\nlatest=0\nround=0\n");
-    show_text(b"k=2\nallowance=0\nlocations=1\ndepot=0\nlegs=7\nlatest=0\nround=\n");
-    show_text(b"k=2\nallowance=0\nlocations=1\ndepot=0\nlegs=7\nlatest=0\nround=0\n");
+    say(b"run ");
+    say_number(refused as u64);
+    say(b" result");
+    say_result(&result[..]);
+    say(b" stops");
+    say_route(&stops[..]);
+    say(b"\n");
 }
 
-// A byte of a text: the header, and then one stop after the other.
-fn round_byte(header: &[u8], i: usize) -> u8 {
-    if i < header.len() {
-        return header[i];
+// The pair case of document 01 with an allowance: D, A, B, C, E are 0 to 4.
+fn show_pairs(k: usize, allowance: u64, pin: u8) {
+    let legs = [
+        0u32,
+        10,
+        1,
+        5,
+        1,
+        10,
+        0,
+        1,
+        1,
+        1,
+        1,
+        1,
+        0,
+        10,
+        10,
+        5,
+        1,
+        10,
+        0,
+        1,
+        1,
+        1,
+        10,
+        1,
+        0,
+    ];
+    let mut stops = [1u32, 2, 3, 4];
+    let mut result = [9u64; 5];
+    show_run(
+        k,
+        allowance,
+        5,
+        &legs,
+        &[4294967295u32; 5],
+        &mut stops,
+        &[4],
+        &[0],
+        &[pin],
+        &mut result,
+    );
+}
+
+// Three rounds of one location: the first takes 70 candidates with k = 3, the second is short, the third pinned.
+fn show_rounds(allowance: u64) {
+    let mut stops = [0u32; 10];
+    let mut result = [9u64; 12];
+    show_run(
+        3,
+        allowance,
+        1,
+        &[0],
+        &[0],
+        &mut stops,
+        &[4, 2, 4],
+        &[0, 0, 0],
+        &[0, 0, 200],
+        &mut result,
+    );
+}
+
+// Undone with the first n places of a journal.
+fn show_undone(route: &mut [u32], journal: &[u32], n: usize) {
+    if journal.len() < n {
+        return;
     }
-    if (i - header.len()) % 2 == 0 {
-        return b'0';
-    }
-    b','
+    let undone = mittenschist::mittenschist_k_opt_undo_move(route, &journal[..n]);
+    say(b" undone ");
+    say_number(undone as u64);
+    say_route(&route[..]);
+    say(b"\n");
 }
 
-fn fill_round(header: &[u8], text: &mut [u8]) {
-    for i in 0..text.len() {
-        text[i] = round_byte(header, i);
-    }
-}
-
-// 600 stops, the last of them as given.
-fn show_600_stops(last: u8, before: u8) {
-    let mut text = [0u8; 1258];
-    fill_round(
-        b"k=2\nallowance=1\nlocations=1\ndepot=0\nlegs=0\nlatest=0\nround=",
-        &mut text,
+// A move applied at two cuts, and undone with the first places of its journal.
+fn show_move(round: usize, first: usize, second: usize) {
+    let mut route = [11u32, 12, 13, 14];
+    let mut journal = [0u32; 6];
+    let mut result = [9u64; 1];
+    let rounds = [0, round];
+    let cuts = [first, second];
+    let judged = mittenschist::mittenschist_k_opt_is_doable(
+        2,
+        0,
+        0,
+        4,
+        &rounds,
+        &cuts,
+        &mut result,
     );
-    text[1255] = before;
-    text[1256] = last;
-    text[1257] = b'\n';
-    show_text(&text);
-}
-
-// Texts of 60,000 bytes and of one more.
-fn show_longest() {
-    let mut text = [0u8; 60000];
-    fill_round(
-        b"k=2\nallowance=1\nlocations=1\ndepot=0\nlegs=0\nlatest=0\nround=",
-        &mut text,
+    say(b"doable ");
+    say_number(judged as u64);
+    say_result(&result);
+    let applied = mittenschist::mittenschist_k_opt_do_move(
+        2,
+        0,
+        0,
+        &rounds,
+        &cuts,
+        &mut route,
+        &mut journal,
     );
-    text[59999] = b'\n';
-    show_text(&text);
-    let mut longer = [0u8; 60001];
-    fill_round(
-        b"k=2\nallowance=10\nlocations=1\ndepot=0\nlegs=0\nlatest=0\nround=",
-        &mut longer,
-    );
-    longer[60000] = b'\n';
-    show_text(&longer);
+    say(b" applied ");
+    say_number(applied as u64);
+    say_route(&route);
+    say(b" journal");
+    say_route(&journal);
+    show_undone(&mut route, &journal, 4);
 }
 
 fn main() {
@@ -244,12 +295,16 @@ fn main() {
     show_t(6, 100, 1000001, 4294967295);
     show_long(&mut [0u32; 512]);
     show_long(&mut [0u32; 513]);
-    show_malformed_lines();
-    show_malformed_numbers();
-    show_malformed_lists();
-    show_judged();
-    show_600_stops(b'0', b',');
-    show_600_stops(b'1', b',');
-    show_600_stops(b'1', b'0');
-    show_longest();
+    show_pairs(2, 1000, 0);
+    show_pairs(2, 18, 0);
+    show_pairs(2, 17, 0);
+    show_pairs(2, 0, 1);
+    show_pairs(3, 1000, 0);
+    show_rounds(1000);
+    show_rounds(70);
+    show_rounds(69);
+    show_move(0, 1, 3);
+    show_move(7, 1, 3);
+    show_move(7, 3, 1);
+    show_move(0, 1, 5);
 }

@@ -18,6 +18,7 @@ pub mod Cuts
 pub mod Stops
 pub mod Refusals
 pub mod LastRule
+pub mod Taken
 pub mod Judged
 pub mod ForK
 pub mod Rows

@@ -124,6 +124,10 @@ unfoldable pub refusal : List Rule → ℕ
 unfolding first-in
 refusal rs = first-in order rs
 
+-- One thing where no rule applies, another where the call is refused.
+abbrev pub if-taken : {A : Type 0} → List Rule → A → A → A
+if-taken rules a b = cond (eqb (refusal rules) 0) a b
+
 -- The rules of the tables, the depot and a route.
 abbrev pub problem-rules : ℕ → List ℕ → List ℕ → ℕ → List ℕ → List Rule
 problem-rules locations legs latest depot route =

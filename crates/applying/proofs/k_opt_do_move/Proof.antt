@@ -1,5 +1,4 @@
 -- `applying::k_opt_do_move` meets its contract. Assumes nothing.
-use mathlib.Core.Path.{ap, sym}
 use native.Mathlib.Omega.{arith}
 use borrow.Author.Needs.{needs}
 use lib.ListN.{length-take}

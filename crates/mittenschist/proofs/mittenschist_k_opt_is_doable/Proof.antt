@@ -3,14 +3,14 @@ use mathlib.Core.Path.{refl}
 use mathlib.Core.Bool.{cond}
 use Rattle.theory.proofs.LastRule.{early}
 use Rattle.applying.specs.Applying.{doable}
-use Rattle.mittenschist.specs.Promises.{doable-rules}
+use Rattle.cut_moves.specs.Entries.{doable-rules}
 use Rattle.mittenschist.proofs.Written.{passed-on, handed-over}
 use borrow.Author.Needs.{needs}
 use Rattle.mittenschist.proofs.mittenschist_k_opt_is_doable.Statement.{statement}
 use Rattle.mittenschist.proofs.mittenschist_k_opt_is_doable.Tie as tie
 
-k-opt-is-doable-requires : tie.Need-k-opt-is-doable-requires
-k-opt-is-doable-requires c κs = search needs
+is-doable-lists-requires : tie.Need-is-doable-lists-requires
+is-doable-lists-requires c κs = search needs
 
 enum-known-number : tie.Need-enum-known-number
 enum-known-number c = search needs
@@ -30,7 +30,7 @@ give-requires-2 c κs = search needs
 returns : tie.Need-returns
 unfolding early
 returns c =
-    let a = c .before .before .before .k-opt-is-doable in
+    let a = c .before .before .before .is-doable-lists in
     let s = c .before .before .before .before .before .before .before in
     passed-on (doable-rules (s .args .k) (s .args .pattern) (s .args .n)) refl (cond (doable (s .args .k) (s .args .round) (s .args .n) (s .args .rounds .now) (s .args .positions .now)) 1 0) (s .args .result .now) _ (rw (c .before .number .given .1) at (a .ensures .reply-is))
 
@@ -40,7 +40,7 @@ same-length c = search needs
 returns-2 : tie.Need-returns-2
 unfolding early
 returns-2 c =
-    let a = c .before .before .before .before .before .before .k-opt-is-doable in
+    let a = c .before .before .before .before .before .before .is-doable-lists in
     let s = c .before .before .before .before .before .before .before .before .before .before in
     handed-over (doable-rules (s .args .k) (s .args .pattern) (s .args .n)) refl (cond (doable (s .args .k) (s .args .round) (s .args .n) (s .args .rounds .now) (s .args .positions .now)) 1 0) (s .args .result .now) 0 _ _ (rw (c .before .before .before .before .enum-told .given .1) at (a .ensures .reply-is)) (c .before .before .give .ensures)
 
@@ -50,7 +50,7 @@ same-length-2 c = search needs
 returns-3 : tie.Need-returns-3
 unfolding early
 returns-3 c =
-    let a = c .before .before .before .before .before .before .k-opt-is-doable in
+    let a = c .before .before .before .before .before .before .is-doable-lists in
     let s = c .before .before .before .before .before .before .before .before .before .before in
     handed-over (doable-rules (s .args .k) (s .args .pattern) (s .args .n)) refl (cond (doable (s .args .k) (s .args .round) (s .args .n) (s .args .rounds .now) (s .args .positions .now)) 1 0) (s .args .result .now) 1 _ _ (rw (c .before .before .before .before .enum-told2 .given .1) at (a .ensures .reply-is)) (c .before .before .give2 .ensures)
 
@@ -58,7 +58,7 @@ pub mittenschist-k-opt-is-doable-spec : {M : Type 1} → statement M
 mittenschist-k-opt-is-doable-spec =
     tie.close
     (tie.spec
-    k-opt-is-doable-requires
+    is-doable-lists-requires
     enum-known-number
     enum-told
     give-requires

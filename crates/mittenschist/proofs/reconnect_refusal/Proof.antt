@@ -2,7 +2,7 @@
 use mathlib.Core.Path.{sym, ap₂, _∙_}
 use Rattle.theory.specs.Refusals.{either, refusal}
 use Rattle.theory.proofs.Refusals.{either-zero, applies-first, passed-over}
-use Rattle.mittenschist.proofs.Entries.{counted}
+use Rattle.refusals.proofs.Counted.{counted}
 use borrow.Author.Needs.{needs}
 use Rattle.mittenschist.proofs.reconnect_refusal.Statement.{statement}
 use Rattle.mittenschist.proofs.reconnect_refusal.Tie as tie

@@ -1,0 +1,5 @@
+pub mod DoMoveReply
+pub mod UndoReply
+pub mod DoableReply
+pub mod FirstSix
+pub mod Cases

@@ -1,0 +1,32 @@
+-- What the listing answers, against the definition. Assumes nothing.
+use mathlib.Core.Path.{_≡_, refl, sym, ap, _∙_}
+use mathlib.Core.List.{List, [], _∷_}
+use Prim.Native.Nat.{ℕ, _*_, _/_, _≤_, _<_}
+use native.Mathlib.Nat.{div-mul-le-self}
+use lib.ListN.{length}
+use lib.Ieee.{Float}
+use Rattle.theory.specs.declared.Listing.the-variants as Listed
+use Rattle.nearby.specs.Walk.{nearby-sets}
+use Rattle.nearby.specs.Listing.{pour, written, Lists}
+use Rattle.nearby.proofs.Pour.{Each, lent-as, more-as, ended-as}
+use Rattle.nearby.proofs.Sets.{sets-spaced}
+
+module _ (distances : List Float) (n k m count : ℕ) (least : 2 ≤ k) (seen : ℕ) (lent lent′ : List ℕ) (poured : (seen, lent′) ≡ pour (length lent / k) k 0 lent (nearby-sets distances n k m count)) where
+  abbrev walk : List (List ℕ)
+  walk = nearby-sets distances n k m count
+
+  each : Each k (nearby-sets distances n k m count)
+  each s i = sets-spaced distances n m count k least s i .0
+
+  fits : length lent / k * k ≤ length lent
+  fits = div-mul-le-self (length lent) k
+
+  pub more-listed : length lent / k < seen → Lists n k m (nearby-sets distances n k m count) lent (Listed.More (length lent / k)) lent′
+  more-listed h =
+      let e = more-as (length lent / k) k walk each seen lent lent′ fits poured h in
+      record { answer-is = rw (e .0, e .1); lent-is = lent-as (length lent / k) k walk each seen lent lent′ fits poured; spaced = sets-spaced distances n m count k least }
+
+  pub ended-listed : seen ≤ length lent / k → Lists n k m (nearby-sets distances n k m count) lent (Listed.Ended seen) lent′
+  ended-listed h =
+      let e = ended-as (length lent / k) k walk each seen lent lent′ fits poured h in
+      record { answer-is = rw (e .0, e .1); lent-is = lent-as (length lent / k) k walk each seen lent lent′ fits poured; spaced = sets-spaced distances n m count k least }

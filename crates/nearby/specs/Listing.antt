@@ -1,0 +1,71 @@
+-- The listing of the sets into a lent buffer: what it asks for, what it promises, and the running form of its parts.
+use mathlib.Core.Path.{_≡_}
+use mathlib.Core.List.{List, [], _∷_, _++_, map, flatten, List·Memᴰ}
+use mathlib.Core.Bool.{Bool, true, false, cond}
+use Prim.Native.Nat.{ℕ, zero, suc, _+_, _-_, _*_, _/_, _^_, _≤_, _<_}
+use lib.Dec.{ltb}
+use lib.ListN.{length, getD, take, drop}
+use lib.Seq.{sets}
+use lib.Ieee.{Float}
+use Rattle.theory.specs.Refusals.{some, no-number}
+use Rattle.theory.specs.Answers.{listing-answer, reply}
+use Rattle.theory.specs.declared.Listing.{Listing}
+use Rattle.neighbours.specs.Neighbours.{kept}
+use Rattle.neighbours.specs.Queries.{Memo}
+use Rattle.nearby.specs.Walk.{branch, Spaced}
+
+pub record NearbyInput (n : ℕ) (distances : List Float) (k m count lent : ℕ) : Type 0 where
+  pub least : 2 ≤ k
+  pub most : k ≤ 5
+  pub few : n ≤ 512
+  pub shortest : 1 ≤ m
+  pub short : m ≤ 512
+  pub neighbours : count ≤ 32
+  pub square : length distances ≡ n * n
+  pub numbers : some no-number distances ≡ false
+  pub room : k ≤ lent
+
+-- "The call writes sets until no whole set fits any more."
+abbrev pub written : List (List ℕ) → ℕ → ℕ → List (List ℕ)
+written walk k lent = take (lent / k) walk
+
+-- "And answers their number with ended or more; more exactly when the walk has another." What is left of the buffer is kept. Each set of the walk has k
+-- cuts and leaves segments of at least m.
+pub record Lists (n k m : ℕ) (walk : List (List ℕ)) (lent : List ℕ) (answer : Listing) (lent′ : List ℕ) : Type 0 where
+  pub answer-is : listing-answer answer ≡ reply 0 (length (written walk k (length lent)) ∷ cond (ltb (length lent / k) (length walk)) 1 0 ∷ [])
+  pub lent-is : lent′ ≡ flatten (written walk k (length lent)) ++ drop (length (written walk k (length lent)) * k) lent
+  pub spaced : (s : List ℕ) → List·Memᴰ s walk → (length s ≡ k) × Spaced m 0 s n
+
+-- The running form: each set in turn to its place, while there is room; one more than fits is counted and ends the listing.
+unfoldable pub pour : ℕ → ℕ → ℕ → List ℕ → List (List ℕ) → ℕ × List ℕ
+pour capacity k seen out [] = (seen, out)
+pour capacity k seen out (s ∷ ss) = cond (ltb seen capacity) (pour capacity k (seen + 1) (sets out (seen * k) s) ss) (capacity + 1, out)
+
+-- These cuts before each of the sets.
+abbrev pub behind-front : List ℕ → List (List ℕ) → List (List ℕ)
+behind-front front ss = map (λ s. front ++ s) ss
+
+pub record Room (k capacity seen : ℕ) (lent : List ℕ) : Type 0 where
+  pub least : 1 ≤ k
+  pub most : k ≤ 5
+  pub fits : capacity * k ≤ length lent
+  pub small : length lent < 2 ^ 61
+  pub counted : seen ≤ capacity + 1
+
+pub record Branchable (distances : List Float) (n m count behind : ℕ) (entries : List ℕ) (k capacity seen : ℕ) (table lent : List ℕ) : Type 0 where
+  pub few : n ≤ 512
+  pub square : length distances ≡ n * n
+  pub numbers : some no-number distances ≡ false
+  pub shortest : 1 ≤ m
+  pub short : m ≤ 512
+  pub neighbours : count ≤ 32
+  pub depth : behind < k
+  pub missing : m * behind ≤ n
+  pub entries-few : length entries ≤ 32
+  pub below : (i : ℕ) → i < length entries → getD entries i 0 < n
+  pub room : Room k capacity seen lent
+  pub memo : Memo distances n count table
+
+pub record Branched (distances : List Float) (n m count behind : ℕ) (entries cuts : List ℕ) (k capacity seen : ℕ) (lent : List ℕ) (answer : ℕ) (table′ lent′ : List ℕ) : Type 0 where
+  pub poured : (answer, lent′) ≡ pour capacity k seen lent (behind-front (take (k - 1 - behind) cuts) (branch (kept distances n m count) behind entries))
+  pub memo : Memo distances n count table′

@@ -1,0 +1,6 @@
+pub mod FloatOrder
+pub mod Passing
+pub mod Found
+pub mod Query
+pub mod Memo
+pub mod Nearness

@@ -1,0 +1,110 @@
+// Replays texts over the text program's own function: texts that are answered, refused, malformed, and at the bounds.
+
+fn say(text: &[u8]) {
+    let _ = io::write_all(1, text);
+}
+
+// The text program's answer to a text.
+fn show_text(text: &[u8]) {
+    let answer = text::polish_text(text);
+    let bytes = answer.bytes;
+    let length = answer.length;
+    say(b"text ");
+    say(&bytes[..length]);
+}
+
+// Texts that are not of the form, one fault each: of the lines,
+fn show_malformed_lines() {
+    show_text(b"");
+    show_text(b"k=2\nallowance=1\nlocations=1\ndepot=0\nlegs=0\nlatest=0\nround=0");
+    show_text(b"k=2\r\nallowance=1\nlocations=1\ndepot=0\nlegs=0\nlatest=0\nround=0\n");
+    show_text(b"k=2\n\nallowance=1\nlocations=1\ndepot=0\nlegs=0\nlatest=0\nround=0\n");
+    show_text(b"allowance=1\nk=2\nlocations=1\ndepot=0\nlegs=0\nlatest=0\nround=0\n");
+    show_text(b"k=9\nallowance=1\nlocations=1\ndepot=0\nlegs=0\nlatest=0\nround=0\nround=0\n");
+}
+
+// of the numbers,
+fn show_malformed_numbers() {
+    show_text(b"k= 2\nallowance=1\nlocations=1\ndepot=0\nlegs=0\nlatest=0\nround=0\n");
+    show_text(b"k=+2\nallowance=1\nlocations=1\ndepot=0\nlegs=0\nlatest=0\nround=0\n");
+    show_text(b"k=02\nallowance=1\nlocations=1\ndepot=0\nlegs=0\nlatest=0\nround=0\n");
+    show_text(b"k=2\nallowance=4294967296\nlocations=1\ndepot=0\nlegs=0\nlatest=0\nround=0\n");
+}
+
+// and of the lists.
+fn show_malformed_lists() {
+    show_text(b"k=2\nallowance=1\nlocations=1\ndepot=0\nlegs=0,0\nlatest=0\nround=0\n");
+    show_text(b"k=2\nallowance=1\nlocations=97\ndepot=0\nlegs=0\nlatest=0\nround=0\n");
+    show_text(b"k=2\nallowance=1\nlocations=1\ndepot=0\nlegs=0\nlatest=0\nround=0,\n");
+    show_text(b"k=2\nallowance=1\nlocations=1\ndepot=0\nlegs=0\nlatest=0\nround=,\n");
+}
+
+// Texts of the form with a value beyond its bound, and two that are answered.
+fn show_judged() {
+    show_text(
+        b"k=4294967295\nallowance=1\nlocations=1\ndepot=1\nlegs=1000001\nlatest=0\nround=0\n",
+    );
+    show_text(b"k=2\nallowance=1\nlocations=1\ndepot=1\nlegs=1000001\nlatest=0\nround=0\n");
+    show_text(b"k=2\nallowance=1\nlocations=1\ndepot=1\nlegs=1000000\nlatest=0\nround=0\n");
+    show_text(b"k=2\nallowance=0\nlocations=1\ndepot=0\nlegs=7\nlatest=0\nround=\n");
+    show_text(b"k=2\nallowance=0\nlocations=1\ndepot=0\nlegs=7\nlatest=0\nround=0\n");
+}
+
+// A byte of a text: the header, and then one stop after the other.
+fn round_byte(header: &[u8], i: usize) -> u8 {
+    if i < header.len() {
+        return header[i];
+    }
+    if (i - header.len()) % 2 == 0 {
+        return b'0';
+    }
+    b','
+}
+
+fn fill_round(header: &[u8], text: &mut [u8]) {
+    for i in 0..text.len() {
+        text[i] = round_byte(header, i);
+    }
+}
+
+// 600 stops, the last of them as given.
+fn show_600_stops(last: u8, before: u8) {
+    let mut text = [0u8; 1258];
+    fill_round(
+        b"k=2\nallowance=1\nlocations=1\ndepot=0\nlegs=0\nlatest=0\nround=",
+        &mut text,
+    );
+    text[1255] = before;
+    text[1256] = last;
+    text[1257] = b'\n';
+    show_text(&text);
+}
+
+// Texts of 60,000 bytes and of one more.
+fn show_longest() {
+    let mut text = [0u8; 60000];
+    fill_round(
+        b"k=2\nallowance=1\nlocations=1\ndepot=0\nlegs=0\nlatest=0\nround=",
+        &mut text,
+    );
+    text[59999] = b'\n';
+    show_text(&text);
+    let mut longer = [0u8; 60001];
+    fill_round(
+        b"k=2\nallowance=10\nlocations=1\ndepot=0\nlegs=0\nlatest=0\nround=",
+        &mut longer,
+    );
+    longer[60000] = b'\n';
+    show_text(&longer);
+}
+
+fn main() {
+    show_malformed_lines();
+    show_malformed_numbers();
+    show_malformed_lists();
+    show_judged();
+    show_600_stops(b'0', b',');
+    show_600_stops(b'1', b',');
+    show_600_stops(b'1', b'0');
+    show_longest();
+}
