@@ -7,3 +7,4 @@ pub mod FeasibleReply
 pub mod PolishReply
 pub mod Written
 pub mod RunReply
+pub mod NearbyReply

@@ -34,6 +34,12 @@ pub first-place : {A : Type 0} (v : A) (result : List A) → 1 ≤ length result
 first-place v [] h = absurd (omega arith)
 first-place v (x ∷ result) h = refl
 
+-- Two values in the first two.
+pub two-places : (v w : ℕ) (result : List ℕ) → 2 ≤ length result → set (set result 0 v) 1 w ≡ v ∷ w ∷ drop 2 result
+two-places v w [] h = absurd (omega arith)
+two-places v w (x ∷ []) h = absurd (omega arith)
+two-places v w (x ∷ y ∷ result) h = refl
+
 stays : (a : ℕ) → (a ≡ 0 → ⊥) → (b : ℕ) → a ≡ either a b
 unfolding either
 stays zero h b = absurd (h refl)

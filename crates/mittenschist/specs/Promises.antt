@@ -1,24 +1,29 @@
 -- What each entry promises: the rules by which it refuses, and a record that equates its reply and all lent memory with a definition.
 use mathlib.Core.Path.{_≡_}
 use mathlib.Core.Bool.{cond}
-use mathlib.Core.List.{List, [], _∷_, _++_}
-use Prim.Native.Nat.{ℕ, _+_, _-_, _*_}
+use mathlib.Core.List.{List, [], _∷_, _++_, flatten}
+use Prim.Native.Nat.{ℕ, _+_, _-_, _*_, _/_}
+use lib.Dec.{ltb}
+use lib.Ieee.{Float}
 use lib.ListN.{length, getD, drop, replicate}
 use Rattle.theory.specs.Moves.{Pattern, patterns, next-cuts}
 use Rattle.theory.specs.Route.{tour-length, reconnected}
 use Rattle.theory.specs.Polish.{move-at, polish, Demand3}
 use Rattle.theory.specs.Tables.{problem, legs-only}
-use Rattle.theory.specs.Refusals.{Rule, refusal, if-taken, cut-count, leg-table, deadline-list, leg-sizes, known-stops, stop-count, pattern-index, cut-positions, known-rounds, round-lists, room, problem-rules}
-use Rattle.theory.specs.Answers.{reply, step-answer, length-answer, delta-answer, feasibility-answer, Verdict, five-numbers, handed-back}
+use Rattle.theory.specs.Refusals.{Rule, refusal, if-taken, cut-count, leg-table, deadline-list, leg-sizes, known-stops, stop-count, pattern-index, cut-positions, known-rounds, round-lists, nearby-input, room, problem-rules}
+use Rattle.theory.specs.Answers.{reply, step-answer, length-answer, delta-answer, feasibility-answer, listing-answer, Verdict, five-numbers, handed-back}
 use Rattle.moves.specs.Moves.{length-change}
 use Rattle.cuts.specs.Step.{found, or-kept}
 use Rattle.applying.specs.Applying.{doable}
+use Rattle.nearby.specs.Walk.{nearby-sets}
+use Rattle.nearby.specs.Listing.{written}
 use Rattle.run.specs.Run.{run, rounds, routes, numbers, Ran}
 use Rattle.theory.specs.declared.CutStep.{CutStep}
 use Rattle.theory.specs.declared.RouteLength.{RouteLength}
 use Rattle.theory.specs.declared.LengthDelta.{LengthDelta}
 use Rattle.theory.specs.declared.Feasibility.{Feasibility}
 use Rattle.theory.specs.declared.ReconnectionAt.{ReconnectionAt}
+use Rattle.theory.specs.declared.Listing.{Listing}
 
 -- The rules of a call that writes its values into a lent result: 21 where that has fewer places than are needed.
 abbrev pub with-room : List Rule → ℕ → ℕ → List Rule
@@ -160,3 +165,30 @@ pub record RunReply (k allowance locations : ℕ) (legs latest stops lengths dep
       (numbers (run (problem locations legs latest) k allowance (rounds lengths depots pins stops)) ++ drop (4 * length lengths) result)
       result
   pub ran : answer ≡ 0 → Ran k allowance locations legs latest stops lengths depots pins result stops′ result′
+
+-- ---- nearby cuts
+
+abbrev pub nearby-rules : ℕ → List Float → ℕ → ℕ → ℕ → ℕ → List Rule
+nearby-rules n distances k m neighbours lent = cut-count k ∷ stop-count n ∷ nearby-input n distances m neighbours ∷ room k lent ∷ []
+
+-- The sets that fit, of those of document 01's walk.
+abbrev pub nearby-written : ℕ → List Float → ℕ → ℕ → ℕ → List ℕ → List (List ℕ)
+nearby-written n distances k m neighbours sets = written (nearby-sets distances n k m neighbours) k (length sets)
+
+-- Their number, and 1 exactly where the walk has another.
+abbrev pub nearby-values : ℕ → List Float → ℕ → ℕ → ℕ → List ℕ → List ℕ
+nearby-values n distances k m neighbours sets =
+    length (nearby-written n distances k m neighbours sets) ∷ cond (ltb (length sets / k) (length (nearby-sets distances n k m neighbours))) 1 0 ∷ []
+
+-- The sets end to end in the first places, and the places beyond as they were.
+abbrev pub nearby-places : ℕ → List Float → ℕ → ℕ → ℕ → List ℕ → List ℕ
+nearby-places n distances k m neighbours sets =
+    flatten (nearby-written n distances k m neighbours sets) ++ drop (length (nearby-written n distances k m neighbours sets) * k) sets
+
+pub record NearbyReply (n : ℕ) (distances : List Float) (k m neighbours : ℕ) (sets : List ℕ) (answer : Listing) (sets′ : List ℕ) : Type 0 where
+  pub reply-is : listing-answer answer ≡ reply (refusal (nearby-rules n distances k m neighbours (length sets))) (nearby-values n distances k m neighbours sets)
+  pub sets-are : sets′ ≡ if-taken (nearby-rules n distances k m neighbours (length sets)) (nearby-places n distances k m neighbours sets) sets
+
+pub record NearbyWritten (n : ℕ) (distances : List Float) (k m neighbours : ℕ) (sets result : List ℕ) (answer : ℕ) (sets′ result′ : List ℕ) : Type 0 where
+  pub written : Written (nearby-rules n distances k m neighbours (length sets)) 2 (nearby-values n distances k m neighbours sets) result answer result′
+  pub sets-are : sets′ ≡ if-taken (with-room (nearby-rules n distances k m neighbours (length sets)) 2 (length result)) (nearby-places n distances k m neighbours sets) sets

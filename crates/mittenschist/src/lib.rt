@@ -1,7 +1,7 @@
 // The entries. Each takes whatever it is handed, judges it, and refuses it or calls the crate below that does the work.
 ghost use mathlib.Core.Path.{_≡_};
 ghost use mathlib.Core.List.{[], _∷_};
-ghost use Prim.Native.Nat.{_+_};
+ghost use Prim.Native.Nat.{_+_, _≤_};
 ghost use Rattle.theory.specs.Route.{tour-length};
 ghost use Rattle.theory.specs.Polish.{move-at};
 ghost use Rattle.theory.specs.Moves.{patterns};
@@ -10,14 +10,15 @@ ghost use Rattle.theory.specs.Refusals.{refusal, problem-rules};
 ghost use Rattle.theory.specs.Answers.{deadline-position};
 ghost use Rattle.cut_moves.specs.Entries.{DoMoveReply, UndoReply, doable-rules};
 ghost use Rattle.moves.specs.Moves.{length-change, pattern-values};
-ghost use Rattle.mittenschist.specs.Promises.{NextCutSetReply, next-cut-set-rules, RouteLengthReply, route-length-rules, pattern-rules, ReconnectionReply, reconnect-rules, ReconnectReply, delta-rules, DeltaReply, FeasibleReply, polish-rules, PolishReply, Written, NextCutSetWritten, FeasibleWritten, doable-values, run-rules, RunReply, with-room};
-ghost use lib.ListN.{length};
+ghost use Rattle.mittenschist.specs.Promises.{NextCutSetReply, next-cut-set-rules, RouteLengthReply, route-length-rules, pattern-rules, ReconnectionReply, reconnect-rules, ReconnectReply, delta-rules, DeltaReply, FeasibleReply, polish-rules, PolishReply, Written, NextCutSetWritten, FeasibleWritten, doable-values, run-rules, RunReply, nearby-rules, NearbyReply, NearbyWritten, with-room};
+ghost use lib.ListN.{length, drop};
 use theory::CutStep;
 use theory::Deadline;
 use theory::Doable;
 use theory::Feasibility;
 use theory::KOptReconnection;
 use theory::LengthDelta;
+use theory::Listing;
 use theory::ReconnectionAt;
 use theory::RouteLength;
 
@@ -485,4 +486,78 @@ pub extern "C" fn mittenschist_run_list_k_opt(
         result,
     );
     0
+}
+
+fn nearby_refusal(
+    n: usize,
+    distances: &[f64],
+    k: usize,
+    m: usize,
+    neighbours: usize,
+    lent: usize,
+) -> u32
+    ensures { λ r. ⌜ r ≡ refusal (nearby-rules n (now (distances .entry)) k m neighbours lent) ⌝ }
+{
+    let bad_k = refusals::check_cut_count(k);
+    let bad_n = refusals::check_stop_count(n);
+    let bad_size = refusals::first(bad_k, bad_n);
+    if bad_size != 0 {
+        return bad_size;
+    }
+    let bad_input = refusals::check_nearby_input(n, distances, m, neighbours);
+    let bad_room = refusals::check_room(k, lent);
+    refusals::first(bad_input, bad_room)
+}
+
+// Lists the nearby cut sets, k places each, until no whole set fits any more. Refuses 1, 5, 9, 21.
+pub fn nearby_cuts(
+    n: usize,
+    distances: &[f64],
+    k: usize,
+    m: usize,
+    neighbours: usize,
+    sets: &mut [usize],
+) -> Listing
+    ensures { λ r. ⌜ NearbyReply n (now (distances .entry)) k m neighbours (now (sets .entry)) r (now (sets .exit)) ⌝ }
+{
+    let refused = nearby_refusal(n, distances, k, m, neighbours, sets.len());
+    if refused != 0 {
+        return Listing::Refused(refused);
+    }
+    nearby::nearby_cuts(n, distances, k, m, neighbours, sets)
+}
+
+fn put_listing(count: usize, more: u64, result: &mut [u64]) -> u32
+    requires { ⌜ 2 ≤ length (now result) ⌝ }
+    ensures { λ r. ⌜ (r ≡ 0) × (now (result .exit) ≡ count ∷ more ∷ drop 2 (now (result .entry))) ⌝ }
+{
+    result[0] = count as u64;
+    result[1] = more;
+    0
+}
+
+// The same; the result receives the number of sets written, then 0 ended or 1 more. Refuses 1, 5, 9, 21.
+#[no_mangle]
+pub extern "C" fn mittenschist_nearby_cuts(
+    n: usize,
+    distances: &[f64],
+    k: usize,
+    m: usize,
+    neighbours: usize,
+    sets: &mut [usize],
+    result: &mut [u64],
+) -> u32
+    ensures { λ r. ⌜ NearbyWritten n (now (distances .entry)) k m neighbours (now (sets .entry)) (now (result .entry)) r (now (sets .exit)) (now (result .exit)) ⌝ }
+{
+    let bad_input = nearby_refusal(n, distances, k, m, neighbours, sets.len());
+    let bad_room = refusals::check_room(2, result.len());
+    let refused = refusals::first(bad_input, bad_room);
+    if refused != 0 {
+        return refused;
+    }
+    match nearby::nearby_cuts(n, distances, k, m, neighbours, sets) {
+        Listing::Refused(number) => number,
+        Listing::Ended(count) => put_listing(count, 0, result),
+        Listing::More(count) => put_listing(count, 1, result),
+    }
 }

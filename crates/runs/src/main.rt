@@ -69,6 +69,13 @@ fn say_route(route: &[u32]) {
     }
 }
 
+fn say_places(places: &[usize]) {
+    for i in 0..places.len() {
+        say(b" ");
+        say_number(places[i] as u64);
+    }
+}
+
 fn show_polished(refused: u32, result: &[u64], route: &[u32]) {
     say(b"polish ");
     say_number(refused as u64);
@@ -276,6 +283,34 @@ fn show_move(round: usize, first: usize, second: usize) {
     show_undone(&mut route, &journal, 4);
 }
 
+// A listing of nearby sets: what it answers, the two numbers, and the buffer.
+fn show_nearby(n: usize, distances: &[f64], k: usize, neighbours: usize, sets: &mut [usize]) {
+    let mut result = [9u64; 2];
+    let refused = mittenschist::mittenschist_nearby_cuts(
+        n,
+        distances,
+        k,
+        1,
+        neighbours,
+        sets,
+        &mut result,
+    );
+    say(b"nearby ");
+    say_number(refused as u64);
+    say(b" result");
+    say_result(&result);
+    say(b" sets");
+    say_places(&sets[..]);
+    say(b"\n");
+}
+
+// The nearby cases of document 01, five positions and three cuts, and others on the same tables: d is the distance from 1 to 3.
+fn show_five(d: f64, neighbours: usize, sets: &mut [usize]) {
+    let mut distances = [2.0f64; 25];
+    distances[8] = d;
+    show_nearby(5, &distances, 3, neighbours, sets);
+}
+
 fn main() {
     show_patterns();
     show_cut_sets(3, &mut [0, 1, 2]);
@@ -307,4 +342,11 @@ fn main() {
     show_move(7, 1, 3);
     show_move(7, 3, 1);
     show_move(0, 1, 5);
+    show_five(1.0, 4, &mut [99usize; 12]);
+    show_five(2.0, 4, &mut [99usize; 12]);
+    show_five(2.0, 4, &mut [99usize; 13]);
+    show_five(2.0, 4, &mut [99usize; 3]);
+    show_five(2.0, 4, &mut [99usize; 2]);
+    show_five(2.0, 1, &mut [99usize; 3]);
+    show_five(0.0 / 0.0, 4, &mut [99usize; 3]);
 }
