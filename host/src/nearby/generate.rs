@@ -38,6 +38,31 @@ pub fn random_case(random: &mut Random) -> Case {
     }
 }
 
+/// Walks of thousands of sets, often whole ones, so that each position is reached from many others and at every level.
+pub fn draw_long(random: &mut Random, _index: u64) -> Drawn {
+    let k = random.within(2, 5);
+    let min_segment_len = random.pick([1, 1, 2, 3]);
+    let least = (k + 1) * min_segment_len;
+    let n = least
+        + match random.below(30) {
+            0 => 400,
+            1..=4 => random.within(30, 150),
+            _ => random.within(4, 30),
+        };
+    let max_nearby = random.pick([3, 6, 12, 20, 31, 32]);
+    let sets = random.pick([500, 2000, 6000]);
+    let case = Case {
+        n,
+        distances: table(random, n),
+        k,
+        min_segment_len,
+        max_nearby,
+        sets_room: sets * k + random.index(k),
+        room: 2,
+    };
+    (Box::new(case), None)
+}
+
 fn shortest_piece(random: &mut Random) -> usize {
     match random.below(40) {
         0 => random.pick([9, 100, 511, 512]),

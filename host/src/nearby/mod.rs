@@ -13,7 +13,7 @@ use crate::trial::{Family, Source};
 
 const CALL: &str = "nearby_cuts";
 
-pub const FAMILIES: [Family; 5] = [
+pub const FAMILIES: [Family; 6] = [
     Family::new(CALL, "nearby/short", Source::Each(short::each)),
     Family::new(CALL, "nearby/rooms", Source::Each(short::each_room)),
     Family::new(CALL, "nearby/bounds", Source::Each(bounds::each)).on_small_stack(),
@@ -21,6 +21,11 @@ pub const FAMILIES: [Family; 5] = [
         CALL,
         "nearby/random",
         Source::Drawn(1000, 0, generate::draw),
+    ),
+    Family::new(
+        CALL,
+        "nearby/long",
+        Source::Drawn(20, 0, generate::draw_long),
     ),
     Family::new(
         CALL,

@@ -12,6 +12,18 @@ pub fn draw(random: &mut Random, _index: u64) -> Drawn {
     (Box::new(random_run(random)), None)
 }
 
+/// Longer rounds, of which many are finished for k = 2 and few for k = 5.
+pub fn draw_long(random: &mut Random, _index: u64) -> Drawn {
+    let k = random.within(2, 5);
+    let most = [120, 30, 20, 14][k - 2];
+    let rounds = random.within(1, 4);
+    let lengths: Vec<usize> = (0..rounds).map(|_| random.within(8, most)).collect();
+    let locations = most + random.within(1, 40);
+    let mut case = of_lengths(random, k, locations, &lengths);
+    case.allowance = random.below(1 << 17);
+    (Box::new(case), None)
+}
+
 /// With an allowance near one that matters.
 pub fn random_run(random: &mut Random) -> Case {
     let mut case = small_run(random);

@@ -16,13 +16,14 @@ use crate::trial::{Family, Source};
 
 const CALL: &str = "run_list_k_opt";
 
-pub const FAMILIES: [Family; 8] = [
+pub const FAMILIES: [Family; 9] = [
     Family::new(CALL, "run/short", Source::Each(short::each)),
     Family::new(CALL, "run/pair-loop", Source::Each(pair_loop::each)),
     Family::new(CALL, "run/lengths", Source::Each(bounds::each_length)).on_small_stack(),
     Family::new(CALL, "run/bounds", Source::Each(bounds::each)).on_small_stack(),
     Family::new(CALL, "run/allowances", Source::Each(allowances::each)),
     Family::new(CALL, "run/random", Source::Drawn(400, 0, generate::draw)),
+    Family::new(CALL, "run/long", Source::Drawn(8, 0, generate::draw_long)),
     Family::new(
         CALL,
         "run/planted",
