@@ -5,10 +5,21 @@ use std::path::{Path, PathBuf};
 use std::process::{Command, ExitCode};
 use std::{env, fs};
 
-const RUST_FILES: [(&str, &str); 2] = [
+const RUST_FILES: [(&str, &str); 7] = [
     ("general", "manager/phase_factory/list_k_opt/general.rs"),
+    ("kernel", "manager/phase_factory/list_k_opt/kernel.rs"),
     ("k_opt_reconnection", "heuristic/move/k_opt_reconnection.rs"),
+    ("k_opt", "heuristic/move/k_opt.rs"),
+    ("metadata", "heuristic/move/metadata.rs"),
+    ("k_opt_moves", "heuristic/move/list_kernel/k_opt.rs"),
+    (
+        "nearby_state",
+        "heuristic/selector/list_kernel/k_opt/nearby_state.rs",
+    ),
 ];
+
+/// Included as it stands in a module that has the names it uses, as the Rust does.
+const INCLUDED: (&str, &str) = ("iter", "heuristic/selector/move_selector/iter.rs");
 
 fn main() -> ExitCode {
     match prepare() {
@@ -42,18 +53,27 @@ fn named_folder(name: &str) -> Option<PathBuf> {
 fn name_sources(usual: &Path) -> Result<(), String> {
     let folder = named_folder("MITTENSCHIST_RUST_SRC").unwrap_or_else(|| usual.to_path_buf());
     let sources = folder.join("crates/solverforge-solver/src");
-    let out = PathBuf::from(variable("OUT_DIR")?);
     for (module, file) in RUST_FILES {
-        let path = sources.join(file);
-        let path =
-            fs::canonicalize(&path).map_err(|fault| format!("{}: {fault}", path.display()))?;
-        println!("cargo:rerun-if-changed={}", path.display());
+        let path = found(&sources.join(file))?;
+        let allowed = "dead_code, unused_imports";
         let declaration =
-            format!("#[path = {path:?}]\n#[allow(dead_code)]\npub(crate) mod {module};\n");
-        fs::write(out.join(format!("{module}.rs")), declaration)
-            .map_err(|fault| format!("{module}: {fault}"))?;
+            format!("#[path = {path:?}]\n#[allow({allowed})]\npub(crate) mod {module};\n");
+        write_down(module, &declaration)?;
     }
-    Ok(())
+    let path = found(&sources.join(INCLUDED.1))?;
+    write_down(INCLUDED.0, &format!("include!({path:?});\n"))
+}
+
+fn found(path: &Path) -> Result<PathBuf, String> {
+    let path = fs::canonicalize(path).map_err(|fault| format!("{}: {fault}", path.display()))?;
+    println!("cargo:rerun-if-changed={}", path.display());
+    Ok(path)
+}
+
+fn write_down(module: &str, declaration: &str) -> Result<(), String> {
+    let out = PathBuf::from(variable("OUT_DIR")?);
+    fs::write(out.join(format!("{module}.rs")), declaration)
+        .map_err(|fault| format!("{module}: {fault}"))
 }
 
 fn link_archive(root: &Path) -> Result<(), String> {

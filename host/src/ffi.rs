@@ -1,4 +1,7 @@
-//! The library's C entry. The only unsafe code of the host.
+//! The library's C entries. Each wrapper returns 0 or the refusal number. The only unsafe code of the host.
+
+// In every wrapper each pointer comes with the length of the slice it is taken from, and the borrows keep what is written apart
+// from everything else that is lent. The library takes any contents and keeps no pointer.
 
 extern "C" {
     fn mittenschist_polish_route(
@@ -15,10 +18,132 @@ extern "C" {
         result: *mut u64,
         result_len: usize,
     ) -> u32;
+    fn mittenschist_run_list_k_opt(
+        k: usize,
+        allowance: u64,
+        locations: usize,
+        legs: *const u32,
+        legs_len: usize,
+        latest: *const u32,
+        latest_len: usize,
+        stops: *mut u32,
+        stops_len: usize,
+        lengths: *const usize,
+        lengths_len: usize,
+        depots: *const u32,
+        depots_len: usize,
+        pins: *const u8,
+        pins_len: usize,
+        result: *mut u64,
+        result_len: usize,
+    ) -> u32;
+    fn mittenschist_nearby_cuts(
+        n: usize,
+        distances: *const f64,
+        distances_len: usize,
+        k: usize,
+        min_segment_len: usize,
+        max_nearby: usize,
+        sets: *mut usize,
+        sets_len: usize,
+        result: *mut u64,
+        result_len: usize,
+    ) -> u32;
+    fn mittenschist_k_opt_do_move(
+        k: usize,
+        pattern: usize,
+        round: usize,
+        cut_rounds: *const usize,
+        cut_rounds_len: usize,
+        cut_positions: *const usize,
+        cut_positions_len: usize,
+        route: *mut u32,
+        route_len: usize,
+        journal: *mut u32,
+        journal_len: usize,
+    ) -> u32;
+    fn mittenschist_k_opt_undo_move(
+        route: *mut u32,
+        route_len: usize,
+        journal: *const u32,
+        journal_len: usize,
+    ) -> u32;
+    fn mittenschist_k_opt_is_doable(
+        k: usize,
+        pattern: usize,
+        round: usize,
+        n: usize,
+        cut_rounds: *const usize,
+        cut_rounds_len: usize,
+        cut_positions: *const usize,
+        cut_positions_len: usize,
+        result: *mut u64,
+        result_len: usize,
+    ) -> u32;
+    fn mittenschist_reconnection_at(
+        k: usize,
+        pattern: usize,
+        result: *mut u64,
+        result_len: usize,
+    ) -> u32;
+    fn mittenschist_next_cut_set(
+        k: usize,
+        n: usize,
+        cuts: *mut usize,
+        cuts_len: usize,
+        result: *mut u64,
+        result_len: usize,
+    ) -> u32;
+    fn mittenschist_reconnect(
+        k: usize,
+        pattern: usize,
+        cuts: *const usize,
+        cuts_len: usize,
+        route: *const u32,
+        route_len: usize,
+        out: *mut u32,
+        out_len: usize,
+    ) -> u32;
+    fn mittenschist_route_length(
+        locations: usize,
+        legs: *const u32,
+        legs_len: usize,
+        depot: u32,
+        route: *const u32,
+        route_len: usize,
+        result: *mut u64,
+        result_len: usize,
+    ) -> u32;
+    fn mittenschist_delta(
+        k: usize,
+        pattern: usize,
+        cuts: *const usize,
+        cuts_len: usize,
+        locations: usize,
+        legs: *const u32,
+        legs_len: usize,
+        depot: u32,
+        route: *const u32,
+        route_len: usize,
+        result: *mut i64,
+        result_len: usize,
+    ) -> u32;
+    fn mittenschist_route_feasible(
+        locations: usize,
+        legs: *const u32,
+        legs_len: usize,
+        latest: *const u32,
+        latest_len: usize,
+        depot: u32,
+        route: *const u32,
+        route_len: usize,
+        result: *mut u64,
+        result_len: usize,
+    ) -> u32;
 }
 
-/// Polishes `route`; returns 0 or the refusal number. After 0, `result` begins with 0 finished or 1 spent, candidates examined,
-/// candidates accepted, length before, length after.
+/// Polishes `route`. The result begins with 0 finished or 1 spent, candidates examined, candidates accepted, length before, length
+/// after.
 #[allow(clippy::too_many_arguments)]
 pub fn polish_route(
     k: usize,
@@ -30,8 +155,7 @@ pub fn polish_route(
     route: &mut [u32],
     result: &mut [u64],
 ) -> u32 {
-    // SAFETY: each pointer comes with the length of the slice it is taken from, and the borrows keep what is written apart from
-    // everything else that is lent. The library takes any contents and keeps no pointer.
+    // SAFETY: as said above.
     unsafe {
         mittenschist_polish_route(
             k,
@@ -43,6 +167,257 @@ pub fn polish_route(
             latest.len(),
             depot,
             route.as_mut_ptr(),
+            route.len(),
+            result.as_mut_ptr(),
+            result.len(),
+        )
+    }
+}
+
+/// Polishes rounds whose stops lie end to end. The result begins with four numbers a round: state, examined, accepted, applied.
+#[allow(clippy::too_many_arguments)]
+pub fn run_list_k_opt(
+    k: usize,
+    allowance: u64,
+    locations: usize,
+    legs: &[u32],
+    latest: &[u32],
+    stops: &mut [u32],
+    lengths: &[usize],
+    depots: &[u32],
+    pins: &[u8],
+    result: &mut [u64],
+) -> u32 {
+    // SAFETY: as said above.
+    unsafe {
+        mittenschist_run_list_k_opt(
+            k,
+            allowance,
+            locations,
+            legs.as_ptr(),
+            legs.len(),
+            latest.as_ptr(),
+            latest.len(),
+            stops.as_mut_ptr(),
+            stops.len(),
+            lengths.as_ptr(),
+            lengths.len(),
+            depots.as_ptr(),
+            depots.len(),
+            pins.as_ptr(),
+            pins.len(),
+            result.as_mut_ptr(),
+            result.len(),
+        )
+    }
+}
+
+/// Lists cut sets by nearness. The result begins with the number of sets written and 0 ended or 1 more.
+pub fn nearby_cuts(
+    n: usize,
+    distances: &[f64],
+    k: usize,
+    min_segment_len: usize,
+    max_nearby: usize,
+    sets: &mut [usize],
+    result: &mut [u64],
+) -> u32 {
+    // SAFETY: as said above.
+    unsafe {
+        mittenschist_nearby_cuts(
+            n,
+            distances.as_ptr(),
+            distances.len(),
+            k,
+            min_segment_len,
+            max_nearby,
+            sets.as_mut_ptr(),
+            sets.len(),
+            result.as_mut_ptr(),
+            result.len(),
+        )
+    }
+}
+
+/// Applies a move to `route` and puts the old stops into the journal.
+pub fn k_opt_do_move(
+    k: usize,
+    pattern: usize,
+    round: usize,
+    cut_rounds: &[usize],
+    cut_positions: &[usize],
+    route: &mut [u32],
+    journal: &mut [u32],
+) -> u32 {
+    // SAFETY: as said above.
+    unsafe {
+        mittenschist_k_opt_do_move(
+            k,
+            pattern,
+            round,
+            cut_rounds.as_ptr(),
+            cut_rounds.len(),
+            cut_positions.as_ptr(),
+            cut_positions.len(),
+            route.as_mut_ptr(),
+            route.len(),
+            journal.as_mut_ptr(),
+            journal.len(),
+        )
+    }
+}
+
+/// Puts the stops of the journal back.
+pub fn k_opt_undo_move(route: &mut [u32], journal: &[u32]) -> u32 {
+    // SAFETY: as said above.
+    unsafe {
+        mittenschist_k_opt_undo_move(
+            route.as_mut_ptr(),
+            route.len(),
+            journal.as_ptr(),
+            journal.len(),
+        )
+    }
+}
+
+/// The result begins with 0 no or 1 yes.
+pub fn k_opt_is_doable(
+    k: usize,
+    pattern: usize,
+    round: usize,
+    n: usize,
+    cut_rounds: &[usize],
+    cut_positions: &[usize],
+    result: &mut [u64],
+) -> u32 {
+    // SAFETY: as said above.
+    unsafe {
+        mittenschist_k_opt_is_doable(
+            k,
+            pattern,
+            round,
+            n,
+            cut_rounds.as_ptr(),
+            cut_rounds.len(),
+            cut_positions.as_ptr(),
+            cut_positions.len(),
+            result.as_mut_ptr(),
+            result.len(),
+        )
+    }
+}
+
+/// The result begins with k + 1 piece numbers and the mask.
+pub fn reconnection_at(k: usize, pattern: usize, result: &mut [u64]) -> u32 {
+    // SAFETY: as said above.
+    unsafe { mittenschist_reconnection_at(k, pattern, result.as_mut_ptr(), result.len()) }
+}
+
+/// The result begins with 1 moved, or 0 and the cuts kept.
+pub fn next_cut_set(k: usize, n: usize, cuts: &mut [usize], result: &mut [u64]) -> u32 {
+    // SAFETY: as said above.
+    unsafe {
+        mittenschist_next_cut_set(
+            k,
+            n,
+            cuts.as_mut_ptr(),
+            cuts.len(),
+            result.as_mut_ptr(),
+            result.len(),
+        )
+    }
+}
+
+/// Writes the rejoined route to the first places of `out`.
+pub fn reconnect(k: usize, pattern: usize, cuts: &[usize], route: &[u32], out: &mut [u32]) -> u32 {
+    // SAFETY: as said above.
+    unsafe {
+        mittenschist_reconnect(
+            k,
+            pattern,
+            cuts.as_ptr(),
+            cuts.len(),
+            route.as_ptr(),
+            route.len(),
+            out.as_mut_ptr(),
+            out.len(),
+        )
+    }
+}
+
+/// The result begins with the length.
+pub fn route_length(
+    locations: usize,
+    legs: &[u32],
+    depot: u32,
+    route: &[u32],
+    result: &mut [u64],
+) -> u32 {
+    // SAFETY: as said above.
+    unsafe {
+        mittenschist_route_length(
+            locations,
+            legs.as_ptr(),
+            legs.len(),
+            depot,
+            route.as_ptr(),
+            route.len(),
+            result.as_mut_ptr(),
+            result.len(),
+        )
+    }
+}
+
+/// The result begins with the length after minus the length before.
+#[allow(clippy::too_many_arguments)]
+pub fn delta(
+    k: usize,
+    pattern: usize,
+    cuts: &[usize],
+    locations: usize,
+    legs: &[u32],
+    depot: u32,
+    route: &[u32],
+    result: &mut [i64],
+) -> u32 {
+    // SAFETY: as said above.
+    unsafe {
+        mittenschist_delta(
+            k,
+            pattern,
+            cuts.as_ptr(),
+            cuts.len(),
+            locations,
+            legs.as_ptr(),
+            legs.len(),
+            depot,
+            route.as_ptr(),
+            route.len(),
+            result.as_mut_ptr(),
+            result.len(),
+        )
+    }
+}
+
+/// The result begins with a late position, or the number of stops if none is late.
+pub fn route_feasible(
+    locations: usize,
+    legs: &[u32],
+    latest: &[u32],
+    depot: u32,
+    route: &[u32],
+    result: &mut [u64],
+) -> u32 {
+    // SAFETY: as said above.
+    unsafe {
+        mittenschist_route_feasible(
+            locations,
+            legs.as_ptr(),
+            legs.len(),
+            latest.as_ptr(),
+            latest.len(),
+            depot,
+            route.as_ptr(),
             route.len(),
             result.as_mut_ptr(),
             result.len(),

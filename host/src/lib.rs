@@ -1,25 +1,37 @@
 //! The library beside the Rust it is ported from, on the same inputs.
 
-// general.rs names these two crates; the stand-ins below take their places.
+#![deny(unsafe_code)]
+
+// The Rust names these crates; the stand-ins below take their places.
+extern crate self as smallvec;
+extern crate self as solverforge_config;
 extern crate self as solverforge_core;
 extern crate self as solverforge_scoring;
 
 mod stand_ins;
-use stand_ins::{domain, phase, scope, stats, Director};
+use stand_ins::selection::SelectionOrder;
+pub(crate) use stand_ins::small_vec::SmallVec;
+use stand_ins::{domain, pinning, scope, stats, Director};
 
-mod heuristic {
-    pub(crate) mod r#move {
-        include!(concat!(env!("OUT_DIR"), "/k_opt_reconnection.rs"));
-    }
+mod phase {
+    pub(crate) use crate::stand_ins::construction;
 }
 
-pub mod bounds;
-pub mod case;
-pub mod damage;
+mod heuristic;
+
+pub mod checks;
+mod damage;
+pub mod draw;
+#[allow(unsafe_code)]
 pub mod ffi;
-pub mod generate;
-pub mod judge;
+pub mod lent;
+pub mod moves;
+pub mod nearby;
 pub mod oracle;
-pub mod planted;
+pub mod parts;
+pub mod polish;
 pub mod random;
-pub mod short;
+pub mod rules;
+pub mod run;
+pub mod tables;
+pub mod trial;

@@ -1,206 +1,177 @@
-//! compare [seed] [cases] [family index]: feeds the library and the Rust the same cases and compares all that a caller sees.
-//! Family and index, as a difference prints them, run that one case again, given the same seed and cases. Exit 1 on a difference.
+//! compare [seed] [cases] [family [index]]: feeds the library and the Rust the same cases and compares all that a caller sees.
+//! Family and index, as a difference prints them, run that one case again, given the same seed and cases; the first word of families runs
+//! all of them. Exit 1 on a difference.
 
-use host::bounds::{bound_cases, text_case};
-use host::case::Case;
-use host::damage::{damaged_case, DAMAGE_SETS};
-use host::generate::random_case;
-use host::judge::{expected, judge, judge_on_small_stack, Reply};
-use host::planted::{planted_case, PATTERNS};
+#![forbid(unsafe_code)]
+
 use host::random::Random;
-use host::short::each_short_case;
+use host::trial::{judge, Drawn, Family, Reply, Source, Trial};
+use host::{checks, moves, nearby, parts, polish, run};
+use std::collections::BTreeMap;
 use std::env;
 use std::process::ExitCode;
 
 const SEED: u64 = 1965;
-const CASES: u64 = 200_000;
+const CASES: u64 = 100_000;
 const MOST_PRINTED: u64 = 10;
-
-const FAMILIES: [&str; 5] = ["short", "bounds", "random", "damaged", "planted"];
-const SHORT: usize = 0;
-const BOUNDS: usize = 1;
-const RANDOM: usize = 2;
-const DAMAGED: usize = 3;
-const PLANTED: usize = 4;
 
 struct Settings {
     seed: u64,
     cases: u64,
-    only: Option<(usize, u64)>,
+    family: Option<String>,
+    index: Option<u64>,
 }
 
 impl Settings {
-    fn wants(&self, family: usize, index: u64) -> bool {
-        self.only.is_none_or(|only| only == (family, index))
+    fn wants_family(&self, family: &Family) -> bool {
+        self.family.as_ref().is_none_or(|name| family.is_of(name))
     }
 
-    fn random(&self, family: usize, index: u64) -> Random {
-        Random::of_case(self.seed, family as u64, index)
+    fn wants(&self, index: u64) -> bool {
+        self.index.is_none_or(|only| only == index)
     }
 }
 
-/// What has been compared so far.
+/// What has been compared of a call.
 #[derive(Default)]
 struct Tally {
-    compared: [u64; FAMILIES.len()],
-    refused: u64,
-    finished: u64,
-    spent: u64,
-    changed: u64,
+    compared: u64,
+    differences: u64,
+    kinds: BTreeMap<&'static str, u64>,
+}
+
+#[derive(Default)]
+struct Tallies {
+    calls: BTreeMap<&'static str, Tally>,
     differences: u64,
 }
 
-impl Tally {
-    fn compare(&mut self, family: usize, index: u64, case: &Case) {
-        let (reply, difference) = match family {
-            BOUNDS => judge_on_small_stack(case),
-            _ => judge(case),
+impl Tallies {
+    fn compare(&mut self, family: &Family, index: u64, trial: &dyn Trial) -> Reply {
+        let (reply, difference) = judge(trial, family.small_stack);
+        let kind = match reply.code {
+            0 => trial.kind(&reply),
+            _ => "refused",
         };
-        self.compared[family] += 1;
-        self.note(&reply);
+        let tally = self.calls.entry(family.call).or_default();
+        tally.compared += 1;
+        *tally.kinds.entry(kind).or_default() += 1;
         if let Some(found) = difference {
-            self.report(family, index, case, &found);
+            self.report(family, index, trial, &found);
         }
+        reply
     }
 
-    fn note(&mut self, reply: &Reply) {
-        if reply.code != 0 {
-            self.refused += 1;
-            return;
-        }
-        self.finished += 1 - reply.result[0];
-        self.spent += reply.result[0];
-        self.changed += u64::from(reply.result[2] > 0);
-    }
-
-    fn report(&mut self, family: usize, index: u64, case: &Case, found: &str) {
+    fn report(&mut self, family: &Family, index: u64, trial: &dyn Trial, found: &str) {
+        self.calls.entry(family.call).or_default().differences += 1;
         self.differences += 1;
         if self.differences <= MOST_PRINTED {
-            println!("DIFFERENCE in {} {index}\n{found}{case}", FAMILIES[family]);
+            println!("DIFFERENCE in {} {index}\n{found}{trial}", family.name);
         }
     }
+
+    fn print(&self) {
+        for (call, tally) in &self.calls {
+            let (compared, differences) = (tally.compared, tally.differences);
+            println!("{compared:>9} {call}, {differences} differences");
+            let kinds: Vec<String> = tally.kinds.iter().map(told).collect();
+            println!("          expected: {}", kinds.join(", "));
+        }
+        let all: u64 = self.calls.values().map(|tally| tally.compared).sum();
+        println!("{all} comparisons, {} differences", self.differences);
+    }
+}
+
+fn told((kind, count): (&&str, &u64)) -> String {
+    format!("{count} {kind}")
 }
 
 fn main() -> ExitCode {
     let words: Vec<String> = env::args().skip(1).collect();
-    let Some(settings) = settings(&words) else {
+    let families = families();
+    let Some(settings) = settings(&words, &families) else {
+        let names: Vec<&str> = families.iter().map(|family| family.name).collect();
         eprintln!(
-            "usage: compare [seed] [cases] [family index]; the families: {}",
-            FAMILIES.join(", ")
+            "usage: compare [seed] [cases] [family [index]]; the families: {}",
+            names.join(", ")
         );
         return ExitCode::from(2);
     };
-    println!("seed {}, {} random cases", settings.seed, settings.cases);
-    let mut tally = Tally::default();
-    check_oracle(&mut tally);
-    run_short(&mut tally, &settings);
-    run_bounds(&mut tally, &settings);
-    run_random(&mut tally, &settings);
-    run_damaged(&mut tally, &settings);
-    run_planted(&mut tally, &settings);
-    print_tally(&tally);
-    ExitCode::from(u8::from(tally.differences > 0))
+    println!("seed {}, {} cases", settings.seed, settings.cases);
+    if let Some(fault) = checks::fault() {
+        println!("the Rust does not give what document 01 says: {fault}");
+        return ExitCode::FAILURE;
+    }
+    let mut tallies = Tallies::default();
+    for (salt, family) in (0..).zip(&families) {
+        if settings.wants_family(family) {
+            run_family(&mut tallies, &settings, family, salt);
+        }
+    }
+    tallies.print();
+    ExitCode::from(u8::from(tallies.differences > 0))
 }
 
-fn settings(words: &[String]) -> Option<Settings> {
+fn families() -> Vec<Family> {
+    let mut all = Vec::from(polish::FAMILIES);
+    all.extend(run::FAMILIES);
+    all.extend(nearby::FAMILIES);
+    all.extend(moves::FAMILIES);
+    all.extend(parts::FAMILIES);
+    all
+}
+
+fn settings(words: &[String], families: &[Family]) -> Option<Settings> {
     let number = |place: usize, usual: u64| {
         words
             .get(place)
             .map_or(Some(usual), |word| word.parse().ok())
     };
-    let only = match words.len() {
-        0..=2 => None,
-        4 => Some((
-            FAMILIES.iter().position(|&family| family == words[2])?,
-            words[3].parse().ok()?,
-        )),
-        _ => return None,
-    };
+    let family = words.get(2);
+    if family.is_some_and(|name| !families.iter().any(|family| family.is_of(name))) {
+        return None;
+    }
     Some(Settings {
         seed: number(0, SEED)?,
         cases: number(1, CASES)?,
-        only,
+        family: family.cloned(),
+        index: match words.get(3) {
+            Some(word) => Some(word.parse().ok()?),
+            None => None,
+        },
     })
 }
 
-/// The Rust with its stand-ins must give what document 01 says of its text case.
-fn check_oracle(tally: &mut Tally) {
-    let case = text_case(100);
-    let reply = expected(&case);
-    if reply.result != [0, 11, 1, 15, 3] || reply.route != [2, 1] {
-        tally.report(
-            BOUNDS,
-            0,
-            &case,
-            &format!("the Rust gives {reply:?}, which is not document 01's\n"),
+fn run_family(tallies: &mut Tallies, settings: &Settings, family: &Family, salt: u64) {
+    match family.source {
+        Source::Each(each) => {
+            let mut index = 0;
+            let mut random = Random::of_case(settings.seed, salt, 0);
+            each(&mut random, &mut |trial| {
+                if settings.wants(index) {
+                    tallies.compare(family, index, &*trial);
+                }
+                index += 1;
+            });
+        }
+        Source::Drawn(share, least, draw) => {
+            let cases = (settings.cases * share / 1000).max(least);
+            for index in (0..cases).filter(|&index| settings.wants(index)) {
+                let drawn = draw(&mut Random::of_case(settings.seed, salt, index), index);
+                run_drawn(tallies, family, index, drawn);
+            }
+        }
+    }
+}
+
+fn run_drawn(tallies: &mut Tallies, family: &Family, index: u64, drawn: Drawn) {
+    let (trial, meant) = drawn;
+    let reply = tallies.compare(family, index, &*trial);
+    if let Some(number) = meant.filter(|&number| number != reply.code) {
+        let fault = format!(
+            "the harness expects {} where it meant {number}\n",
+            reply.code
         );
+        tallies.report(family, index, &*trial, &fault);
     }
-}
-
-fn run_short(tally: &mut Tally, settings: &Settings) {
-    let mut index = 0;
-    each_short_case(&mut |case| {
-        if settings.wants(SHORT, index) {
-            tally.compare(SHORT, index, &case);
-        }
-        index += 1;
-    });
-}
-
-fn run_bounds(tally: &mut Tally, settings: &Settings) {
-    let cases = bound_cases(&mut settings.random(BOUNDS, 0));
-    for (index, case) in (0..).zip(&cases) {
-        if settings.wants(BOUNDS, index) {
-            tally.compare(BOUNDS, index, case);
-        }
-    }
-}
-
-fn run_random(tally: &mut Tally, settings: &Settings) {
-    for index in (0..settings.cases).filter(|&index| settings.wants(RANDOM, index)) {
-        let case = random_case(&mut settings.random(RANDOM, index));
-        tally.compare(RANDOM, index, &case);
-    }
-}
-
-/// Every set of damages, again and again: as many cases as a tenth of the random ones.
-fn run_damaged(tally: &mut Tally, settings: &Settings) {
-    let cases = (settings.cases / 10).max(DAMAGE_SETS);
-    for index in (0..cases).filter(|&index| settings.wants(DAMAGED, index)) {
-        let (case, number) =
-            damaged_case(&mut settings.random(DAMAGED, index), index % DAMAGE_SETS);
-        if case.refusal() != number {
-            let fault = format!(
-                "the harness expects {} where it meant {number}\n",
-                case.refusal()
-            );
-            tally.report(DAMAGED, index, &case, &fault);
-        }
-        tally.compare(DAMAGED, index, &case);
-    }
-}
-
-/// Every pattern at least once.
-fn run_planted(tally: &mut Tally, settings: &Settings) {
-    let cases = (settings.cases / 100).max(PATTERNS);
-    for index in (0..cases).filter(|&index| settings.wants(PLANTED, index)) {
-        if let Some(case) = planted_case(&mut settings.random(PLANTED, index), index) {
-            tally.compare(PLANTED, index, &case);
-        }
-    }
-}
-
-fn print_tally(tally: &Tally) {
-    for (family, compared) in FAMILIES.iter().zip(tally.compared) {
-        println!("{compared:>9} {family}");
-    }
-    println!(
-        "expected: {} finished, {} spent, {} of these changed, {} refused",
-        tally.finished, tally.spent, tally.changed, tally.refused
-    );
-    println!(
-        "{} comparisons, {} differences",
-        tally.compared.iter().sum::<u64>(),
-        tally.differences
-    );
 }

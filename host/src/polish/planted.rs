@@ -2,22 +2,31 @@
 //! all others more, and each stop is due when it is reached. The count of candidates then shows where the scan found it, which
 //! random cases seldom show of the later patterns.
 
-use crate::case::Case;
+use super::case::Case;
 use crate::heuristic::r#move::k_opt_reconnection::{enumerate_reconnections, KOptReconnection};
 use crate::random::Random;
+use crate::tables::Tables;
+use crate::trial::Drawn;
 
 /// The patterns of all k together.
 pub const PATTERNS: u64 = 1 + 7 + 47 + 383;
 
-/// A case for the pattern of this index, those of k = 2 first.
-pub fn planted_case(random: &mut Random, index: u64) -> Option<Case> {
-    let all = (2..=5).flat_map(enumerate_reconnections);
-    let pattern = all.into_iter().nth((index % PATTERNS) as usize)?;
-    let bounds = segment_bounds(random, &pattern);
-    let stops = *bounds.last()?;
+pub fn draw(random: &mut Random, index: u64) -> Drawn {
+    (Box::new(planted_case(random, index, 0)), None)
+}
+
+/// A case for the pattern of this index, those of k = 2 first, with at least so many stops.
+pub fn planted_case(random: &mut Random, index: u64, least: usize) -> Case {
+    let mut all = (2..=5).flat_map(enumerate_reconnections);
+    let pattern = all
+        .nth((index % PATTERNS) as usize)
+        .expect("438 patterns of the Rust");
+    let mut bounds = segment_bounds(random, &pattern);
+    let stops = bounds[pattern.segment_count()].max(least);
+    bounds[pattern.segment_count()] = stops;
     let route: Vec<u32> = (1..=stops as u32).collect();
     let target = rejoined(&route, &bounds, &pattern);
-    Some(on_time_only(random, pattern.k(), route, &target))
+    on_time_only(random, pattern.k(), route, &target)
 }
 
 /// Where each segment begins and the last one ends. A segment that is reversed has two stops, so that it shows; the others have
@@ -60,13 +69,14 @@ fn on_time_only(random: &mut Random, k: usize, route: Vec<u32>, target: &[u32]) 
         place = stop as usize;
     }
     legs[place * locations] = 1;
-    let allowance = u64::MAX;
     Case {
         k,
-        allowance,
-        locations,
-        legs,
-        latest,
+        allowance: u64::MAX,
+        tables: Tables {
+            locations,
+            legs,
+            latest,
+        },
         depot: 0,
         route,
         room: 5,

@@ -1,24 +1,31 @@
 //! Cases at the bounds of document 01, and its text case.
 
-use crate::case::{Case, LONGEST_LEG, MOST_LOCATIONS, MOST_STOPS};
-use crate::generate::leg_table;
+use super::case::Case;
+use crate::draw::{capped, leg_table};
 use crate::random::Random;
+use crate::rules::{LONGEST_LEG, MOST_LOCATIONS, MOST_STOPS};
+use crate::tables::Tables;
+use crate::trial::Visit;
+
+pub fn each(random: &mut Random, visit: Visit) {
+    for case in cases(random) {
+        visit(Box::new(case));
+    }
+}
 
 /// The text case of document 01.
 pub fn text_case(allowance: u64) -> Case {
     Case {
         k: 3,
         allowance,
-        locations: 3,
-        legs: vec![0, 5, 1, 1, 0, 5, 5, 1, 0],
-        latest: vec![u32::MAX; 3],
+        tables: Tables::of_legs(3, vec![0, 5, 1, 1, 0, 5, 5, 1, 0]),
         depot: 0,
         route: vec![1, 2],
         room: 5,
     }
 }
 
-pub fn bound_cases(random: &mut Random) -> Vec<Case> {
+fn cases(random: &mut Random) -> Vec<Case> {
     let mut cases: Vec<Case> = (0..13).map(text_case).collect();
     for k in 2..=5 {
         cases.push(full(
@@ -46,15 +53,13 @@ fn full(k: usize, allowance: u64, legs: Vec<u32>) -> Case {
     let mut case = Case {
         k,
         allowance,
-        locations: MOST_LOCATIONS,
-        legs,
-        latest: vec![0; MOST_LOCATIONS],
+        tables: Tables::of_legs(MOST_LOCATIONS, legs),
         depot: MOST_LOCATIONS as u32 - 1,
         route: (0..MOST_STOPS as u32).collect(),
         room: 5,
     };
-    for (stop, seconds) in case.arrivals(&case.route).into_iter().enumerate() {
-        case.latest[stop] = u32::try_from(seconds).unwrap_or(u32::MAX);
+    for (stop, seconds) in case.arrivals().into_iter().enumerate() {
+        case.tables.latest[stop] = capped(seconds);
     }
     case
 }
@@ -64,9 +69,7 @@ fn one_location(k: usize, stops: usize) -> Case {
     Case {
         k,
         allowance: 1000,
-        locations: 1,
-        legs: vec![7],
-        latest: vec![u32::MAX],
+        tables: Tables::of_legs(1, vec![7]),
         depot: 0,
         route: vec![0; stops],
         room: 6,

@@ -1,0 +1,53 @@
+//! The oracle itself, on the runs of document 01 whose numbers it gives.
+
+use crate::nearby::document_case as nearby_case;
+use crate::polish::bounds::text_case;
+use crate::run::document_case as pair_case;
+use crate::trial::Trial;
+use crate::{oracle, trial::Reply};
+
+/// What the Rust gives otherwise than document 01, if anything.
+pub fn fault() -> Option<String> {
+    let checks = [
+        (
+            "the text case",
+            text(100) == ([0, 11, 1, 15, 3], vec![2, 1]),
+        ),
+        ("the text case, allowance 10", text(10).0[..3] == [1, 10, 1]),
+        ("the pair loop", pair_loop()),
+        ("nearby, one nearer", nearby(true) == [1, 3, 4, 2, 3, 4]),
+        (
+            "nearby, all alike",
+            nearby(false) == [1, 2, 3, 1, 2, 4, 1, 3, 4, 2, 3, 4],
+        ),
+        (
+            "pattern 7 of k = 4",
+            oracle::moves::reconnection_at(4, 7) == [0, 1, 3, 2, 4, 0],
+        ),
+        (
+            "pattern 382 of k = 5",
+            oracle::moves::reconnection_at(5, 382) == [0, 4, 3, 2, 1, 5, 30],
+        ),
+    ];
+    let wrong = checks.iter().find(|check| !check.1);
+    wrong.map(|check| String::from(check.0))
+}
+
+fn text(allowance: u64) -> ([u64; 5], Vec<u64>) {
+    let Reply { lent, .. } = text_case(allowance).expected();
+    let mut numbers = [0; 5];
+    numbers.copy_from_slice(&lent[1].1);
+    (numbers, lent[0].1.clone())
+}
+
+/// 18 examined, 3 accepted, end B A C E.
+fn pair_loop() -> bool {
+    let (stops, numbers) = oracle::run::run(&pair_case(u64::MAX), u64::MAX);
+    stops == [2, 1, 3, 4] && numbers == [4, 18, 3, 3]
+}
+
+fn nearby(special: bool) -> Vec<usize> {
+    let (sets, more) = oracle::nearby::listed(&nearby_case(special), 100);
+    assert!(!more);
+    sets
+}

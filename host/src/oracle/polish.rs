@@ -1,0 +1,54 @@
+//! The unchanged `polish_route`.
+
+use super::fleet::{stops, Access, Fleet, Quiet, Yard};
+use super::list_k_opt::polish_route;
+use crate::polish::case::Case;
+use crate::scope::{SolverScope, StepControlPolicy};
+use std::cell::Cell;
+
+/// What polishing answers besides the route.
+#[derive(Clone, Copy, Debug, PartialEq, Eq)]
+pub struct Counts {
+    pub spent: bool,
+    pub examined: u64,
+    pub accepted: u64,
+}
+
+/// Polishes `route` with this allowance.
+pub fn polish(case: &Case, allowance: u64, route: &mut [u32]) -> Counts {
+    let mut order = stops(route);
+    let counts = polish_stops(case, allowance, &mut order);
+    for (place, stop) in route.iter_mut().zip(order) {
+        *place = stop as u32;
+    }
+    counts
+}
+
+/// As above, on the numbers that the Rust takes.
+pub fn polish_stops(case: &Case, allowance: u64, route: &mut Vec<usize>) -> Counts {
+    let depots = [case.depot];
+    let fleet = Fleet {
+        tables: &case.tables,
+        depots: &depots,
+        rounds: Vec::new(),
+    };
+    let yard = Yard {
+        fleet,
+        pins: &[],
+        reached: Cell::new(0),
+    };
+    let mut solver_scope = SolverScope::new(yard, Quiet);
+    let (spent, accepted) = polish_route(
+        &Access,
+        case.k,
+        StepControlPolicy { allowance },
+        &mut solver_scope,
+        case.depot as usize,
+        route,
+    );
+    Counts {
+        spent,
+        examined: solver_scope.examined,
+        accepted,
+    }
+}

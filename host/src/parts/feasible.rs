@@ -1,0 +1,140 @@
+//! The deadline check, by document 01's own words. Any late position is right.
+
+use super::route::{damage_route, of_stops, random_route, Route};
+use crate::damage::sizes;
+use crate::ffi;
+use crate::lent::{filled, Lent};
+use crate::random::Random;
+use crate::rules::{lowest, LONGEST_LEG, MOST_STOPS};
+use crate::tables::Tables;
+use crate::trial::{damages, put, Drawn, Reply, Trial, Visit};
+use std::fmt::{Display, Formatter, Result as Written};
+
+struct Feasible {
+    route: Route,
+    room: usize,
+}
+
+impl Feasible {
+    fn refusal(&self) -> u32 {
+        lowest(&[
+            (2, self.route.tables.bad_size()),
+            (3, self.route.tables.bad_leg()),
+            (4, self.route.unknown()),
+            (5, self.route.too_long()),
+            (21, self.room < 1),
+        ])
+    }
+
+    fn late(&self) -> Vec<bool> {
+        self.route.tables.late(self.route.depot, &self.route.stops)
+    }
+}
+
+impl Trial for Feasible {
+    fn expected(&self) -> Reply {
+        let code = self.refusal();
+        let mut result = filled(self.room);
+        if code == 0 {
+            let late = self.late();
+            let first = late.iter().position(|&late| late);
+            put(&mut result, &[first.unwrap_or(late.len()) as u64]);
+        }
+        Reply::new(code, [("result", result)])
+    }
+
+    fn given(&self) -> Result<Reply, String> {
+        let room = filled(self.room);
+        let mut legs = Lent::new("legs", &self.route.tables.legs);
+        let mut latest = Lent::new("deadlines", &self.route.tables.latest);
+        let mut stops = Lent::new("route", &self.route.stops);
+        let mut result = Lent::new("result", &room);
+        let code = ffi::route_feasible(
+            self.route.tables.locations,
+            legs.slice(),
+            latest.slice(),
+            self.route.depot,
+            stops.slice(),
+            result.slice(),
+        );
+        legs.kept()?;
+        latest.kept()?;
+        stops.kept()?;
+        Ok(Reply::new(code, [result.written()?]))
+    }
+
+    /// Where the first late position is expected, another late one is as good.
+    fn agree(&self, expected: &Reply, given: &Reply) -> bool {
+        if expected == given {
+            return true;
+        }
+        let kept = |reply: &Reply| reply.lent[0].1.get(1..).map(<[u64]>::to_vec);
+        expected.code == 0
+            && given.code == 0
+            && kept(expected) == kept(given)
+            && self.late().get(given.number(0, 0) as usize) == Some(&true)
+    }
+
+    fn kind(&self, expected: &Reply) -> &'static str {
+        if expected.number(0, 0) == self.route.stops.len() as u64 {
+            "kept"
+        } else {
+            "late"
+        }
+    }
+}
+
+impl Display for Feasible {
+    fn fmt(&self, out: &mut Formatter<'_>) -> Written {
+        writeln!(out, "(lent result: {} places)", self.room)?;
+        write!(out, "{}", self.route.told())
+    }
+}
+
+fn random_check(random: &mut Random) -> Feasible {
+    Feasible {
+        route: random_route(random),
+        room: random.pick([1, 1, 2, 5]),
+    }
+}
+
+pub fn draw(random: &mut Random, _index: u64) -> Drawn {
+    (Box::new(random_check(random)), None)
+}
+
+/// Lengths near the bounds, and the longest route there is with its last stop due on time and a second before.
+pub fn each_bound(random: &mut Random, visit: Visit) {
+    for stops in (0..=6).chain(MOST_STOPS - 1..=MOST_STOPS + 1) {
+        let route = of_stops(random, stops);
+        visit(Box::new(Feasible { route, room: 1 }));
+    }
+    let whole = MOST_STOPS as u32 * LONGEST_LEG;
+    for due in [whole, whole - 1] {
+        let mut tables = Tables::of_legs(2, vec![LONGEST_LEG; 4]);
+        tables.latest[1] = due;
+        let mut stops = vec![0; MOST_STOPS];
+        stops[MOST_STOPS - 1] = 1;
+        let route = Route {
+            tables,
+            depot: 0,
+            stops,
+        };
+        visit(Box::new(Feasible { route, room: 1 }));
+    }
+}
+
+const NUMBERS: [u32; 5] = [21, 5, 4, 3, 2];
+pub const SETS: u64 = 1 << NUMBERS.len();
+
+pub fn draw_damaged(random: &mut Random, index: u64) -> Drawn {
+    let mut check = random_check(random);
+    let numbers = damages(&NUMBERS, index % SETS);
+    for &number in &numbers {
+        match number {
+            2 => sizes(random, &mut check.route.tables),
+            21 => check.room = 0,
+            _ => damage_route(random, &mut check.route, number),
+        }
+    }
+    (Box::new(check), Some(numbers.last().copied().unwrap_or(0)))
+}

@@ -1,0 +1,45 @@
+//! Cases that document 01 refuses: a good one, damaged in one or more ways.
+
+use super::case::{Case, RESULT_PLACES};
+use super::generate::random_case;
+use crate::damage;
+use crate::random::Random;
+use crate::rules::MOST_STOPS;
+use crate::trial::{damages, Drawn};
+
+/// The refusal numbers of polishing, highest first.
+const NUMBERS: [u32; 6] = [21, 5, 4, 3, 2, 1];
+
+/// How many sets of damages there are, the empty one included.
+pub const SETS: u64 = 1 << NUMBERS.len();
+
+pub fn draw(random: &mut Random, index: u64) -> Drawn {
+    let mut case = random_case(random);
+    let numbers = damages(&NUMBERS, index % SETS);
+    for &number in &numbers {
+        damage(random, &mut case, number);
+    }
+    (Box::new(case), Some(numbers.last().copied().unwrap_or(0)))
+}
+
+fn damage(random: &mut Random, case: &mut Case, number: u32) {
+    match number {
+        1 => case.k = damage::wrong_k(random),
+        2 => damage::sizes(random, &mut case.tables),
+        3 => damage::a_leg(random, &mut case.tables),
+        4 => damage_stops(random, case),
+        5 => {
+            let length = MOST_STOPS + random.pick([1, 1, 2, 88, 512]);
+            case.route.resize(length, 0);
+        }
+        _ => case.room = random.index(RESULT_PLACES),
+    }
+}
+
+fn damage_stops(random: &mut Random, case: &mut Case) {
+    if case.route.is_empty() || random.one_in(3) {
+        case.depot = damage::unknown(random, &case.tables);
+    } else {
+        damage::a_stop(random, &case.tables, &mut case.route);
+    }
+}

@@ -1,0 +1,28 @@
+//! Polishing: `mittenschist_polish_route` beside `polish_route` of general.rs.
+
+pub mod bounds;
+pub mod case;
+mod damage;
+mod generate;
+pub mod planted;
+mod short;
+
+use crate::trial::{Family, Source};
+
+const CALL: &str = "polish_route";
+
+pub const FAMILIES: [Family; 5] = [
+    Family::new(CALL, "polish/short", Source::Each(short::each)),
+    Family::new(CALL, "polish/bounds", Source::Each(bounds::each)).on_small_stack(),
+    Family::new(CALL, "polish/random", Source::Drawn(500, 0, generate::draw)),
+    Family::new(
+        CALL,
+        "polish/damaged",
+        Source::Drawn(50, damage::SETS, damage::draw),
+    ),
+    Family::new(
+        CALL,
+        "polish/planted",
+        Source::Drawn(5, planted::PATTERNS, planted::draw),
+    ),
+];

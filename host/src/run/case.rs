@@ -1,0 +1,154 @@
+//! One call of the run: what is handed in, what document 01 says of it, and both replies.
+
+use crate::lent::{bits, filled, Lent};
+use crate::rules::{bad_k, lowest, too_many_stops, MOST_ROUNDS};
+use crate::tables::{listed, Tables};
+use crate::trial::{put, Reply, Trial};
+use crate::{ffi, oracle};
+use std::fmt::{Display, Formatter, Result as Written};
+
+pub const NUMBERS_A_ROUND: usize = 4;
+
+/// The states of a round.
+pub const NOT_REACHED: u64 = 0;
+pub const PINNED: u64 = 1;
+pub const SHORT: u64 = 2;
+pub const UNCHANGED: u64 = 3;
+pub const CHANGED: u64 = 4;
+pub const SPENT: u64 = 5;
+
+#[derive(Clone, Debug, Default)]
+pub struct Case {
+    pub k: usize,
+    pub allowance: u64,
+    pub tables: Tables,
+    pub stops: Vec<u32>,
+    pub lengths: Vec<usize>,
+    pub depots: Vec<u32>,
+    pub pins: Vec<u8>,
+    /// Length of the lent result.
+    pub room: usize,
+}
+
+impl Case {
+    /// Rounds that are free, each with its depot, and room for their numbers.
+    pub fn of_rounds(k: usize, tables: Tables, rounds: &[(u32, Vec<u32>)]) -> Self {
+        Self {
+            k,
+            allowance: u64::MAX,
+            tables,
+            stops: rounds.iter().flat_map(|round| round.1.clone()).collect(),
+            lengths: rounds.iter().map(|round| round.1.len()).collect(),
+            depots: rounds.iter().map(|round| round.0).collect(),
+            pins: vec![0; rounds.len()],
+            room: rounds.len() * NUMBERS_A_ROUND,
+        }
+    }
+
+    /// The stops of each round.
+    pub fn rounds(&self) -> Vec<&[u32]> {
+        let mut rest = &self.stops[..];
+        let mut rounds = Vec::with_capacity(self.lengths.len());
+        for &length in &self.lengths {
+            let (round, others) = rest.split_at(length);
+            rounds.push(round);
+            rest = others;
+        }
+        rounds
+    }
+
+    /// The lowest number of "When it says no" that applies, 0 if none does.
+    pub fn refusal(&self) -> u32 {
+        lowest(&[
+            (1, bad_k(self.k)),
+            (2, self.tables.bad_size()),
+            (3, self.tables.bad_leg()),
+            (4, self.unknown_place()),
+            (5, self.bad_rounds()),
+            (21, self.room < self.lengths.len() * NUMBERS_A_ROUND),
+        ])
+    }
+
+    /// Every stop and every depot counts, whichever round holds it.
+    fn unknown_place(&self) -> bool {
+        self.tables.unknown(&self.depots) || self.tables.unknown(&self.stops)
+    }
+
+    fn bad_rounds(&self) -> bool {
+        let rounds = self.lengths.len();
+        let whole: u128 = self.lengths.iter().map(|&length| length as u128).sum();
+        rounds > MOST_ROUNDS
+            || self.lengths.iter().any(|&length| too_many_stops(length))
+            || self.depots.len() != rounds
+            || self.pins.len() != rounds
+            || whole != self.stops.len() as u128
+    }
+}
+
+impl Trial for Case {
+    fn expected(&self) -> Reply {
+        let code = self.refusal();
+        let mut result = filled(self.room);
+        if code != 0 {
+            return Reply::new(code, [("stops", bits(&self.stops)), ("result", result)]);
+        }
+        let (stops, numbers) = oracle::run::run(self, self.allowance);
+        put(&mut result, &numbers);
+        Reply::new(0, [("stops", bits(&stops)), ("result", result)])
+    }
+
+    fn given(&self) -> Result<Reply, String> {
+        let room = filled(self.room);
+        let mut legs = Lent::new("legs", &self.tables.legs);
+        let mut latest = Lent::new("deadlines", &self.tables.latest);
+        let mut stops = Lent::new("stops", &self.stops);
+        let mut lengths = Lent::new("lengths", &self.lengths);
+        let mut depots = Lent::new("depots", &self.depots);
+        let mut pins = Lent::new("pins", &self.pins);
+        let mut result = Lent::new("result", &room);
+        let code = ffi::run_list_k_opt(
+            self.k,
+            self.allowance,
+            self.tables.locations,
+            legs.slice(),
+            latest.slice(),
+            stops.slice(),
+            lengths.slice(),
+            depots.slice(),
+            pins.slice(),
+            result.slice(),
+        );
+        legs.kept()?;
+        latest.kept()?;
+        lengths.kept()?;
+        depots.kept()?;
+        pins.kept()?;
+        Ok(Reply::new(code, [stops.written()?, result.written()?]))
+    }
+
+    fn kind(&self, expected: &Reply) -> &'static str {
+        let rounds = self.lengths.len();
+        let states: Vec<u64> = (0..rounds)
+            .map(|round| expected.number(1, NUMBERS_A_ROUND * round))
+            .collect();
+        match (states.contains(&SPENT), states.contains(&CHANGED)) {
+            (true, true) => "spent after a change",
+            (true, false) => "spent",
+            (false, true) => "changed",
+            (false, false) if states.contains(&UNCHANGED) => "unchanged",
+            (false, false) => "nothing polished",
+        }
+    }
+}
+
+impl Display for Case {
+    fn fmt(&self, out: &mut Formatter<'_>) -> Written {
+        writeln!(out, "(lent result: {} places)", self.room)?;
+        writeln!(out, "k={}\nallowance={}", self.k, self.allowance)?;
+        write!(out, "{}", self.tables.told())?;
+        writeln!(out, "stops={}", listed(&self.stops))?;
+        writeln!(out, "lengths={}", listed(&self.lengths))?;
+        writeln!(out, "depots={}", listed(&self.depots))?;
+        writeln!(out, "pins={}", listed(&self.pins))
+    }
+}

@@ -1,0 +1,37 @@
+//! Every run of one small kind: two locations, a round of four stops between a pinned and a short one.
+
+use super::case::Case;
+use crate::draw::{lists, with_deadlines};
+use crate::random::Random;
+use crate::tables::Tables;
+use crate::trial::Visit;
+
+/// Legs 0 or 1, each location due at 1 or never, every k, allowance 0, 1 or plenty (the pair loop may not end: 40).
+pub fn each(_random: &mut Random, visit: Visit) {
+    for legs in lists(&[0, 1], 4) {
+        for latest in lists(&[1, u32::MAX], 2) {
+            let tables = with_deadlines(Tables::of_legs(2, legs.clone()), latest);
+            for route in lists(&[0, 1], 4) {
+                each_call(&tables, &route, visit);
+            }
+        }
+    }
+}
+
+fn each_call(tables: &Tables, route: &[u32], visit: Visit) {
+    let others = [(0, vec![1, 0, 1, 0]), (1, vec![0, 1])];
+    for k in 2..=5 {
+        for allowance in [0, 1, 40, 5000] {
+            let rounds = [
+                others[0].clone(),
+                (0, route.to_vec()),
+                others[1].clone(),
+                (1, route.to_vec()),
+            ];
+            let mut case = Case::of_rounds(k, tables.clone(), &rounds);
+            case.allowance = allowance;
+            case.pins[0] = 1;
+            visit(Box::new(case));
+        }
+    }
+}
