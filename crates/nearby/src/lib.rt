@@ -188,9 +188,9 @@ pub fn nearby_cuts(
     ensures { λ r. ⌜ Lists n k «min_segment_len» (nearby-sets (now (distances .entry)) n k «min_segment_len» «max_nearby») (now (sets .entry)) r (now (sets .exit)) ⌝ }
 {
     let capacity = sets.len() / k;
-    let seen = first_cuts(n, distances, k, min_segment_len, max_nearby, capacity, sets);
-    if seen > capacity {
+    let counted = first_cuts(n, distances, k, min_segment_len, max_nearby, capacity, sets);
+    if counted > capacity {
         return theory::Listing::More(capacity);
     }
-    theory::Listing::Ended(seen)
+    theory::Listing::Ended(counted)
 }
