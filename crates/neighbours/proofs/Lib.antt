@@ -4,3 +4,6 @@ pub mod Found
 pub mod Query
 pub mod Memo
 pub mod Nearness
+pub mod Inserted
+pub mod Shifted
+pub mod Pass
