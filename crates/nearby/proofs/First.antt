@@ -13,8 +13,8 @@ use lib.Seq.{take-suc-set}
 use lib.Ieee.{Float}
 use borrow.Author.Tests.{ltb-true}
 use Rattle.theory.specs.Moves.{upfrom}
-use Rattle.neighbours.specs.Neighbours.{kept}
-use Rattle.neighbours.specs.Queries.{Memo}
+use Rattle.nearest.specs.Neighbours.{kept}
+use Rattle.neighbours.specs.Memo.{Memo}
 use Rattle.nearby.specs.Walk.{branch, walk, nearby-sets}
 use Rattle.nearby.specs.Listing.{pour, behind-front, NearbyInput}
 use Rattle.nearby.proofs.Pour.{pour-on, pour-full, poured-most}

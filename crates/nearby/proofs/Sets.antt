@@ -15,8 +15,8 @@ use Rattle.theory.specs.Moves.{upfrom}
 use Rattle.theory.specs.Refusals.{some}
 use Rattle.theory.proofs.Moves.{of-flatMap, upfrom-range}
 use Rattle.theory.proofs.Distinct.{Distinct, distinct-upfrom}
-use Rattle.neighbours.specs.Neighbours.{passing, nearest, nearest-first, neighbours, kept, distance}
-use Rattle.neighbours.proofs.Passing.{of-passing}
+use Rattle.nearest.specs.Neighbours.{passing, nearest, nearest-first, neighbours, kept, distance}
+use Rattle.nearest.proofs.Passing.{of-passing}
 use Rattle.nearby.specs.Walk.{none-there, goes-on, turns, branch, walk, nearby-sets, Spaced}
 use Rattle.nearby.proofs.Turns.{kept-range}
 

@@ -12,9 +12,8 @@ use lib.Seq.{sets, take-suc-set, drop-cons}
 use lib.Ieee.{Float}
 use borrow.Author.Tests.{leb-true}
 use Rattle.theory.proofs.Index.{mem-getD}
-use Rattle.neighbours.specs.Neighbours.{kept, neighbours, passing}
-use Rattle.neighbours.specs.Queries.{Known, Memo, Askable, Kept}
-use Rattle.neighbours.proofs.Passing.{of-passing}
+use Rattle.nearest.specs.Neighbours.{kept, neighbours, passing}
+use Rattle.nearest.proofs.Passing.{of-passing}
 use Rattle.nearby.specs.Walk.{none-there, goes-on, turns, branch}
 use Rattle.nearby.specs.Listing.{pour, behind-front, Room, Branchable, Branched}
 use Rattle.nearby.proofs.Pour.{pour-on, pour-full, poured-most}

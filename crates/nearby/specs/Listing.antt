@@ -10,8 +10,8 @@ use lib.Ieee.{Float}
 use Rattle.theory.specs.Refusals.{some, no-number}
 use Rattle.theory.specs.Answers.{listing-answer, reply}
 use Rattle.theory.specs.declared.Listing.{Listing}
-use Rattle.neighbours.specs.Neighbours.{kept}
-use Rattle.neighbours.specs.Queries.{Memo}
+use Rattle.nearest.specs.Neighbours.{kept}
+use Rattle.neighbours.specs.Memo.{Memo}
 use Rattle.nearby.specs.Walk.{branch, Spaced}
 
 pub record NearbyInput (n : ℕ) (distances : List Float) (k m count lent : ℕ) : Type 0 where

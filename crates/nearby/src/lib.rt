@@ -4,7 +4,7 @@ ghost use mathlib.Core.List.{List, _∷_, [], _++_, map};
 ghost use Prim.Native.Nat.{_+_, _-_, _*_, _≤_, _<_};
 ghost use lib.ListN.{length, getD, take, drop};
 ghost use lib.Seq.{sets};
-ghost use Rattle.neighbours.specs.Neighbours.{kept};
+ghost use Rattle.nearest.specs.Neighbours.{kept};
 ghost use Rattle.nearby.specs.Walk.{goes-on, nearby-sets, walk};
 ghost use Rattle.nearby.specs.Listing.{NearbyInput, Lists, pour, Room, Branchable, Branched};
 

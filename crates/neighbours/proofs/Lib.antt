@@ -1,9 +1,1 @@
-pub mod FloatOrder
-pub mod Passing
-pub mod Found
-pub mod Query
 pub mod Memo
-pub mod Nearness
-pub mod Inserted
-pub mod Shifted
-pub mod Pass

@@ -13,8 +13,8 @@ use lib.Seq.{sets, sets-eq, length-sets, take-set-le, drop-set-lt, getD-take, ge
 use lib.Ieee.{Float, lt}
 use borrow.Author.Tests.{ltb-true, ltb-false}
 use Rattle.theory.specs.Refusals.{some}
-use Rattle.neighbours.specs.Neighbours.{passing, nearest, nearest-first, neighbours, kept}
-use Rattle.neighbours.specs.Queries.{Held, Memo, Looked-up, Kept, Picked, between}
+use Rattle.nearest.specs.Neighbours.{passing, nearest, nearest-first, neighbours, kept}
+use Rattle.neighbours.specs.Memo.{Held, Memo, Looked-up, Kept, Picked, between}
 
 -- ---- a cut has at most as many neighbours as asked for
 

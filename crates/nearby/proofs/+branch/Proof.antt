@@ -5,8 +5,8 @@ use mathlib.Core.List.{List}
 use Prim.Native.Nat.{_≤_, _-_, _+_}
 use lib.ListN.{length, getD, take, drop, length-take, length-set}
 use borrow.Author.Tests.{not-true, not-false}
-use Rattle.neighbours.specs.Neighbours.{kept}
-use Rattle.neighbours.specs.Queries.{Memo}
+use Rattle.nearest.specs.Neighbours.{kept}
+use Rattle.neighbours.specs.Memo.{Memo}
 use Rattle.nearby.specs.Walk as walk
 use Rattle.nearby.specs.Listing.{pour, behind-front}
 use Rattle.nearby.proofs.Turns.{last-poured, ended, dropped, turned, stopped, over, under-most, kept-below, fewer-missing, longer, some-taken, none-taken}

@@ -5,9 +5,9 @@ use Prim.Native.Nat.{_-_, _≤_}
 use native.Mathlib.Omega.{arith}
 use lib.ListN.{length, getD, take, drop, length-set}
 use borrow.Author.Needs.{needs}
-use Rattle.neighbours.specs.Neighbours.{passing}
-use Rattle.neighbours.specs.Queries.{between}
-use Rattle.neighbours.proofs.Query.{picked-next, picked-all, counted-most}
+use Rattle.nearest.specs.Neighbours.{passing}
+use Rattle.neighbours.specs.Memo.{between}
+use Rattle.nearest.proofs.Query.{picked-next, picked-all, counted-most}
 use Rattle.neighbours.proofs.pick.Statement.{statement}
 use Rattle.neighbours.proofs.pick.Tie as tie
 use Rattle.neighbours.proofs.pick.Reads as reads
