@@ -2,7 +2,6 @@
 use mathlib.Core.Path.{_≡_, refl}
 use mathlib.Core.List.{List, [], _∷_}
 use mathlib.Core.Bool.{false}
-use Prim.Native.Nat.{ℕ}
 use lib.ListN.{replicate, set}
 use lib.IntN.{pos}
 use lib.Ieee.{Float, fin, lt}
