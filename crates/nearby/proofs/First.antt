@@ -3,20 +3,20 @@ use mathlib.Core.Path.{_≡_, refl, sym, ap, _∙_}
 use mathlib.Core.Bool.{Bool, true, false, cond}
 use mathlib.Core.Logic.{inl}
 use mathlib.Core.List.{List, [], _∷_, _++_, map, flatMap, flatten}
-use Prim.Native.Nat.{ℕ, zero, suc, _+_, _-_, _*_, _≤_, _<_}
-use native.Mathlib.Nat.{mul-pos, mul-comm, mul-le-mul, le-refl, suc-mul, sub-zero}
+use Prim.Native.Nat.{ℕ, suc, _+_, _-_, _*_, _≤_, _<_}
+use native.Mathlib.Nat.{mul-pos, mul-comm, mul-le-mul, le-refl, suc-mul}
 use native.Mathlib.Numerals.{add-one}
 use native.Mathlib.Omega.{arith}
 use lib.Dec.{ltb}
-use lib.ListN.{length, getD, take, set, replicate, length-replicate, getD-replicate}
+use lib.ListN.{length, take, set, replicate, length-replicate, getD-replicate}
 use lib.Seq.{take-suc-set}
 use lib.Ieee.{Float}
 use borrow.Author.Tests.{ltb-true}
 use Rattle.theory.specs.Moves.{upfrom}
-use Rattle.neighbours.specs.Neighbours.{kept}
-use Rattle.neighbours.specs.Queries.{Memo}
+use Rattle.nearest.specs.Neighbours.{kept}
+use Rattle.neighbours.specs.Memo.{Memo}
 use Rattle.nearby.specs.Walk.{branch, walk, nearby-sets}
-use Rattle.nearby.specs.Listing.{pour, behind-front, NearbyInput}
+use Rattle.nearby.specs.Listing.{pour, behind-front}
 use Rattle.nearby.proofs.Pour.{pour-on, pour-full, poured-most}
 
 pub memo-empty : (distances : List Float) (n count : ℕ) → n ≤ 512 → Memo distances n count (replicate 16896 0)

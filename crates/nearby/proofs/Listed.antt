@@ -1,13 +1,13 @@
 -- What the listing answers, against the definition. Assumes nothing.
-use mathlib.Core.Path.{_≡_, refl, sym, ap, _∙_}
-use mathlib.Core.List.{List, [], _∷_}
+use mathlib.Core.Path.{_≡_}
+use mathlib.Core.List.{List}
 use Prim.Native.Nat.{ℕ, _*_, _/_, _≤_, _<_}
 use native.Mathlib.Nat.{div-mul-le-self}
 use lib.ListN.{length}
 use lib.Ieee.{Float}
 use Rattle.theory.specs.declared.Listing.the-variants as Listed
 use Rattle.nearby.specs.Walk.{nearby-sets}
-use Rattle.nearby.specs.Listing.{pour, written, Lists}
+use Rattle.nearby.specs.Listing.{pour, Lists}
 use Rattle.nearby.proofs.Pour.{Each, lent-as, more-as, ended-as}
 use Rattle.nearby.proofs.Sets.{sets-spaced}
 

@@ -2,20 +2,17 @@
 use mathlib.Core.Path.{_≡_, refl, sym, ap, _∙_}
 use mathlib.Core.Bool.{Bool, true, false, cond}
 use mathlib.Core.Logic.{⊎-elim}
-use mathlib.Core.List.{List, [], _∷_, _++_, map, flatten, append-assoc, append-nil, List·Memᴰ, List·Memᴰ·head, List·Memᴰ·tail, List·Memᴰ·not-nil, List·Memᴰ·cases-cons}
-use Prim.Native.Nat.{ℕ, zero, suc, _+_, _-_, _*_, _/_, _≤_, _<_, min}
-use native.Mathlib.Nat.{add-zero, suc-add, mul-le-mul-right, suc-mul, zero-mul, add-assoc, add-comm, sub-zero, zero-add, add-suc, mul-one, mul-le-mul, le-refl}
+use mathlib.Core.List.{List, [], _∷_, _++_, map, flatten, List·Memᴰ, List·Memᴰ·head, List·Memᴰ·tail, List·Memᴰ·not-nil, List·Memᴰ·cases-cons}
+use Prim.Native.Nat.{ℕ, zero, suc, _+_, _-_, _*_, _≤_, _<_}
+use native.Mathlib.Nat.{add-zero, suc-add, mul-le-mul-right, suc-mul, zero-mul, sub-zero, zero-add, add-suc, mul-one, mul-le-mul, le-refl}
 use native.Mathlib.Numerals.{add-one}
 use native.Mathlib.Omega.{arith}
 use lib.Dec.{ltb}
 use lib.ListN.{length, getD, take, drop, set, length-append, length-take, drop-of-length-le}
-use lib.Seq.{sets, take-nil, take-suc-set, drop-cons, sets-eq, length-sets, drop-at, drop-drop, take-at, drop-append-le, length-take-le}
+use lib.Seq.{sets, take-nil, take-suc-set, drop-cons, sets-eq, length-sets}
 use borrow.Author.Tests.{ltb-true, ltb-false, lt-ltb, le-ltb}
-use Rattle.theory.specs.Answers.{listing-answer, reply}
-use Rattle.theory.specs.declared.Listing.{Listing}
-use Rattle.theory.specs.declared.Listing.the-variants as Listed
 use Rattle.nearby.specs.Walk.{goes-on}
-use Rattle.nearby.specs.Listing.{pour, written, Lists}
+use Rattle.nearby.specs.Listing.{pour}
 
 module _ (capacity k : ℕ) where
   -- One more than fits was counted: nothing changes any more.

@@ -2,7 +2,6 @@
 use mathlib.Core.Path.{_≡_, refl}
 use mathlib.Core.List.{List, [], _∷_}
 use mathlib.Core.Bool.{false}
-use Prim.Native.Nat.{ℕ}
 use lib.ListN.{replicate, set}
 use lib.IntN.{pos}
 use lib.Ieee.{Float, fin, lt}
@@ -36,3 +35,8 @@ trimmed-first = refl
 pub siblings-dropped : nearby-sets (set (set (set (set (set even 7 one) 8 one) 10 one) 11 one) 19 one) 5 3 1 2 ≡ []
 unfolding nearby-sets lt
 siblings-dropped = refl
+
+-- The last cut's next entry may be lower: 3 follows 4.
+pub last-goes-down : nearby-sets (set (set even 14 one) 17 one) 5 3 1 4 ≡ (1 ∷ 2 ∷ 4 ∷ []) ∷ (1 ∷ 2 ∷ 3 ∷ []) ∷ (1 ∷ 3 ∷ 4 ∷ []) ∷ (2 ∷ 3 ∷ 4 ∷ []) ∷ []
+unfolding nearby-sets lt
+last-goes-down = refl

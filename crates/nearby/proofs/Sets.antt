@@ -1,10 +1,10 @@
 -- The sets of the walk: each has k cuts with segments of at least m, and none comes twice. Assumes nothing.
 use mathlib.Core.Path.{_≡_, refl, sym, ap, _∙_, subst}
 use mathlib.Core.Bool.{Bool, true, false, cond, not, _&&_}
-use mathlib.Core.Logic.{_⊎_, inl, inr, ⊎-elim}
-use mathlib.Core.List.{List, [], _∷_, _++_, map, flatMap, append-nil, flatten, tail-eq-of-cons-eq, List·Memᴰ, List·Memᴰ·head, List·Memᴰ·tail, List·Memᴰ·cases-cons, List·Memᴰ·not-nil, List·Memᴰ·append-cases, Memᴰ·map, Memᴰ·of-map, Memᴰ·cast}
-use Prim.Native.Nat.{ℕ, zero, suc, _+_, _-_, _*_, _≤_, _<_}
-use native.Mathlib.Nat.{mul-suc, mul-one, mul-comm, mul-zero, suc-mul}
+use mathlib.Core.Logic.{_⊎_, ⊎-elim}
+use mathlib.Core.List.{List, [], _∷_, _++_, map, flatMap, append-nil, flatten, tail-eq-of-cons-eq, List·Memᴰ, List·Memᴰ·head, List·Memᴰ·tail, List·Memᴰ·cases-cons, List·Memᴰ·not-nil, List·Memᴰ·append-cases, Memᴰ·of-map, Memᴰ·cast}
+use Prim.Native.Nat.{ℕ, zero, suc, _+_, _-_, _*_, _≤_}
+use native.Mathlib.Nat.{mul-suc, mul-one, mul-comm, suc-mul}
 use native.Mathlib.Numerals.{add-one}
 use native.Mathlib.Omega.{arith}
 use lib.Dec.{ltb, eqb, leb}
@@ -15,8 +15,8 @@ use Rattle.theory.specs.Moves.{upfrom}
 use Rattle.theory.specs.Refusals.{some}
 use Rattle.theory.proofs.Moves.{of-flatMap, upfrom-range}
 use Rattle.theory.proofs.Distinct.{Distinct, distinct-upfrom}
-use Rattle.neighbours.specs.Neighbours.{passing, nearest, nearest-first, neighbours, kept, distance}
-use Rattle.neighbours.proofs.Passing.{of-passing}
+use Rattle.nearest.specs.Neighbours.{passing, nearest, nearest-first, neighbours, kept, distance}
+use Rattle.nearest.proofs.Passing.{of-passing}
 use Rattle.nearby.specs.Walk.{none-there, goes-on, turns, branch, walk, nearby-sets, Spaced}
 use Rattle.nearby.proofs.Turns.{kept-range}
 

@@ -1,22 +1,21 @@
 -- The walk as the recursion meets it: one entry with what lies under it, and then the others. Assumes nothing.
 use mathlib.Core.Path.{_≡_, refl, sym, ap, _∙_, subst}
-use mathlib.Core.Bool.{Bool, true, false, cond, not, _&&_, true≢false, false≢true}
-use mathlib.Core.List.{List, [], _∷_, _++_, map, append-assoc, append-nil, List·Memᴰ}
+use mathlib.Core.Bool.{Bool, true, false, cond, not, _&&_, false≢true}
+use mathlib.Core.List.{List, [], _∷_, _++_, map, append-assoc, List·Memᴰ}
 use Prim.Native.Nat.{ℕ, zero, suc, _+_, _-_, _*_, _≤_, _<_}
 use native.Mathlib.Nat.{mul-le-mul, mul-pos, le-refl}
 use native.Mathlib.Numerals.{add-one}
 use native.Mathlib.Omega.{arith}
-use lib.Dec.{ltb, leb}
+use lib.Dec.{leb}
 use lib.ListN.{length, getD, take, drop, set, length-take, drop-of-length-le}
-use lib.Seq.{sets, take-suc-set, drop-cons}
+use lib.Seq.{take-suc-set, drop-cons}
 use lib.Ieee.{Float}
 use borrow.Author.Tests.{leb-true}
 use Rattle.theory.proofs.Index.{mem-getD}
-use Rattle.neighbours.specs.Neighbours.{kept, neighbours, passing}
-use Rattle.neighbours.specs.Queries.{Known, Memo, Askable, Kept}
-use Rattle.neighbours.proofs.Passing.{of-passing}
+use Rattle.nearest.specs.Neighbours.{kept, neighbours}
+use Rattle.nearest.proofs.Passing.{of-passing}
 use Rattle.nearby.specs.Walk.{none-there, goes-on, turns, branch}
-use Rattle.nearby.specs.Listing.{pour, behind-front, Room, Branchable, Branched}
+use Rattle.nearby.specs.Listing.{pour, behind-front}
 use Rattle.nearby.proofs.Pour.{pour-on, pour-full, poured-most}
 
 front-append : (front : List ℕ) (xs ys : List (List ℕ)) → behind-front front (xs ++ ys) ≡ behind-front front xs ++ behind-front front ys

@@ -1,8 +1,8 @@
 -- The listing of the sets into a lent buffer: what it asks for, what it promises, and the running form of its parts.
 use mathlib.Core.Path.{_≡_}
 use mathlib.Core.List.{List, [], _∷_, _++_, map, flatten, List·Memᴰ}
-use mathlib.Core.Bool.{Bool, true, false, cond}
-use Prim.Native.Nat.{ℕ, zero, suc, _+_, _-_, _*_, _/_, _^_, _≤_, _<_}
+use mathlib.Core.Bool.{false, cond}
+use Prim.Native.Nat.{ℕ, _+_, _-_, _*_, _/_, _^_, _≤_, _<_}
 use lib.Dec.{ltb}
 use lib.ListN.{length, getD, take, drop}
 use lib.Seq.{sets}
@@ -10,8 +10,8 @@ use lib.Ieee.{Float}
 use Rattle.theory.specs.Refusals.{some, no-number}
 use Rattle.theory.specs.Answers.{listing-answer, reply}
 use Rattle.theory.specs.declared.Listing.{Listing}
-use Rattle.neighbours.specs.Neighbours.{kept}
-use Rattle.neighbours.specs.Queries.{Memo}
+use Rattle.nearest.specs.Neighbours.{kept}
+use Rattle.neighbours.specs.Memo.{Memo}
 use Rattle.nearby.specs.Walk.{branch, Spaced}
 
 pub record NearbyInput (n : ℕ) (distances : List Float) (k m count lent : ℕ) : Type 0 where

@@ -5,7 +5,7 @@ use Prim.Native.Nat.{ℕ, zero, suc, _+_, _-_, _*_, _≤_}
 use lib.Dec.{ltb}
 use lib.Ieee.{Float}
 use Rattle.theory.specs.Moves.{upfrom}
-use Rattle.neighbours.specs.Neighbours.{kept}
+use Rattle.nearest.specs.Neighbours.{kept}
 
 abbrev pub none-there : List ℕ → Bool
 none-there [] = true

@@ -4,7 +4,7 @@ ghost use mathlib.Core.List.{List, _∷_, [], _++_, map};
 ghost use Prim.Native.Nat.{_+_, _-_, _*_, _≤_, _<_};
 ghost use lib.ListN.{length, getD, take, drop};
 ghost use lib.Seq.{sets};
-ghost use Rattle.neighbours.specs.Neighbours.{kept};
+ghost use Rattle.nearest.specs.Neighbours.{kept};
 ghost use Rattle.nearby.specs.Walk.{goes-on, nearby-sets, walk};
 ghost use Rattle.nearby.specs.Listing.{NearbyInput, Lists, pour, Room, Branchable, Branched};
 
@@ -188,9 +188,9 @@ pub fn nearby_cuts(
     ensures { λ r. ⌜ Lists n k «min_segment_len» (nearby-sets (now (distances .entry)) n k «min_segment_len» «max_nearby») (now (sets .entry)) r (now (sets .exit)) ⌝ }
 {
     let capacity = sets.len() / k;
-    let seen = first_cuts(n, distances, k, min_segment_len, max_nearby, capacity, sets);
-    if seen > capacity {
+    let counted = first_cuts(n, distances, k, min_segment_len, max_nearby, capacity, sets);
+    if counted > capacity {
         return theory::Listing::More(capacity);
     }
-    theory::Listing::Ended(seen)
+    theory::Listing::Ended(counted)
 }

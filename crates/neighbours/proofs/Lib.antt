@@ -1,6 +1,1 @@
-pub mod FloatOrder
-pub mod Passing
-pub mod Found
-pub mod Query
 pub mod Memo
-pub mod Nearness

@@ -7,14 +7,14 @@ use Prim.Native.Nat.{ℕ, zero, suc, _+_, _-_, _*_, _≤_, _<_}
 use native.Mathlib.Nat.{add-zero}
 use native.Mathlib.Numerals.{add-one}
 use native.Mathlib.Omega.{arith}
-use lib.Dec.{eqb, leb, ltb}
-use lib.ListN.{length, getD, take, drop, set, length-set, length-append}
-use lib.Seq.{sets, sets-eq, length-sets, take-set-le, drop-set-lt, getD-take, getD-drop, drop-drop, drop-cons, getD-set-same, drop-append-le, take-at, drop-at, length-take-le}
+use lib.Dec.{eqb, ltb}
+use lib.ListN.{length, getD, take, drop, set, length-set}
+use lib.Seq.{sets, sets-eq, length-sets, take-set-le, drop-set-lt, getD-take, getD-drop, drop-drop, drop-cons, getD-set-same, take-at, drop-at, length-take-le}
 use lib.Ieee.{Float, lt}
 use borrow.Author.Tests.{ltb-true, ltb-false}
 use Rattle.theory.specs.Refusals.{some}
-use Rattle.neighbours.specs.Neighbours.{passing, nearest, nearest-first, neighbours, kept}
-use Rattle.neighbours.specs.Queries.{Held, Memo, Looked-up, Kept, Picked, between}
+use Rattle.nearest.specs.Neighbours.{passing, nearest, nearest-first, neighbours, kept}
+use Rattle.neighbours.specs.Memo.{Held, Memo, Looked-up, Kept, Picked, between}
 
 -- ---- a cut has at most as many neighbours as asked for
 

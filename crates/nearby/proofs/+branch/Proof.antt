@@ -1,12 +1,11 @@
 -- `nearby::branch` meets its contract: the entries from i on, poured from where the loop stands, give the whole. The measure is the number of cuts behind.
 -- Assumes nothing.
-use mathlib.Core.Path.{_≡_, refl, sym, ap, _∙_}
-use mathlib.Core.List.{List}
+use mathlib.Core.Path.{_≡_, sym, _∙_}
 use Prim.Native.Nat.{_≤_, _-_, _+_}
-use lib.ListN.{length, getD, take, drop, length-take, length-set}
+use lib.ListN.{length, getD, take, drop, length-take}
 use borrow.Author.Tests.{not-true, not-false}
-use Rattle.neighbours.specs.Neighbours.{kept}
-use Rattle.neighbours.specs.Queries.{Memo}
+use Rattle.nearest.specs.Neighbours.{kept}
+use Rattle.neighbours.specs.Memo.{Memo}
 use Rattle.nearby.specs.Walk as walk
 use Rattle.nearby.specs.Listing.{pour, behind-front}
 use Rattle.nearby.proofs.Turns.{last-poured, ended, dropped, turned, stopped, over, under-most, kept-below, fewer-missing, longer, some-taken, none-taken}
@@ -48,7 +47,6 @@ abbrev branch-μ-loop : branch-lts.MeasureT-loop
 branch-μ-loop distances n m count behind entries cuts k capacity seen table₀ lent₀ seen₀ own₀ i₀ table lent seen' own i =
     length entries - i
 
--- src/lib.rt:79:9
 branch-last-cuts-requires : (t : ℕ) → branch-lts.Need-last-cuts-requires (
   last-cuts-reads.Asked,
   last-cuts-reads.Learnt,
@@ -61,7 +59,6 @@ branch-last-cuts-requires : (t : ℕ) → branch-lts.Need-last-cuts-requires (
 ) (branch-at t) branch.Post branch-Inv-loop branch-μ-loop
 branch-last-cuts-requires t c κs = c .before .before .before .before .before .before .pre .1 .room
 
--- src/lib.rt:79:9
 branch-same-length : (t : ℕ) → branch-lts.Need-same-length (
   last-cuts-reads.Asked,
   last-cuts-reads.Learnt,
@@ -74,7 +71,6 @@ branch-same-length : (t : ℕ) → branch-lts.Need-same-length (
 ) (branch-at t) branch.Post branch-Inv-loop branch-μ-loop
 branch-same-length t c = search needs
 
--- src/lib.rt:79:9
 branch-returns : (t : ℕ) → branch-lts.Need-returns (
   last-cuts-reads.Asked,
   last-cuts-reads.Learnt,
@@ -93,7 +89,6 @@ branch-returns t c =
       memo = s .pre .1 .memo;
     }
 
--- src/lib.rt:84:5
 branch-loop-holds : (t : ℕ) → branch-lts.Need-loop-holds (
   last-cuts-reads.Asked,
   last-cuts-reads.Learnt,
@@ -106,7 +101,6 @@ branch-loop-holds : (t : ℕ) → branch-lts.Need-loop-holds (
 ) (branch-at t) branch.Post branch-Inv-loop branch-μ-loop
 branch-loop-holds t c = search needs
 
--- src/lib.rt:85:19
 branch-mul-cut : (t : ℕ) → branch-lts.Need-mul-cut (
   last-cuts-reads.Asked,
   last-cuts-reads.Learnt,
@@ -119,7 +113,6 @@ branch-mul-cut : (t : ℕ) → branch-lts.Need-mul-cut (
 ) (branch-at t) branch.Post branch-Inv-loop branch-μ-loop
 branch-mul-cut t c = search needs
 
--- src/lib.rt:85:19
 branch-shared-slice-read-cut : (t : ℕ) → branch-lts.Need-shared-slice-read-cut (
   last-cuts-reads.Asked,
   last-cuts-reads.Learnt,
@@ -132,7 +125,6 @@ branch-shared-slice-read-cut : (t : ℕ) → branch-lts.Need-shared-slice-read-c
 ) (branch-at t) branch.Post branch-Inv-loop branch-μ-loop
 branch-shared-slice-read-cut t c = search needs
 
--- src/lib.rt:86:94
 branch-slice-aggregate-kept-neighbours : (t : ℕ) → branch-lts.Need-slice-aggregate-kept-neighbours (
   last-cuts-reads.Asked,
   last-cuts-reads.Learnt,
@@ -145,7 +137,6 @@ branch-slice-aggregate-kept-neighbours : (t : ℕ) → branch-lts.Need-slice-agg
 ) (branch-at t) branch.Post branch-Inv-loop branch-μ-loop
 branch-slice-aggregate-kept-neighbours t c = search needs
 
--- src/lib.rt:86:13
 branch-kept-neighbours-requires : (t : ℕ) → branch-lts.Need-kept-neighbours-requires (
   last-cuts-reads.Asked,
   last-cuts-reads.Learnt,
@@ -171,7 +162,6 @@ branch-kept-neighbours-requires t c κs =
       room = l .inv .2;
     }
 
--- src/lib.rt:88:13
 branch-same-length-2 : (t : ℕ) → branch-lts.Need-same-length-2 (
   last-cuts-reads.Asked,
   last-cuts-reads.Learnt,
@@ -184,7 +174,6 @@ branch-same-length-2 : (t : ℕ) → branch-lts.Need-same-length-2 (
 ) (branch-at t) branch.Post branch-Inv-loop branch-μ-loop
 branch-same-length-2 t c = search needs
 
--- src/lib.rt:88:13
 branch-same-length-3 : (t : ℕ) → branch-lts.Need-same-length-3 (
   last-cuts-reads.Asked,
   last-cuts-reads.Learnt,
@@ -197,7 +186,6 @@ branch-same-length-3 : (t : ℕ) → branch-lts.Need-same-length-3 (
 ) (branch-at t) branch.Post branch-Inv-loop branch-μ-loop
 branch-same-length-3 t c = search needs
 
--- src/lib.rt:88:13
 branch-returns-2 : (t : ℕ) → branch-lts.Need-returns-2 (
   last-cuts-reads.Asked,
   last-cuts-reads.Learnt,
@@ -221,7 +209,6 @@ branch-returns-2 t c =
       memo = q .ensures .memo;
     }
 
--- src/lib.rt:91:16
 branch-sub-longer : (t : ℕ) → branch-lts.Need-sub-longer (
   last-cuts-reads.Asked,
   last-cuts-reads.Learnt,
@@ -234,7 +221,6 @@ branch-sub-longer : (t : ℕ) → branch-lts.Need-sub-longer (
 ) (branch-at t) branch.Post branch-Inv-loop branch-μ-loop
 branch-sub-longer t c = search needs
 
--- src/lib.rt:91:16
 branch-sub-longer-2 : (t : ℕ) → branch-lts.Need-sub-longer-2 (
   last-cuts-reads.Asked,
   last-cuts-reads.Learnt,
@@ -247,7 +233,6 @@ branch-sub-longer-2 : (t : ℕ) → branch-lts.Need-sub-longer-2 (
 ) (branch-at t) branch.Post branch-Inv-loop branch-μ-loop
 branch-sub-longer-2 t c = search needs
 
--- src/lib.rt:91:9
 branch-mul-longer : (t : ℕ) → branch-lts.Need-mul-longer (
   last-cuts-reads.Asked,
   last-cuts-reads.Learnt,
@@ -260,7 +245,6 @@ branch-mul-longer : (t : ℕ) → branch-lts.Need-mul-longer (
 ) (branch-at t) branch.Post branch-Inv-loop branch-μ-loop
 branch-mul-longer t c = search needs
 
--- src/lib.rt:91:9
 branch-array-write-longer : (t : ℕ) → branch-lts.Need-array-write-longer (
   last-cuts-reads.Asked,
   last-cuts-reads.Learnt,
@@ -273,7 +257,6 @@ branch-array-write-longer : (t : ℕ) → branch-lts.Need-array-write-longer (
 ) (branch-at t) branch.Post branch-Inv-loop branch-μ-loop
 branch-array-write-longer t c = search needs
 
--- src/lib.rt:92:47
 branch-sub-branch : (t : ℕ) → branch-lts.Need-sub-branch (
   last-cuts-reads.Asked,
   last-cuts-reads.Learnt,
@@ -286,7 +269,6 @@ branch-sub-branch : (t : ℕ) → branch-lts.Need-sub-branch (
 ) (branch-at t) branch.Post branch-Inv-loop branch-μ-loop
 branch-sub-branch t c = search needs
 
--- src/lib.rt:92:59
 branch-array-share-prefix-own : (t : ℕ) → branch-lts.Need-array-share-prefix-own (
   last-cuts-reads.Asked,
   last-cuts-reads.Learnt,
@@ -299,7 +281,6 @@ branch-array-share-prefix-own : (t : ℕ) → branch-lts.Need-array-share-prefix
 ) (branch-at t) branch.Post branch-Inv-loop branch-μ-loop
 branch-array-share-prefix-own t c = c .before .before .before .before .kept-neighbours .ensures .within
 
--- src/lib.rt:92:59
 branch-slice-aggregate-branch : (t : ℕ) → branch-lts.Need-slice-aggregate-branch (
   last-cuts-reads.Asked,
   last-cuts-reads.Learnt,
@@ -312,7 +293,6 @@ branch-slice-aggregate-branch : (t : ℕ) → branch-lts.Need-slice-aggregate-br
 ) (branch-at t) branch.Post branch-Inv-loop branch-μ-loop
 branch-slice-aggregate-branch t c = simp length-take (omega (arith, c .before .before .before .before .before .kept-neighbours .ensures .within))
 
--- src/lib.rt:92:9
 branch-branch-requires : (t : ℕ) → branch-lts.Need-branch-requires (
   last-cuts-reads.Asked,
   last-cuts-reads.Learnt,
@@ -356,7 +336,6 @@ branch-branch-requires t c κs =
       },
     )
 
--- src/lib.rt:94:13
 branch-same-length-4 : (t : ℕ) → branch-lts.Need-same-length-4 (
   last-cuts-reads.Asked,
   last-cuts-reads.Learnt,
@@ -369,7 +348,6 @@ branch-same-length-4 : (t : ℕ) → branch-lts.Need-same-length-4 (
 ) (branch-at t) branch.Post branch-Inv-loop branch-μ-loop
 branch-same-length-4 t c = c .before .before .before .before .before .branch .ensures .memo .places ∙ sym (c .before .before .before .before .before .before .before .before .before .before .before .before .before .before .before .before .before .before .before .before .before .before .before .before .pre .1 .memo .places)
 
--- src/lib.rt:94:13
 branch-same-length-5 : (t : ℕ) → branch-lts.Need-same-length-5 (
   last-cuts-reads.Asked,
   last-cuts-reads.Learnt,
@@ -382,7 +360,6 @@ branch-same-length-5 : (t : ℕ) → branch-lts.Need-same-length-5 (
 ) (branch-at t) branch.Post branch-Inv-loop branch-μ-loop
 branch-same-length-5 t c = search needs
 
--- src/lib.rt:94:13
 branch-returns-3 : (t : ℕ) → branch-lts.Need-returns-3 (
   last-cuts-reads.Asked,
   last-cuts-reads.Learnt,
@@ -406,7 +383,6 @@ branch-returns-3 t c =
     let wider = longer (s .args .cuts) (s .args .k) (s .args .behind) (getD (s .args .entries .now) (l .i) 0) (l .inv .0) (s .pre .1 .depth) (omega (arith, s .pre .1 .room .most)) in
     record { poured = over own (s .args .capacity) (s .args .k) (s .args .behind) front (s .args .entries .now) (l .inv .0) (l .i) more (l .seen) (l .lent) list _ (r .result) (r .last .1 .1 .1 .1 .1 .1 .1 .1 .1 .1 .1 .0) (q .ensures .list-is) (some-taken (q .result) (q .last .1 .1 .1 .1 .1 .1 .1 .0) (c .before .before .before .before .before .before .before .before .before .if2 .left) (q .ensures .within)) wider (r .ensures .poured) (c .if3 .taken) (l .inv .4) ∙ l .inv .6; memo = r .ensures .memo }
 
--- src/lib.rt:96:13
 branch-goes-on-requires : (t : ℕ) → branch-lts.Need-goes-on-requires (
   last-cuts-reads.Asked,
   last-cuts-reads.Learnt,
@@ -419,7 +395,6 @@ branch-goes-on-requires : (t : ℕ) → branch-lts.Need-goes-on-requires (
 ) (branch-at t) branch.Post branch-Inv-loop branch-μ-loop
 branch-goes-on-requires t c κs = search needs
 
--- src/lib.rt:97:13
 branch-same-length-6 : (t : ℕ) → branch-lts.Need-same-length-6 (
   last-cuts-reads.Asked,
   last-cuts-reads.Learnt,
@@ -432,7 +407,6 @@ branch-same-length-6 : (t : ℕ) → branch-lts.Need-same-length-6 (
 ) (branch-at t) branch.Post branch-Inv-loop branch-μ-loop
 branch-same-length-6 t c = c .before .before .before .before .before .before .before .branch .ensures .memo .places ∙ sym (c .before .before .before .before .before .before .before .before .before .before .before .before .before .before .before .before .before .before .before .before .before .before .before .before .before .before .pre .1 .memo .places)
 
--- src/lib.rt:97:13
 branch-same-length-7 : (t : ℕ) → branch-lts.Need-same-length-7 (
   last-cuts-reads.Asked,
   last-cuts-reads.Learnt,
@@ -445,7 +419,6 @@ branch-same-length-7 : (t : ℕ) → branch-lts.Need-same-length-7 (
 ) (branch-at t) branch.Post branch-Inv-loop branch-μ-loop
 branch-same-length-7 t c = search needs
 
--- src/lib.rt:97:13
 branch-returns-4 : (t : ℕ) → branch-lts.Need-returns-4 (
   last-cuts-reads.Asked,
   last-cuts-reads.Learnt,
@@ -469,7 +442,6 @@ branch-returns-4 t c =
     let wider = longer (s .args .cuts) (s .args .k) (s .args .behind) (getD (s .args .entries .now) (l .i) 0) (l .inv .0) (s .pre .1 .depth) (omega (arith, s .pre .1 .room .most)) in
     record { poured = stopped own (s .args .capacity) (s .args .k) (s .args .behind) front (s .args .entries .now) (l .inv .0) (l .i) more (l .seen) (l .lent) list _ (r .result) (r .last .1 .1 .1 .1 .1 .1 .1 .1 .1 .1 .1 .0) (q .ensures .list-is) (some-taken (q .result) (q .last .1 .1 .1 .1 .1 .1 .1 .0) (c .before .before .before .before .before .before .before .before .before .before .before .if2 .left) (q .ensures .within)) wider (r .ensures .poured) (sym (c .before .goes-on .ensures) ∙ not-true (c .before .goes-on .result) (c .if4 .taken)) ∙ l .inv .6; memo = r .ensures .memo }
 
--- src/lib.rt:99:9
 branch-add-i : (t : ℕ) → branch-lts.Need-add-i (
   last-cuts-reads.Asked,
   last-cuts-reads.Learnt,
@@ -482,7 +454,6 @@ branch-add-i : (t : ℕ) → branch-lts.Need-add-i (
 ) (branch-at t) branch.Post branch-Inv-loop branch-μ-loop
 branch-add-i t c = omega (arith, c .before .before .before .before .before .before .before .before .before .before .before .before .before .before .before .before .before .before .before .loop-test .taken, c .before .before .before .before .before .before .before .before .before .before .before .before .before .before .before .before .before .before .before .before .before .before .before .before .before .before .pre .1 .entries-few)
 
--- src/lib.rt:84:5
 branch-loop-less : (t : ℕ) → branch-lts.Need-loop-less (
   last-cuts-reads.Asked,
   last-cuts-reads.Learnt,
@@ -495,7 +466,6 @@ branch-loop-less : (t : ℕ) → branch-lts.Need-loop-less (
 ) (branch-at t) branch.Post branch-Inv-loop branch-μ-loop
 branch-loop-less t c = search needs
 
--- src/lib.rt:84:5
 branch-loop-again : (t : ℕ) → branch-lts.Need-loop-again (
   last-cuts-reads.Asked,
   last-cuts-reads.Learnt,
@@ -526,7 +496,6 @@ branch-loop-again t c =
       turned own (s .args .capacity) (s .args .k) (s .args .behind) front (s .args .entries .now) (l .inv .0) (l .i) more (l .seen) (l .lent) list _ (r .result) (r .last .1 .1 .1 .1 .1 .1 .1 .1 .1 .1 .1 .0) (q .ensures .list-is) (some-taken (q .result) (q .last .1 .1 .1 .1 .1 .1 .1 .0) (c .before .before .before .before .before .before .before .before .before .before .before .if2 .left) (q .ensures .within)) wider (r .ensures .poured) (sym (c .before .goes-on .ensures) ∙ not-false (c .before .goes-on .result) (c .if4 .left)) ∙ l .inv .6,
     )
 
--- src/lib.rt:61:1
 branch-same-length-8 : (t : ℕ) → branch-lts.Need-same-length-8 (
   last-cuts-reads.Asked,
   last-cuts-reads.Learnt,
@@ -539,7 +508,6 @@ branch-same-length-8 : (t : ℕ) → branch-lts.Need-same-length-8 (
 ) (branch-at t) branch.Post branch-Inv-loop branch-μ-loop
 branch-same-length-8 t c = search needs
 
--- src/lib.rt:61:1
 branch-same-length-9 : (t : ℕ) → branch-lts.Need-same-length-9 (
   last-cuts-reads.Asked,
   last-cuts-reads.Learnt,
@@ -552,7 +520,6 @@ branch-same-length-9 : (t : ℕ) → branch-lts.Need-same-length-9 (
 ) (branch-at t) branch.Post branch-Inv-loop branch-μ-loop
 branch-same-length-9 t c = search needs
 
--- src/lib.rt:61:1
 branch-returns-5 : (t : ℕ) → branch-lts.Need-returns-5 (
   last-cuts-reads.Asked,
   last-cuts-reads.Learnt,

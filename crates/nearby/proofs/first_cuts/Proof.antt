@@ -1,9 +1,9 @@
 -- `nearby::first_cuts` meets its contract: the walk from a first cut on, poured from where the loop stands, gives the whole. Assumes nothing.
-use mathlib.Core.Path.{_≡_, refl, sym, ap, _∙_}
+use mathlib.Core.Path.{_≡_, refl, ap, _∙_}
 use Prim.Native.Nat.{_≤_, _-_, _+_}
 use lib.ListN.{length, take, length-take, length-set}
-use Rattle.neighbours.specs.Neighbours.{kept}
-use Rattle.neighbours.specs.Queries.{Memo}
+use Rattle.nearest.specs.Neighbours.{kept}
+use Rattle.neighbours.specs.Memo.{Memo}
 use Rattle.nearby.specs.Walk.{nearby-sets}
 use Rattle.nearby.specs.Listing.{pour}
 use Rattle.nearby.proofs.Turns.{kept-below}
@@ -12,10 +12,6 @@ use native.Mathlib.Omega.{arith}
 use borrow.Author.Needs.{needs}
 use Rattle.nearby.proofs.first_cuts.Statement.{statement}
 use Rattle.nearby.proofs.first_cuts.Tie as tie
-use Rattle.nearby.proofs.first_cuts.Reads as reads
-use Rattle.nearby.proofs.first_cuts.Lts as lts
-use Rattle.nearby.proofs.branch.Reads as branch-reads
-use Rattle.neighbours.proofs.kept_neighbours.Reads as kept-neighbours-reads
 
 abbrev Inv-loop : tie.InvT-loop
 Inv-loop n distances k m count capacity lent₀ table₀ own₀ cuts₀ seen₀ first₀ lent table own cuts seen first =
@@ -32,7 +28,6 @@ abbrev μ-loop : tie.MeasureT-loop
 μ-loop n distances k m count capacity lent₀ table₀ own₀ cuts₀ seen₀ first₀ lent table own cuts seen first =
     n + 1 - first
 
--- src/lib.rt:122:5
 loop-holds : tie.Need-loop-holds Inv-loop μ-loop
 loop-holds c =
     let s = c .before .before in (
@@ -46,27 +41,21 @@ loop-holds c =
       ap (pour (s .args .capacity) (s .args .k) 0 (s .args .lent .now)) (nearby-start (s .args .distances .now) (s .args .n) (s .args .k) (s .args .m) (s .args .count) (s .pre .0 .shortest)),
     )
 
--- src/lib.rt:122:19
 mul-loop : tie.Need-mul-loop Inv-loop μ-loop
 mul-loop c = let s = c .before .before .before in omega (arith, segments-small (s .args .k) (s .args .m) (s .pre .0 .most) (s .pre .0 .short))
 
--- src/lib.rt:122:11
 add-loop : tie.Need-add-loop Inv-loop μ-loop
 add-loop c = let s = c .before .before .before in omega (arith, segments-small (s .args .k) (s .args .m) (s .pre .0 .most) (s .pre .0 .short), c .loop .inv .1)
 
--- src/lib.rt:123:74
 sub-kept-neighbours : tie.Need-sub-kept-neighbours Inv-loop μ-loop
 sub-kept-neighbours c = search needs
 
--- src/lib.rt:123:88
 slice-aggregate-kept-neighbours : tie.Need-slice-aggregate-kept-neighbours Inv-loop μ-loop
 slice-aggregate-kept-neighbours c = search needs
 
--- src/lib.rt:123:100
 slice-aggregate-kept-neighbours-2 : tie.Need-slice-aggregate-kept-neighbours-2 Inv-loop μ-loop
 slice-aggregate-kept-neighbours-2 c = search needs
 
--- src/lib.rt:123:13
 kept-neighbours-requires : tie.Need-kept-neighbours-requires Inv-loop μ-loop
 kept-neighbours-requires c κs =
     let s = c .before .before .before .before .before .before in
@@ -90,30 +79,24 @@ kept-neighbours-requires c κs =
       room = l .inv .2;
     }
 
--- src/lib.rt:124:9
 array-write-cuts : tie.Need-array-write-cuts Inv-loop μ-loop
 array-write-cuts c = search needs
 
--- src/lib.rt:125:47
 sub-branch : tie.Need-sub-branch Inv-loop μ-loop
 sub-branch c = search needs
 
--- src/lib.rt:125:54
 array-share-prefix-own : tie.Need-array-share-prefix-own Inv-loop μ-loop
 array-share-prefix-own c = c .before .before .kept-neighbours .ensures .within
 
--- src/lib.rt:125:54
 slice-aggregate-branch : tie.Need-slice-aggregate-branch Inv-loop μ-loop
 slice-aggregate-branch c =
     let q = c .before .before .before .kept-neighbours in
     let g : q .result ≡ length (take (q .result) (q .last .1 .1 .1 .1 .1 .1 .1 .0)) = simp length-take (omega (arith, q .ensures .within)) in
     g
 
--- src/lib.rt:125:95
 slice-aggregate-branch-2 : tie.Need-slice-aggregate-branch-2 Inv-loop μ-loop
 slice-aggregate-branch-2 c = search needs
 
--- src/lib.rt:125:9
 branch-requires : tie.Need-branch-requires Inv-loop μ-loop
 branch-requires c κs =
     let s = c .before .before .before .before .before .before .before .before .before .before .before .before in
@@ -146,11 +129,9 @@ branch-requires c κs =
       memo = q .ensures .memo;
     }
 
--- src/lib.rt:127:13
 same-length : tie.Need-same-length Inv-loop μ-loop
 same-length c = search needs
 
--- src/lib.rt:127:13
 returns : tie.Need-returns Inv-loop μ-loop
 returns c =
     let s = c .before .before .before .before .before .before .before .before .before .before .before .before .before .before .before .before .before in
@@ -163,15 +144,12 @@ returns c =
     let only = alone (l .cuts) (s .args .k) (l .first) (s .pre .0 .least) (omega (arith, l .inv .3)) in
     first-over own (s .args .n) (s .args .k) (s .args .m) (s .args .capacity) (l .first) more (l .seen) (l .lent) list _ (r .result) (r .last .1 .1 .1 .1 .1 .1 .1 .1 .1 .1 .1 .0) (q .ensures .list-is) only (r .ensures .poured) (c .if1 .taken) (l .inv .5) ∙ l .inv .7
 
--- src/lib.rt:129:9
 add-first : tie.Need-add-first Inv-loop μ-loop
 add-first c = search needs
 
--- src/lib.rt:122:5
 loop-less : tie.Need-loop-less Inv-loop μ-loop
 loop-less c = search needs
 
--- src/lib.rt:122:5
 loop-again : tie.Need-loop-again Inv-loop μ-loop
 loop-again c =
     let s = c .before .before .before .before .before .before .before .before .before .before .before .before .before .before .before .before .before in
@@ -192,11 +170,9 @@ loop-again c =
       first-turned own (s .args .n) (s .args .k) (s .args .m) (s .args .capacity) (l .first) more (l .seen) (l .lent) list _ (r .result) (r .last .1 .1 .1 .1 .1 .1 .1 .1 .1 .1 .1 .0) (q .ensures .list-is) only (r .ensures .poured) ∙ l .inv .7,
     )
 
--- src/lib.rt:105:1
 same-length-2 : tie.Need-same-length-2 Inv-loop μ-loop
 same-length-2 c = search needs
 
--- src/lib.rt:105:1
 returns-2 : tie.Need-returns-2 Inv-loop μ-loop
 returns-2 c =
     let s = c .before .before .before .before in

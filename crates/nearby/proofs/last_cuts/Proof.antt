@@ -1,7 +1,7 @@
 -- `nearby::last_cuts` meets its contract: what is left of the list, poured from where the loop stands, gives the whole. Assumes nothing.
-use mathlib.Core.Path.{_≡_, refl, sym, ap, _∙_}
+use mathlib.Core.Path.{_≡_, sym, _∙_}
 use mathlib.Core.List.{[], _∷_, _++_, map}
-use Prim.Native.Nat.{_≤_, _-_, _+_, ℕ}
+use Prim.Native.Nat.{_≤_, _-_, _+_}
 use lib.ListN.{length, take, drop, length-set, length-take}
 use lib.Seq.{take-set-le}
 use Rattle.nearby.specs.Listing.{pour}
@@ -10,9 +10,6 @@ use native.Mathlib.Omega.{arith}
 use borrow.Author.Needs.{needs}
 use Rattle.nearby.proofs.last_cuts.Statement.{statement}
 use Rattle.nearby.proofs.last_cuts.Tie as tie
-use Rattle.nearby.proofs.last_cuts.Reads as reads
-use Rattle.nearby.proofs.last_cuts.Lts as lts
-use Rattle.nearby.proofs.put_set.Reads as put-set-reads
 
 abbrev Inv-loop : tie.InvT-loop
 Inv-loop entries k capacity seen lent₀ seen₀ row₀ i₀ lent seen' row i =
@@ -25,69 +22,56 @@ Inv-loop entries k capacity seen lent₀ seen₀ row₀ i₀ lent seen' row i =
 abbrev μ-loop : tie.MeasureT-loop
 μ-loop entries k capacity seen lent₀ seen₀ row₀ i₀ lent seen' row i = length entries - i
 
--- src/lib.rt:36:5
 loop-holds : tie.Need-loop-holds Inv-loop μ-loop
 loop-holds c = search needs
 
--- src/lib.rt:38:20
 add-result : tie.Need-add-result Inv-loop μ-loop
 add-result c =
     let s = c .before .before .before .before .before in
     omega (arith, capacity-small (s .args .k) (s .args .capacity) (length (s .args .lent .now)) (s .pre .least) (s .pre .fits), s .pre .small)
 
--- src/lib.rt:38:13
 same-length : tie.Need-same-length Inv-loop μ-loop
 same-length c = search needs
 
--- src/lib.rt:38:13
 returns : tie.Need-returns Inv-loop μ-loop
 returns c =
     let s = c .before .before .before .before .before in
     let l = c .before .before .loop in
     sym (last-past (s .args .k) (s .args .capacity) (take (s .args .k - 1) (s .args .cuts)) (s .args .entries .now) (l .i) (c .before .loop-test .taken) (l .seen) (l .lent) (c .if1 .taken)) ∙ l .inv .4
 
--- src/lib.rt:40:22
 mul-row : tie.Need-mul-row Inv-loop μ-loop
 mul-row c = search needs
 
--- src/lib.rt:40:22
 shared-slice-read-row : tie.Need-shared-slice-read-row Inv-loop μ-loop
 shared-slice-read-row c = search needs
 
--- src/lib.rt:40:13
 sub-row : tie.Need-sub-row Inv-loop μ-loop
 sub-row c = search needs
 
--- src/lib.rt:40:9
 mul-row-2 : tie.Need-mul-row-2 Inv-loop μ-loop
 mul-row-2 c = search needs
 
--- src/lib.rt:40:9
 array-write-row : tie.Need-array-write-row Inv-loop μ-loop
 array-write-row c = search needs
 
--- src/lib.rt:41:17
 array-share-prefix-row : tie.Need-array-share-prefix-row Inv-loop μ-loop
 array-share-prefix-row c =
     let s = c .before .before .before .before .before .before in
     let l = c .before .before .before .loop in
     rw (length-set (l .row)) (omega (arith, l .inv .1, s .pre .most))
 
--- src/lib.rt:41:17
 slice-aggregate-put-set : tie.Need-slice-aggregate-put-set Inv-loop μ-loop
 slice-aggregate-put-set c =
     let s = c .before .before .before .before .before .before .before in
     let l = c .before .before .before .before .loop in
     simp (length-take, length-set) (omega (arith, l .inv .1, s .pre .most))
 
--- src/lib.rt:41:34
 mul-put-set : tie.Need-mul-put-set Inv-loop μ-loop
 mul-put-set c =
     let s = c .before .before .before .before .before .before .before .before in
     let l = c .before .before .before .before .before .loop in
     omega (arith, places-left (s .args .k) (s .args .capacity) (l .seen) (length (s .args .lent .now)) (c .before .before .before .if1 .left) (s .pre .fits), s .pre .small)
 
--- src/lib.rt:41:9
 put-set-requires : tie.Need-put-set-requires Inv-loop μ-loop
 put-set-requires c κs =
     let s = c .before .before .before .before .before .before .before .before in
@@ -95,19 +79,15 @@ put-set-requires c κs =
     simp (length-take, length-set)
     (omega (arith, l .inv .1, l .inv .3, s .pre .most, places-left (s .args .k) (s .args .capacity) (l .seen) (length (s .args .lent .now)) (c .before .before .before .if1 .left) (s .pre .fits)))
 
--- src/lib.rt:42:9
 add-seen : tie.Need-add-seen Inv-loop μ-loop
 add-seen c = search needs
 
--- src/lib.rt:43:9
 add-i : tie.Need-add-i Inv-loop μ-loop
 add-i c = search needs
 
--- src/lib.rt:36:5
 loop-less : tie.Need-loop-less Inv-loop μ-loop
 loop-less c = search needs
 
--- src/lib.rt:36:5
 loop-again : tie.Need-loop-again Inv-loop μ-loop
 loop-again c =
     let s = c .before .before .before .before .before .before .before .before .before .before .before in
@@ -121,11 +101,9 @@ loop-again c =
           ∙ l .inv .4,
     )
 
--- src/lib.rt:22:1
 same-length-2 : tie.Need-same-length-2 Inv-loop μ-loop
 same-length-2 c = search needs
 
--- src/lib.rt:22:1
 returns-2 : tie.Need-returns-2 Inv-loop μ-loop
 returns-2 c =
     let s = c .before .before .before .before in

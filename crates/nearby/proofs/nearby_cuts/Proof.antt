@@ -7,15 +7,10 @@ use native.Mathlib.Omega.{arith}
 use borrow.Author.Needs.{needs}
 use Rattle.nearby.proofs.nearby_cuts.Statement.{statement}
 use Rattle.nearby.proofs.nearby_cuts.Tie as tie
-use Rattle.nearby.proofs.nearby_cuts.Reads as reads
-use Rattle.nearby.proofs.nearby_cuts.Lts as lts
-use Rattle.nearby.proofs.first_cuts.Reads as first-cuts-reads
 
--- src/lib.rt:146:20
 div-capacity : tie.Need-div-capacity
 div-capacity c = search needs
 
--- src/lib.rt:147:9
 first-cuts-requires : tie.Need-first-cuts-requires
 first-cuts-requires c κs =
     let s = c .before .before .before in
@@ -30,22 +25,18 @@ first-cuts-requires c κs =
       },
     )
 
--- src/lib.rt:149:9
 same-length : tie.Need-same-length
 same-length c = search needs
 
--- src/lib.rt:149:9
 returns : tie.Need-returns
 returns c =
     let s = c .before .before .before .before .before .before .before in
     let q = c .before .before .before .first-cuts in
     more-listed (s .args .distances .now) (s .args .n) (s .args .k) (s .args .min-segment-len) (s .args .max-nearby) (s .pre .least) (q .result) (s .args .sets .now) (q .last .1 .1 .1 .1 .1 .1 .0) (q .ensures) (c .if1 .taken)
 
--- src/lib.rt:135:1
 same-length-2 : tie.Need-same-length-2
 same-length-2 c = search needs
 
--- src/lib.rt:135:1
 returns-2 : tie.Need-returns-2
 returns-2 c =
     let s = c .before .before .before .before .before .before .before in

@@ -9,8 +9,6 @@ use native.Mathlib.Omega.{arith}
 use borrow.Author.Needs.{needs}
 use Rattle.nearby.proofs.put_set.Statement.{statement}
 use Rattle.nearby.proofs.put_set.Tie as tie
-use Rattle.nearby.proofs.put_set.Reads as reads
-use Rattle.nearby.proofs.put_set.Lts as lts
 
 abbrev Inv-loop : tie.InvT-loop
 Inv-loop cuts lent₀ at j₀ j-end lent j = (j ≤ length cuts) × (j-end ≡ length cuts) × (length lent ≡ length lent₀) × (sets lent (at + j) (drop j cuts) ≡ sets lent₀ at cuts)
@@ -18,50 +16,39 @@ Inv-loop cuts lent₀ at j₀ j-end lent j = (j ≤ length cuts) × (j-end ≡ l
 abbrev μ-loop : tie.MeasureT-loop
 μ-loop cuts lent₀ at j₀ j-end lent j = length cuts - j
 
--- src/lib.rt:16:5
 loop-holds : tie.Need-loop-holds Inv-loop μ-loop
 loop-holds c = (omega arith, search needs, refl, ap (λ (i : ℕ). sets (c .args .lent .now) i (c .args .cuts .now)) (add-zero (c .args .at)))
 
--- src/lib.rt:17:24
 mul-lent : tie.Need-mul-lent Inv-loop μ-loop
 mul-lent c = search needs
 
--- src/lib.rt:17:24
 shared-slice-read-lent : tie.Need-shared-slice-read-lent Inv-loop μ-loop
 shared-slice-read-lent c = search needs
 
--- src/lib.rt:17:14
 add-lent : tie.Need-add-lent Inv-loop μ-loop
 add-lent c = search needs
 
--- src/lib.rt:17:9
 mul-lent-2 : tie.Need-mul-lent-2 Inv-loop μ-loop
 mul-lent-2 c = search needs
 
--- src/lib.rt:17:9
 slice-write-lent : tie.Need-slice-write-lent Inv-loop μ-loop
 slice-write-lent c = search needs
 
--- src/lib.rt:16:9
 add-j : tie.Need-add-j Inv-loop μ-loop
 add-j c = search needs
 
--- src/lib.rt:16:5
 loop-less : tie.Need-loop-less Inv-loop μ-loop
 loop-less c = search needs
 
--- src/lib.rt:16:5
 loop-again : tie.Need-loop-again Inv-loop μ-loop
 loop-again c =
     let l = c .before .before .loop in
     let s = c .before .before .before in
     (search needs, search needs, simp length-set (l .inv .2), store-next (l .lent) (s .args .cuts .now) (s .args .at) (l .j) (search needs) ∙ l .inv .3)
 
--- src/lib.rt:12:1
 same-length : tie.Need-same-length Inv-loop μ-loop
 same-length c = search needs
 
--- src/lib.rt:12:1
 returns : tie.Need-returns Inv-loop μ-loop
 returns c =
     let l = c .before .loop in

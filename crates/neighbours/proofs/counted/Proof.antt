@@ -1,5 +1,4 @@
 -- `neighbours::counted` meets its contract. Assumes nothing.
-use native.Mathlib.Omega.{arith}
 use borrow.Author.Needs.{needs}
 use borrow.Author.Tests.{le-leb, lt-leb}
 use Rattle.neighbours.proofs.counted.Statement.{statement}

@@ -7,28 +7,19 @@ use borrow.Author.Needs.{needs}
 use Rattle.neighbours.proofs.Memo.{neighbours-few, head-small, held-row, kept-are}
 use Rattle.neighbours.proofs.kept_neighbours.Statement.{statement}
 use Rattle.neighbours.proofs.kept_neighbours.Tie as tie
-use Rattle.neighbours.proofs.kept_neighbours.Reads as reads
-use Rattle.neighbours.proofs.kept_neighbours.Lts as lts
-use Rattle.neighbours.proofs.look_up.Reads as look-up-reads
-use Rattle.neighbours.proofs.pick.Reads as pick-reads
 
--- src/lib.rt:132:5
 look-up-requires : tie.Need-look-up-requires
 look-up-requires c κs = search needs
 
--- src/lib.rt:133:14
 mul-at : tie.Need-mul-at
 mul-at c = search needs
 
--- src/lib.rt:134:20
 mul-end : tie.Need-mul-end
 mul-end c = search needs
 
--- src/lib.rt:134:20
 slice-read-end : tie.Need-slice-read-end
 slice-read-end c = search needs
 
--- src/lib.rt:134:20
 cast-end : tie.Need-cast-end
 cast-end c =
     let s = c .before .before .before .before .before .before .before .before in
@@ -37,7 +28,6 @@ cast-end c =
     let h = head-small (s .args .distances .now) (s .args .n) (s .args .count) (s .args .cut) t (q .ensures .held) in
     omega (arith, h .1, s .pre .lookup .most)
 
--- src/lib.rt:134:15
 add-end : tie.Need-add-end
 add-end c =
     let s = c .before .before .before .before .before .before .before .before in
@@ -46,15 +36,12 @@ add-end c =
     let h = head-small (s .args .distances .now) (s .args .n) (s .args .count) (s .args .cut) t (q .ensures .held) in
     omega (arith, h .1, s .pre .lookup .most, s .pre .lookup .known .few, s .pre .lookup .known .origin-known)
 
--- src/lib.rt:135:17
 add-pick : tie.Need-add-pick
 add-pick c = search needs
 
--- src/lib.rt:135:10
 mul-pick : tie.Need-mul-pick
 mul-pick c = search needs
 
--- src/lib.rt:135:10
 sub-pick : tie.Need-sub-pick
 sub-pick c =
     let s = c .before .before .before .before .before .before .before .before in
@@ -63,7 +50,6 @@ sub-pick c =
     let h = head-small (s .args .distances .now) (s .args .n) (s .args .count) (s .args .cut) t (q .ensures .held) in
     omega (arith, h .0)
 
--- src/lib.rt:135:10
 part-pick-start : tie.Need-part-pick-start
 part-pick-start c =
     let s = c .before .before .before .before .before .before .before .before .before in
@@ -73,7 +59,6 @@ part-pick-start c =
     let g : s .args .cut * 33 + 1 ≤ s .args .cut * 33 + getD t (s .args .cut * 33) 0 = omega (arith, h .0) in
     g
 
--- src/lib.rt:135:10
 part-pick-end : tie.Need-part-pick-end
 part-pick-end c =
     let s = c .before .before .before .before .before .before .before .before .before in
@@ -83,19 +68,15 @@ part-pick-end c =
     let g : s .args .cut * 33 + getD t (s .args .cut * 33) 0 ≤ length t = omega (arith, h .1, q .ensures .memo .places, s .pre .lookup .most, s .pre .lookup .known .few, s .pre .lookup .known .origin-known) in
     g
 
--- src/lib.rt:135:31
 add-pick-2 : tie.Need-add-pick-2
 add-pick-2 c = search needs
 
--- src/lib.rt:135:44
 mul-pick-2 : tie.Need-mul-pick-2
 mul-pick-2 c = search needs
 
--- src/lib.rt:135:40
 sub-pick-2 : tie.Need-sub-pick-2
 sub-pick-2 c = search needs
 
--- src/lib.rt:135:5
 pick-requires : tie.Need-pick-requires
 pick-requires c κs =
     let s = c .before .before .before .before .before .before .before .before .before .before .before in
@@ -104,15 +85,12 @@ pick-requires c κs =
     let e = ap length (held-row (s .args .distances .now) (s .args .n) (s .args .count) (s .args .cut) t (q .ensures .held)) in
     (omega (arith, e, neighbours-few (s .args .distances .now) (s .args .n) (s .args .count) (s .args .cut), s .pre .lookup .most, s .pre .room), omega (arith, s .pre .room))
 
--- src/lib.rt:119:1
 same-length : tie.Need-same-length
 same-length c = search needs
 
--- src/lib.rt:119:1
 same-length-2 : tie.Need-same-length-2
 same-length-2 c = search needs
 
--- src/lib.rt:119:1
 returns : tie.Need-returns
 returns c =
     let s = c .before .before .before .before .before .before .before .before .before .before .before .before .before .before in

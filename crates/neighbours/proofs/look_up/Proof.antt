@@ -4,63 +4,48 @@ use borrow.Author.Needs.{needs}
 use Rattle.neighbours.proofs.Memo.{neighbours-few, looked-up, found-before}
 use Rattle.neighbours.proofs.look_up.Statement.{statement}
 use Rattle.neighbours.proofs.look_up.Tie as tie
-use Rattle.neighbours.proofs.look_up.Reads as reads
-use Rattle.neighbours.proofs.look_up.Lts as lts
-use Rattle.neighbours.proofs.nearby_positions.Reads as nearby-positions-reads
 
--- src/lib.rt:81:14
 mul-at : tie.Need-mul-at
 mul-at c = search needs
 
--- src/lib.rt:82:8
 mul-if1 : tie.Need-mul-if1
 mul-if1 c = search needs
 
--- src/lib.rt:82:8
 slice-read-if1 : tie.Need-slice-read-if1
 slice-read-if1 c = search needs
 
--- src/lib.rt:83:72
-add-nearby-positions : tie.Need-add-nearby-positions
-add-nearby-positions c = search needs
+add-find-neighbours : tie.Need-add-find-neighbours
+add-find-neighbours c = search needs
 
--- src/lib.rt:83:13
-nearby-positions-requires : tie.Need-nearby-positions-requires
-nearby-positions-requires c κs = search needs
+find-neighbours-requires : tie.Need-find-neighbours-requires
+find-neighbours-requires c κs = search needs
 
--- src/lib.rt:84:22
 add-table : tie.Need-add-table
 add-table c =
     let s = c .before .before .before .before .before .before .before .before in
-    omega (arith, c .before .before .nearby-positions .ensures .number-is, neighbours-few (s .args .distances .now) (s .args .n) (s .args .count) (s .args .cut), s .pre .most)
+    omega (arith, c .before .before .find-neighbours .ensures .number-is, neighbours-few (s .args .distances .now) (s .args .n) (s .args .count) (s .args .cut), s .pre .most)
 
--- src/lib.rt:84:21
 cast-table : tie.Need-cast-table
 cast-table c =
     let s = c .before .before .before .before .before .before .before .before in
-    omega (arith, c .before .before .nearby-positions .ensures .number-is, neighbours-few (s .args .distances .now) (s .args .n) (s .args .count) (s .args .cut), s .pre .most)
+    omega (arith, c .before .before .find-neighbours .ensures .number-is, neighbours-few (s .args .distances .now) (s .args .n) (s .args .count) (s .args .cut), s .pre .most)
 
--- src/lib.rt:84:9
 mul-table : tie.Need-mul-table
 mul-table c = search needs
 
--- src/lib.rt:84:9
 slice-write-table : tie.Need-slice-write-table
 slice-write-table c = search needs
 
--- src/lib.rt:77:1
 same-length : tie.Need-same-length
 same-length c = search needs
 
--- src/lib.rt:77:1
 returns : tie.Need-returns
 returns c =
     let s = c .before .before .before .before .before .before .before .before in
-    let q = c .before .before .nearby-positions in
+    let q = c .before .before .find-neighbours in
     rw (q .ensures .table-is)
     (looked-up (s .args .distances .now) (s .args .n) (s .args .count) (s .args .cut) (s .args .table .now) (s .pre .known .few) (s .pre .most) (s .pre .known .origin-known) (s .pre .memo) (q .result) (q .ensures .number-is))
 
--- src/lib.rt:77:1
 returns-2 : tie.Need-returns-2
 returns-2 c =
     let s = c .before .before .before .before in
@@ -73,8 +58,8 @@ look-up-spec =
     mul-at
     mul-if1
     slice-read-if1
-    add-nearby-positions
-    nearby-positions-requires
+    add-find-neighbours
+    find-neighbours-requires
     add-table
     cast-table
     mul-table

@@ -1,18 +1,15 @@
 -- `neighbours::pick` meets its contract: those picked so far, and then those of the rest of the row. Assumes nothing.
-use mathlib.Core.Path.{_≡_, refl, sym, ap, _∙_}
+use mathlib.Core.Path.{_≡_, _∙_}
 use mathlib.Core.List.{_++_}
 use Prim.Native.Nat.{_-_, _≤_}
 use native.Mathlib.Omega.{arith}
 use lib.ListN.{length, getD, take, drop, length-set}
 use borrow.Author.Needs.{needs}
-use Rattle.neighbours.specs.Neighbours.{passing}
-use Rattle.neighbours.specs.Queries.{between}
-use Rattle.neighbours.proofs.Query.{picked-next, picked-all, counted-most}
+use Rattle.nearest.specs.Neighbours.{passing}
+use Rattle.neighbours.specs.Memo.{between}
+use Rattle.nearest.proofs.Query.{picked-next, picked-all, counted-most}
 use Rattle.neighbours.proofs.pick.Statement.{statement}
 use Rattle.neighbours.proofs.pick.Tie as tie
-use Rattle.neighbours.proofs.pick.Reads as reads
-use Rattle.neighbours.proofs.pick.Lts as lts
-use Rattle.neighbours.proofs.counted.Reads as counted-reads
 
 abbrev Inv-loop : tie.InvT-loop
 Inv-loop row low high own₀ number₀ i₀ own number i =
@@ -21,43 +18,33 @@ Inv-loop row low high own₀ number₀ i₀ own number i =
 abbrev μ-loop : tie.MeasureT-loop
 μ-loop row low high own₀ number₀ i₀ own number i = length row - i
 
--- src/lib.rt:109:5
 loop-holds : tie.Need-loop-holds Inv-loop μ-loop
 loop-holds c = search needs
 
--- src/lib.rt:110:24
 mul-position : tie.Need-mul-position Inv-loop μ-loop
 mul-position c = search needs
 
--- src/lib.rt:110:24
 shared-slice-read-position : tie.Need-shared-slice-read-position Inv-loop μ-loop
 shared-slice-read-position c = search needs
 
--- src/lib.rt:110:24
 cast-position : tie.Need-cast-position Inv-loop μ-loop
 cast-position c = omega (arith, c .shared-slice-known2 .given (c .before .before .loop .i))
 
--- src/lib.rt:111:9
 mul-own : tie.Need-mul-own Inv-loop μ-loop
 mul-own c = search needs
 
--- src/lib.rt:111:9
 slice-write-own : tie.Need-slice-write-own Inv-loop μ-loop
 slice-write-own c = search needs
 
--- src/lib.rt:112:9
 counted-requires : tie.Need-counted-requires Inv-loop μ-loop
 counted-requires c κs = search needs
 
--- src/lib.rt:113:9
 add-i : tie.Need-add-i Inv-loop μ-loop
 add-i c = search needs
 
--- src/lib.rt:109:5
 loop-less : tie.Need-loop-less Inv-loop μ-loop
 loop-less c = search needs
 
--- src/lib.rt:109:5
 loop-again : tie.Need-loop-again Inv-loop μ-loop
 loop-again c =
     let s = c .before .before .before .before .before .before in
@@ -69,11 +56,9 @@ loop-again c =
       rw (c .counted .ensures) (picked-next t (s .args .row .now) (l .own) (l .number) (l .i) (l .inv .0) (omega arith) (omega (arith, l .inv .2, s .pre .0)) (l .inv .3)),
     )
 
--- src/lib.rt:103:1
 same-length : tie.Need-same-length Inv-loop μ-loop
 same-length c = search needs
 
--- src/lib.rt:103:1
 returns : tie.Need-returns Inv-loop μ-loop
 returns c =
     let s = c .before .before .before .before in

@@ -1,0 +1,5 @@
+pub mod FloatOrder
+pub mod Passing
+pub mod Found
+pub mod Query
+pub mod Nearness
