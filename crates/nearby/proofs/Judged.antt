@@ -1,6 +1,6 @@
 -- What the rules of the nearby listing establish, where none applies. Assumes nothing.
-use mathlib.Core.Path.{_≡_, refl}
-use mathlib.Core.Bool.{Bool, true, false, not, _||_, true≢false}
+use mathlib.Core.Path.{_≡_}
+use mathlib.Core.Bool.{false, not, _||_}
 use mathlib.Core.List.{List}
 use Prim.Native.Nat.{ℕ, _*_}
 use lib.Dec.{ltb, eqb}
@@ -8,12 +8,8 @@ use lib.ListN.{length}
 use lib.Ieee.{Float}
 use borrow.Author.Tests.{ltb-false, eqb-true, not-false}
 use Rattle.theory.specs.Refusals.{some, no-number, cut-count, stop-count, nearby-input, room}
-use Rattle.theory.proofs.Judged.{cut-count-fine}
+use Rattle.theory.proofs.Judged.{or-false, cut-count-fine}
 use Rattle.nearby.specs.Listing.{NearbyInput}
-
-or-false : (a b : Bool) → (a || b) ≡ false → (a ≡ false) × (b ≡ false)
-or-false true b e = absurd (true≢false e)
-or-false false b e = (refl, e)
 
 pub nearby-fine : (k n : ℕ) (distances : List Float) (m count lent : ℕ) →
     cut-count k .1 ≡ false → stop-count n .1 ≡ false → nearby-input n distances m count .1 ≡ false → room k lent .1 ≡ false → NearbyInput n distances k m count lent
