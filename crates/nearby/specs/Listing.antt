@@ -11,8 +11,9 @@ use Rattle.theory.specs.Refusals.{some, no-number}
 use Rattle.theory.specs.Answers.{listing-answer, reply}
 use Rattle.theory.specs.declared.Listing.{Listing}
 use Rattle.nearest.specs.Neighbours.{kept}
-use Rattle.neighbours.specs.Memo.{Memo}
-use Rattle.nearby.specs.Walk.{branch, Spaced}
+use Rattle.neighbours.specs.Memo.{Memo, Askable, Kept}
+use Rattle.nearby.specs.declared.NearbyCutState.{NearbyCutState}
+use Rattle.nearby.specs.Walk.{branch, nearby-sets, Spaced}
 
 pub record NearbyInput (n : ℕ) (distances : List Float) (k m count lent : ℕ) : Type 0 where
   pub least : 2 ≤ k
@@ -45,27 +46,47 @@ pour capacity k seen out (s ∷ ss) = cond (ltb seen capacity) (pour capacity k 
 abbrev pub behind-front : List ℕ → List (List ℕ) → List (List ℕ)
 behind-front front ss = map (λ s. front ++ s) ss
 
-pub record Room (k capacity seen : ℕ) (lent : List ℕ) : Type 0 where
-  pub least : 1 ≤ k
-  pub most : k ≤ 5
-  pub fits : capacity * k ≤ length lent
+-- The walk of a listing that keeps to this state.
+abbrev pub sets-of-state : NearbyCutState → List Float → List (List ℕ)
+sets-of-state state distances = nearby-sets distances (state .len) (state .k) (state .«min_segment_len») (state .«max_nearby»)
+
+pub record Room (state : NearbyCutState) (seen : ℕ) (lent : List ℕ) : Type 0 where
+  pub least : 1 ≤ state .k
+  pub most : state .k ≤ 5
+  pub fits : state .capacity * state .k ≤ length lent
   pub small : length lent < 2 ^ 61
-  pub counted : seen ≤ capacity + 1
+  pub counted : seen ≤ state .capacity + 1
 
-pub record Branchable (distances : List Float) (n m count behind : ℕ) (entries : List ℕ) (k capacity seen : ℕ) (table lent : List ℕ) : Type 0 where
-  pub few : n ≤ 512
-  pub square : length distances ≡ n * n
+pub record Listable (state : NearbyCutState) (distances : List Float) (lent : List ℕ) : Type 0 where
+  pub input : NearbyInput (state .len) distances (state .k) (state .«min_segment_len») (state .«max_nearby») (length lent)
+  pub room : Room state 0 lent
+
+-- `Askable` and `Kept` with the numbers of a state.
+abbrev pub Askable-for : (state : NearbyCutState) (distances : List Float) (missing cut : ℕ) (table own : List ℕ) → Type 0
+Askable-for state distances missing cut table own = Askable distances (state .len) (state .«min_segment_len») (state .«max_nearby») missing cut table own
+
+abbrev pub Kept-for : (state : NearbyCutState) (distances : List Float) (missing cut number : ℕ) (table own : List ℕ) → Type 0
+Kept-for state distances missing cut number table own = Kept distances (state .len) (state .«min_segment_len») (state .«max_nearby») missing cut number table own
+
+-- The neighbour lists of the cuts.
+abbrev pub lists-of : NearbyCutState → List Float → ℕ → ℕ → List ℕ
+lists-of state distances = kept distances (state .len) (state .«min_segment_len») (state .«max_nearby»)
+
+pub record Branchable (state : NearbyCutState) (distances : List Float) (behind : ℕ) (entries : List ℕ) (seen : ℕ) (table lent : List ℕ) : Type 0 where
+  pub few : state .len ≤ 512
+  pub square : length distances ≡ state .len * state .len
   pub numbers : some no-number distances ≡ false
-  pub shortest : 1 ≤ m
-  pub short : m ≤ 512
-  pub neighbours : count ≤ 32
-  pub depth : behind < k
-  pub missing : m * behind ≤ n
+  pub shortest : 1 ≤ state .«min_segment_len»
+  pub short : state .«min_segment_len» ≤ 512
+  pub neighbours : state .«max_nearby» ≤ 32
+  pub depth : behind < state .k
+  pub missing : state .«min_segment_len» * behind ≤ state .len
   pub entries-few : length entries ≤ 32
-  pub below : (i : ℕ) → i < length entries → getD entries i 0 < n
-  pub room : Room k capacity seen lent
-  pub memo : Memo distances n count table
+  pub below : (i : ℕ) → i < length entries → getD entries i 0 < state .len
+  pub room : Room state seen lent
+  pub memo : Memo distances (state .len) (state .«max_nearby») table
 
-pub record Branched (distances : List Float) (n m count behind : ℕ) (entries cuts : List ℕ) (k capacity seen : ℕ) (lent : List ℕ) (answer : ℕ) (table′ lent′ : List ℕ) : Type 0 where
-  pub poured : (answer, lent′) ≡ pour capacity k seen lent (behind-front (take (k - 1 - behind) cuts) (branch (kept distances n m count) behind entries))
-  pub memo : Memo distances n count table′
+pub record Branched (state : NearbyCutState) (distances : List Float) (behind : ℕ) (entries cuts : List ℕ) (seen : ℕ) (lent : List ℕ) (answer : ℕ) (table′ lent′ : List ℕ) : Type 0 where
+  pub poured : (answer, lent′)
+      ≡ pour (state .capacity) (state .k) seen lent (behind-front (take (state .k - 1 - behind) cuts) (branch (lists-of state distances) behind entries))
+  pub memo : Memo distances (state .len) (state .«max_nearby») table′

@@ -72,16 +72,8 @@ pub fn run_list_k_opt_in_phase(
         let end = at + lengths[i];
         let depot = depots[i];
         let pin = pins[i];
-        let state = round::run_round(
-            k,
-            left,
-            locations,
-            legs,
-            latest,
-            depot,
-            pin,
-            &mut stops[at..end],
-        );
+        let route = &mut stops[at..end];
+        let state = round::run_round(k, left, locations, legs, latest, depot, pin, route);
         let row = 4 * i;
         let row_end = row + 4;
         put_state(state, &mut result[row..row_end]);

@@ -2,10 +2,8 @@
 use mathlib.Core.Path.{_≡_, refl, ap, _∙_}
 use Prim.Native.Nat.{_≤_, _-_, _+_}
 use lib.ListN.{length, take, length-take, length-set}
-use Rattle.nearest.specs.Neighbours.{kept}
 use Rattle.neighbours.specs.Memo.{Memo}
-use Rattle.nearby.specs.Walk.{nearby-sets}
-use Rattle.nearby.specs.Listing.{pour}
+use Rattle.nearby.specs.Listing.{pour, sets-of-state, lists-of}
 use Rattle.nearby.proofs.Turns.{kept-below}
 use Rattle.nearby.proofs.First.{memo-empty, alone, first-below, missing-one, missing-two, segments-small, walk-from, first-ended, first-turned, first-most, first-over, nearby-start}
 use native.Mathlib.Omega.{arith}
@@ -14,68 +12,68 @@ use Rattle.nearby.proofs.first_cuts.Statement.{statement}
 use Rattle.nearby.proofs.first_cuts.Tie as tie
 
 abbrev Inv-loop : tie.InvT-loop
-Inv-loop n distances k m count capacity lent₀ table₀ own₀ cuts₀ seen₀ first₀ lent table own cuts seen first =
-    (m ≤ first)
+Inv-loop state distances lent₀ table₀ own₀ cuts₀ seen₀ first₀ lent table own cuts seen first =
+    (state .«min_segment_len» ≤ first)
     × (first ≤ 513)
     × (length own ≡ 32)
     × (length cuts ≡ 5)
     × (length lent ≡ length lent₀)
-    × (seen ≤ capacity + 1)
-    × Memo distances n count table
-    × (pour capacity k seen lent (walk-from (kept distances n m count) n k m first) ≡ pour capacity k 0 lent₀ (nearby-sets distances n k m count))
+    × (seen ≤ state .capacity + 1)
+    × Memo distances (state .len) (state .«max_nearby») table
+    × (pour (state .capacity) (state .k) seen lent (walk-from (lists-of state distances) (state .len) (state .k) (state .«min_segment_len») first)
+    ≡ pour (state .capacity) (state .k) 0 lent₀ (sets-of-state state distances))
 
 abbrev μ-loop : tie.MeasureT-loop
-μ-loop n distances k m count capacity lent₀ table₀ own₀ cuts₀ seen₀ first₀ lent table own cuts seen first =
-    n + 1 - first
+μ-loop state distances lent₀ table₀ own₀ cuts₀ seen₀ first₀ lent table own cuts seen first = state .len + 1 - first
 
 loop-holds : tie.Need-loop-holds Inv-loop μ-loop
 loop-holds c =
     let s = c .before .before in (
       omega arith,
-      omega (arith, s .pre .0 .short),
+      omega (arith, s .pre .input .short),
       refl,
       refl,
       refl,
       omega arith,
-      memo-empty (s .args .distances .now) (s .args .n) (s .args .count) (s .pre .0 .few),
-      ap (pour (s .args .capacity) (s .args .k) 0 (s .args .lent .now)) (nearby-start (s .args .distances .now) (s .args .n) (s .args .k) (s .args .m) (s .args .count) (s .pre .0 .shortest)),
+      memo-empty (s .args .distances .now) (s .args .state .len) (s .args .state .«max_nearby») (s .pre .input .few),
+      ap (pour (s .args .state .capacity) (s .args .state .k) 0 (s .args .lent .now)) (nearby-start (s .args .distances .now) (s .args .state .len) (s .args .state .k) (s .args .state .«min_segment_len») (s .args .state .«max_nearby») (s .pre .input .shortest)),
     )
 
-mul-loop : tie.Need-mul-loop Inv-loop μ-loop
-mul-loop c = let s = c .before .before .before in omega (arith, segments-small (s .args .k) (s .args .m) (s .pre .0 .most) (s .pre .0 .short))
+mul-if1 : tie.Need-mul-if1 Inv-loop μ-loop
+mul-if1 c = let s = c .before .before .before .before in omega (arith, segments-small (s .args .state .k) (s .args .state .«min_segment_len») (s .pre .input .most) (s .pre .input .short))
 
-add-loop : tie.Need-add-loop Inv-loop μ-loop
-add-loop c = let s = c .before .before .before in omega (arith, segments-small (s .args .k) (s .args .m) (s .pre .0 .most) (s .pre .0 .short), c .loop .inv .1)
+add-if1 : tie.Need-add-if1 Inv-loop μ-loop
+add-if1 c = let s = c .before .before .before .before in omega (arith, segments-small (s .args .state .k) (s .args .state .«min_segment_len») (s .pre .input .most) (s .pre .input .short), c .before .loop .inv .1)
 
-sub-kept-neighbours : tie.Need-sub-kept-neighbours Inv-loop μ-loop
-sub-kept-neighbours c = search needs
+sub-neighbours-of : tie.Need-sub-neighbours-of Inv-loop μ-loop
+sub-neighbours-of c = search needs
 
-slice-aggregate-kept-neighbours : tie.Need-slice-aggregate-kept-neighbours Inv-loop μ-loop
-slice-aggregate-kept-neighbours c = search needs
+slice-aggregate-neighbours-of : tie.Need-slice-aggregate-neighbours-of Inv-loop μ-loop
+slice-aggregate-neighbours-of c = search needs
 
-slice-aggregate-kept-neighbours-2 : tie.Need-slice-aggregate-kept-neighbours-2 Inv-loop μ-loop
-slice-aggregate-kept-neighbours-2 c = search needs
+slice-aggregate-neighbours-of-2 : tie.Need-slice-aggregate-neighbours-of-2 Inv-loop μ-loop
+slice-aggregate-neighbours-of-2 c = search needs
 
-kept-neighbours-requires : tie.Need-kept-neighbours-requires Inv-loop μ-loop
-kept-neighbours-requires c κs =
-    let s = c .before .before .before .before .before .before in
-    let l = c .before .before .before .loop in
-    let more = c .before .before .loop-test .taken in
+neighbours-of-requires : tie.Need-neighbours-of-requires Inv-loop μ-loop
+neighbours-of-requires c κs =
+    let s = c .before .before .before .before .before .before .before .before .before in
+    let l = c .before .before .before .before .before .before .loop in
+    let more = c .before .before .before .if1 .taken in
     record {
       lookup =
           record {
             known =
                 record {
-                  few = s .pre .0 .few;
-                  square = s .pre .0 .square;
-                  numbers = s .pre .0 .numbers;
-                  origin-known = first-below (s .args .n) (s .args .k) (s .args .m) (l .first) (s .pre .0 .least) (s .pre .0 .shortest) more;
+                  few = s .pre .input .few;
+                  square = s .pre .input .square;
+                  numbers = s .pre .input .numbers;
+                  origin-known = first-below (s .args .state .len) (s .args .state .k) (s .args .state .«min_segment_len») (l .first) (s .pre .input .least) (s .pre .input .shortest) more;
                 };
-            most = s .pre .0 .neighbours;
+            most = s .pre .input .neighbours;
             memo = l .inv .6;
           };
-      short = s .pre .0 .short;
-      fits = missing-one (s .args .n) (s .args .k) (s .args .m) (l .first) (s .pre .0 .least) (s .pre .0 .shortest) more;
+      short = s .pre .input .short;
+      fits = missing-one (s .args .state .len) (s .args .state .k) (s .args .state .«min_segment_len») (l .first) (s .pre .input .least) (s .pre .input .shortest) more;
       room = l .inv .2;
     }
 
@@ -86,12 +84,12 @@ sub-branch : tie.Need-sub-branch Inv-loop μ-loop
 sub-branch c = search needs
 
 array-share-prefix-own : tie.Need-array-share-prefix-own Inv-loop μ-loop
-array-share-prefix-own c = c .before .before .kept-neighbours .ensures .within
+array-share-prefix-own c = c .before .before .before .neighbours-of .ensures .within
 
 slice-aggregate-branch : tie.Need-slice-aggregate-branch Inv-loop μ-loop
 slice-aggregate-branch c =
-    let q = c .before .before .before .kept-neighbours in
-    let g : q .result ≡ length (take (q .result) (q .last .1 .1 .1 .1 .1 .1 .1 .0)) = simp length-take (omega (arith, q .ensures .within)) in
+    let q = c .before .before .before .before .neighbours-of in
+    let g : q .result ≡ length (take (q .result) (q .last .1 .1 .1 .1 .1 .0)) = simp length-take (omega (arith, q .ensures .within)) in
     g
 
 slice-aggregate-branch-2 : tie.Need-slice-aggregate-branch-2 Inv-loop μ-loop
@@ -99,31 +97,31 @@ slice-aggregate-branch-2 c = search needs
 
 branch-requires : tie.Need-branch-requires Inv-loop μ-loop
 branch-requires c κs =
-    let s = c .before .before .before .before .before .before .before .before .before .before .before .before in
-    let l = c .before .before .before .before .before .before .before .before .before .loop in
-    let q = c .before .before .before .before .before .kept-neighbours in
-    let more = c .before .before .before .before .before .before .before .before .loop-test .taken in
-    let list = take (q .result) (q .last .1 .1 .1 .1 .1 .1 .1 .0) in
-    let few : length list ≤ 32 = simp length-take (omega (arith, q .kept .1 .1 .1 .1 .1 .1 .1 .0, l .inv .2)) in
+    let s = c .before .before .before .before .before .before .before .before .before .before .before .before .before .before .before .before in
+    let l = c .before .before .before .before .before .before .before .before .before .before .before .before .before .loop in
+    let q = c .before .before .before .before .before .before .neighbours-of in
+    let more = c .before .before .before .before .before .before .before .before .before .before .if1 .taken in
+    let list = take (q .result) (q .last .1 .1 .1 .1 .1 .0) in
+    let few : length list ≤ 32 = simp length-take (omega (arith, q .kept .1 .1 .1 .1 .1 .0, l .inv .2)) in
     record {
-      few = s .pre .0 .few;
-      square = s .pre .0 .square;
-      numbers = s .pre .0 .numbers;
-      shortest = s .pre .0 .shortest;
-      short = s .pre .0 .short;
-      neighbours = s .pre .0 .neighbours;
-      depth = omega (arith, s .pre .0 .least);
-      missing = missing-two (s .args .n) (s .args .k) (s .args .m) (l .first) (s .pre .0 .least) (s .pre .0 .shortest) more;
+      few = s .pre .input .few;
+      square = s .pre .input .square;
+      numbers = s .pre .input .numbers;
+      shortest = s .pre .input .shortest;
+      short = s .pre .input .short;
+      neighbours = s .pre .input .neighbours;
+      depth = omega (arith, s .pre .input .least);
+      missing = missing-two (s .args .state .len) (s .args .state .k) (s .args .state .«min_segment_len») (l .first) (s .pre .input .least) (s .pre .input .shortest) more;
       entries-few = few;
       below =
-          kept-below (s .args .distances .now) (s .args .n) (s .args .m) (s .args .count) (s .args .k - 1) (l .first) list (q .ensures .list-is) (s .pre .0 .shortest) (omega (arith, s .pre .0 .least))
-          (first-below (s .args .n) (s .args .k) (s .args .m) (l .first) (s .pre .0 .least) (s .pre .0 .shortest) more);
+          kept-below (s .args .distances .now) (s .args .state .len) (s .args .state .«min_segment_len») (s .args .state .«max_nearby») (s .args .state .k - 1) (l .first) list (q .ensures .list-is) (s .pre .input .shortest) (omega (arith, s .pre .input .least))
+          (first-below (s .args .state .len) (s .args .state .k) (s .args .state .«min_segment_len») (l .first) (s .pre .input .least) (s .pre .input .shortest) more);
       room =
           record {
-            least = s .pre .1 .least;
-            most = s .pre .1 .most;
-            fits = omega (arith, s .pre .1 .fits, l .inv .4);
-            small = omega (arith, s .pre .1 .small, l .inv .4);
+            least = s .pre .room .least;
+            most = s .pre .room .most;
+            fits = omega (arith, s .pre .room .fits, l .inv .4);
+            small = omega (arith, s .pre .room .small, l .inv .4);
             counted = l .inv .5;
           };
       memo = q .ensures .memo;
@@ -134,15 +132,15 @@ same-length c = search needs
 
 returns : tie.Need-returns Inv-loop μ-loop
 returns c =
-    let s = c .before .before .before .before .before .before .before .before .before .before .before .before .before .before .before .before .before in
-    let l = c .before .before .before .before .before .before .before .before .before .before .before .before .before .before .loop in
-    let q = c .before .before .before .before .before .before .before .before .before .before .kept-neighbours in
-    let more = c .before .before .before .before .before .before .before .before .before .before .before .before .before .loop-test .taken in
-    let list = take (q .result) (q .last .1 .1 .1 .1 .1 .1 .1 .0) in
-    let r = c .before .before .before .before .branch in
-    let own = kept (s .args .distances .now) (s .args .n) (s .args .m) (s .args .count) in
-    let only = alone (l .cuts) (s .args .k) (l .first) (s .pre .0 .least) (omega (arith, l .inv .3)) in
-    first-over own (s .args .n) (s .args .k) (s .args .m) (s .args .capacity) (l .first) more (l .seen) (l .lent) list _ (r .result) (r .last .1 .1 .1 .1 .1 .1 .1 .1 .1 .1 .1 .0) (q .ensures .list-is) only (r .ensures .poured) (c .if1 .taken) (l .inv .5) ∙ l .inv .7
+    let s = c .before .before .before .before .before .before .before .before .before .before .before .before .before .before .before .before .before .before .before .before .before .before in
+    let l = c .before .before .before .before .before .before .before .before .before .before .before .before .before .before .before .before .before .before .before .loop in
+    let q = c .before .before .before .before .before .before .before .before .before .before .before .before .neighbours-of in
+    let more = c .before .before .before .before .before .before .before .before .before .before .before .before .before .before .before .before .if1 .taken in
+    let list = take (q .result) (q .last .1 .1 .1 .1 .1 .0) in
+    let r = c .before .before .before .before .before .branch in
+    let own = lists-of (s .args .state) (s .args .distances .now) in
+    let only = alone (l .cuts) (s .args .state .k) (l .first) (s .pre .input .least) (omega (arith, l .inv .3)) in
+    first-over own (s .args .state .len) (s .args .state .k) (s .args .state .«min_segment_len») (s .args .state .capacity) (l .first) more (l .seen) (l .lent) list _ (r .result) (r .last .1 .1 .1 .1 .1 .1 .1 .0) (q .ensures .list-is) only (r .ensures .poured) (c .if2 .taken) (l .inv .5) ∙ l .inv .7
 
 add-first : tie.Need-add-first Inv-loop μ-loop
 add-first c = search needs
@@ -152,22 +150,22 @@ loop-less c = search needs
 
 loop-again : tie.Need-loop-again Inv-loop μ-loop
 loop-again c =
-    let s = c .before .before .before .before .before .before .before .before .before .before .before .before .before .before .before .before .before in
-    let l = c .before .before .before .before .before .before .before .before .before .before .before .before .before .before .loop in
-    let q = c .before .before .before .before .before .before .before .before .before .before .kept-neighbours in
-    let more = c .before .before .before .before .before .before .before .before .before .before .before .before .before .loop-test .taken in
-    let list = take (q .result) (q .last .1 .1 .1 .1 .1 .1 .1 .0) in
-    let r = c .before .before .before .before .branch in
-    let own = kept (s .args .distances .now) (s .args .n) (s .args .m) (s .args .count) in
-    let only = alone (l .cuts) (s .args .k) (l .first) (s .pre .0 .least) (omega (arith, l .inv .3)) in (
+    let s = c .before .before .before .before .before .before .before .before .before .before .before .before .before .before .before .before .before .before .before .before .before .before in
+    let l = c .before .before .before .before .before .before .before .before .before .before .before .before .before .before .before .before .before .before .before .loop in
+    let q = c .before .before .before .before .before .before .before .before .before .before .before .before .neighbours-of in
+    let more = c .before .before .before .before .before .before .before .before .before .before .before .before .before .before .before .before .if1 .taken in
+    let list = take (q .result) (q .last .1 .1 .1 .1 .1 .0) in
+    let r = c .before .before .before .before .before .branch in
+    let own = lists-of (s .args .state) (s .args .distances .now) in
+    let only = alone (l .cuts) (s .args .state .k) (l .first) (s .pre .input .least) (omega (arith, l .inv .3)) in (
       omega (arith, l .inv .0),
-      omega (arith, more, s .pre .0 .few),
-      q .kept .1 .1 .1 .1 .1 .1 .1 .0 ∙ l .inv .2,
+      omega (arith, more, s .pre .input .few),
+      q .kept .1 .1 .1 .1 .1 .0 ∙ l .inv .2,
       length-set (l .cuts) 0 (l .first) ∙ l .inv .3,
-      r .kept .1 .1 .1 .1 .1 .1 .1 .1 .1 .1 .1 .0 ∙ l .inv .4,
-      first-most own (s .args .n) (s .args .k) (s .args .m) (s .args .capacity) (l .first) more (l .seen) (l .lent) list _ (r .result) (r .last .1 .1 .1 .1 .1 .1 .1 .1 .1 .1 .1 .0) (q .ensures .list-is) only (r .ensures .poured) (l .inv .5),
+      r .kept .1 .1 .1 .1 .1 .1 .1 .0 ∙ l .inv .4,
+      first-most own (s .args .state .len) (s .args .state .k) (s .args .state .«min_segment_len») (s .args .state .capacity) (l .first) more (l .seen) (l .lent) list _ (r .result) (r .last .1 .1 .1 .1 .1 .1 .1 .0) (q .ensures .list-is) only (r .ensures .poured) (l .inv .5),
       r .ensures .memo,
-      first-turned own (s .args .n) (s .args .k) (s .args .m) (s .args .capacity) (l .first) more (l .seen) (l .lent) list _ (r .result) (r .last .1 .1 .1 .1 .1 .1 .1 .1 .1 .1 .1 .0) (q .ensures .list-is) only (r .ensures .poured) ∙ l .inv .7,
+      first-turned own (s .args .state .len) (s .args .state .k) (s .args .state .«min_segment_len») (s .args .state .capacity) (l .first) more (l .seen) (l .lent) list _ (r .result) (r .last .1 .1 .1 .1 .1 .1 .1 .0) (q .ensures .list-is) only (r .ensures .poured) ∙ l .inv .7,
     )
 
 same-length-2 : tie.Need-same-length-2 Inv-loop μ-loop
@@ -175,9 +173,9 @@ same-length-2 c = search needs
 
 returns-2 : tie.Need-returns-2 Inv-loop μ-loop
 returns-2 c =
-    let s = c .before .before .before .before in
-    let l = c .before .loop in
-    first-ended (kept (s .args .distances .now) (s .args .n) (s .args .m) (s .args .count)) (s .args .n) (s .args .k) (s .args .m) (s .args .capacity) (l .first) (l .seen) (l .lent) (omega (arith, l .inv .0, s .pre .0 .shortest)) (c .loop-test .left)
+    let s = c .before .before .before .before .before .before in
+    let l = c .before .before .before .loop in
+    first-ended (lists-of (s .args .state) (s .args .distances .now)) (s .args .state .len) (s .args .state .k) (s .args .state .«min_segment_len») (s .args .state .capacity) (l .first) (l .seen) (l .lent) (omega (arith, l .inv .0, s .pre .input .shortest)) (c .if1 .left)
     ∙ l .inv .7
 
 pub first-cuts-spec : {M : Type 1} → statement M
@@ -187,12 +185,12 @@ first-cuts-spec =
     Inv-loop
     μ-loop
     loop-holds
-    mul-loop
-    add-loop
-    sub-kept-neighbours
-    slice-aggregate-kept-neighbours
-    slice-aggregate-kept-neighbours-2
-    kept-neighbours-requires
+    mul-if1
+    add-if1
+    sub-neighbours-of
+    slice-aggregate-neighbours-of
+    slice-aggregate-neighbours-of-2
+    neighbours-of-requires
     array-write-cuts
     sub-branch
     array-share-prefix-own

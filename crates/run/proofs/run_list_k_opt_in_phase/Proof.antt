@@ -42,21 +42,21 @@ shared-slice-read-depot c = search needs
 shared-slice-read-pin : tie.Need-shared-slice-read-pin Inv-loop μ-loop
 shared-slice-read-pin c = search needs
 
-mul-run-round : tie.Need-mul-run-round Inv-loop μ-loop
-mul-run-round c =
+mul-route : tie.Need-mul-route Inv-loop μ-loop
+mul-route c =
     let s = c .before .before .before .before .before .before .before .before .before .before .before .before in
     let l = c .before .before .before .before .loop in
     let g = round-room (s .args .k) (s .args .allowance) (s .args .locations) (s .args .legs .now) (s .args .latest .now) (s .args .stops .now) (s .args .lengths .now) (s .args .depots .now) (s .args .pins .now) (s .args .result .now) (s .pre) (l .stops) (l .result) (l .left) (l .at) (l .i) (l .inv) (c .before .before .before .loop-test .taken) in
     omega (arith, g, s .good)
 
-sub-run-round : tie.Need-sub-run-round Inv-loop μ-loop
-sub-run-round c = search needs
+sub-route : tie.Need-sub-route Inv-loop μ-loop
+sub-route c = search needs
 
-part-run-round-start : tie.Need-part-run-round-start Inv-loop μ-loop
-part-run-round-start c = search needs
+part-route-start : tie.Need-part-route-start Inv-loop μ-loop
+part-route-start c = search needs
 
-part-run-round-end : tie.Need-part-run-round-end Inv-loop μ-loop
-part-run-round-end c =
+part-route-end : tie.Need-part-route-end Inv-loop μ-loop
+part-route-end c =
     let s = c .before .before .before .before .before .before .before .before .before .before .before .before in
     let l = c .before .before .before .before .loop in
     round-room (s .args .k) (s .args .allowance) (s .args .locations) (s .args .legs .now) (s .args .latest .now) (s .args .stops .now) (s .args .lengths .now) (s .args .depots .now) (s .args .pins .now) (s .args .result .now) (s .pre) (l .stops) (l .result) (l .left) (l .at) (l .i) (l .inv) (c .before .before .before .loop-test .taken)
@@ -136,10 +136,10 @@ run-list-k-opt-in-phase-spec =
     mul-depot
     shared-slice-read-depot
     shared-slice-read-pin
-    mul-run-round
-    sub-run-round
-    part-run-round-start
-    part-run-round-end
+    mul-route
+    sub-route
+    part-route-start
+    part-route-end
     run-round-requires
     mul-row
     add-row-end
