@@ -5,12 +5,12 @@
 
 #![forbid(unsafe_code)]
 
-use host::draw::plane;
-use host::polish::case::Case;
-use host::random::Random;
-use host::tables::Tables;
-use host::trial::{judge, Trial};
-use host::{ffi, nearby, oracle, run};
+use beside::draw::plane;
+use beside::polish::case::Case;
+use beside::random::Random;
+use beside::tables::Tables;
+use beside::trial::{judge, Trial};
+use beside::{ffi, nearby, oracle, run};
 use std::process::ExitCode;
 use std::time::{Duration, Instant};
 

@@ -4,9 +4,9 @@
 
 #![forbid(unsafe_code)]
 
-use host::random::Random;
-use host::trial::{judge, Drawn, Family, Reply, Source, Trial};
-use host::{checks, moves, nearby, parts, polish, run};
+use beside::random::Random;
+use beside::trial::{judge, Drawn, Family, Reply, Source, Trial};
+use beside::{checks, moves, nearby, parts, polish, run};
 use std::collections::BTreeMap;
 use std::env;
 use std::process::ExitCode;
