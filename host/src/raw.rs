@@ -424,3 +424,6 @@ pub fn route_feasible(
         )
     }
 }
+
+#[cfg(test)]
+mod tests;

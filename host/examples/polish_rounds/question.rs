@@ -89,10 +89,19 @@ mod tests {
     fn says_which_line_is_wrong() {
         let fault = |text: &str| Question::parse(text).err().unwrap();
         assert_eq!(fault(""), "line 1: expected k=");
-        assert_eq!(fault("k=2\nallowance=x\n"), "line 2: no number in range: \"x\"");
-        assert_eq!(fault("k=2\nallowance=1\nlocations=-1\n").split(':').next(), Some("line 3"));
+        assert_eq!(
+            fault("k=2\nallowance=x\n"),
+            "line 2: no number in range: \"x\""
+        );
+        assert_eq!(
+            fault("k=2\nallowance=1\nlocations=-1\n").split(':').next(),
+            Some("line 3")
+        );
         let head = "k=2\nallowance=1\nlocations=0\ndepot=0\nlatest=\nround=1\n";
         assert_eq!(Question::parse(head).unwrap().rounds, [[1]]);
-        assert_eq!(fault(&format!("{head}rounds=2\n")), "line 7: expected round=");
+        assert_eq!(
+            fault(&format!("{head}rounds=2\n")),
+            "line 7: expected round="
+        );
     }
 }
