@@ -12,7 +12,7 @@ use std::env;
 use std::process::ExitCode;
 
 const SEED: u64 = 1965;
-const CASES: u64 = 100_000;
+const CASES: u64 = 150_000;
 const MOST_PRINTED: u64 = 10;
 
 struct Settings {
