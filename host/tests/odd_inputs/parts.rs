@@ -129,12 +129,11 @@ fn check_length(tables: &Tables, depot: u32, stops: &[u32]) {
         let mut legs = Lent::new("legs", &tables.legs);
         let mut route = Lent::new("route", stops);
         let mut result = Lent::new("result", &before);
-        let (legs_lent, route_lent) = (legs.slice(), route.slice());
         let returned = raw::route_length(
             tables.locations,
-            legs_lent,
+            legs.slice(),
             depot,
-            route_lent,
+            route.slice(),
             result.slice(),
         );
         assert_eq!(returned, with_room(&rules, room));
@@ -151,18 +150,20 @@ fn check_deadlines(tables: &Tables, depot: u32, stops: &[u32]) {
     rules[0].1 = tables.bad_size();
     for room in [0, 1, 2] {
         let before = filled(room);
+        let mut legs = Lent::new("legs", &tables.legs);
         let mut latest = Lent::new("latest", &tables.latest);
         let mut route = Lent::new("route", stops);
         let mut result = Lent::new("result", &before);
         let returned = raw::route_feasible(
             tables.locations,
-            &tables.legs,
+            legs.slice(),
             latest.slice(),
             depot,
             route.slice(),
             result.slice(),
         );
         assert_eq!(returned, with_room(&rules, room));
+        kept(&legs);
         kept(&latest);
         kept(&route);
         kept_beyond(&result, &before, usize::from(returned == 0));
@@ -182,7 +183,7 @@ fn check_deltas(tables: &Tables, depot: u32, route: &[u32]) {
 fn check_delta(
     k: usize,
     pattern: usize,
-    cuts: &[usize],
+    handed_in: &[usize],
     tables: &Tables,
     depot: u32,
     stops: &[u32],
@@ -192,27 +193,33 @@ fn check_delta(
         &route_rules(tables, depot, stops),
         &[
             (6, bad_pattern(k, pattern)),
-            (7, bad_cuts(k, stops.len(), cuts)),
+            (7, bad_cuts(k, stops.len(), handed_in)),
         ],
     ]
     .concat();
-    for room in [0, 1] {
+    for room in [0, 1, 2] {
         let before = vec![-9; room];
+        let mut cuts = Lent::new("cuts", handed_in);
+        let mut legs = Lent::new("legs", &tables.legs);
+        let mut route = Lent::new("route", stops);
         let mut result = Lent::new("result", &before);
         let returned = raw::delta(
             k,
             pattern,
-            cuts,
+            cuts.slice(),
             tables.locations,
-            &tables.legs,
+            legs.slice(),
             depot,
-            stops,
+            route.slice(),
             result.slice(),
         );
         assert_eq!(returned, with_room(&rules, room));
+        kept(&cuts);
+        kept(&legs);
+        kept(&route);
         kept_beyond(&result, &before, usize::from(returned == 0));
     }
-    let answer = mittenschist::delta(k, pattern, cuts, &tables.lent(), depot, stops);
+    let answer = mittenschist::delta(k, pattern, handed_in, &tables.lent(), depot, stops);
     assert_eq!(number(answer), lowest(&rules));
 }
 
