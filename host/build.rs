@@ -1,28 +1,14 @@
-//! Finds the Rust sources and the library's archive, and tells the compiler where they are.
-//! The sources are compiled where they lie; only their paths are written down.
+//! Finds the library's archive, or builds it, and tells the linker where it is.
 
 use std::path::{Path, PathBuf};
 use std::process::{Command, ExitCode};
+use std::time::SystemTime;
 use std::{env, fs};
 
-const RUST_FILES: [(&str, &str); 7] = [
-    ("general", "manager/phase_factory/list_k_opt/general.rs"),
-    ("kernel", "manager/phase_factory/list_k_opt/kernel.rs"),
-    ("k_opt_reconnection", "heuristic/move/k_opt_reconnection.rs"),
-    ("k_opt", "heuristic/move/k_opt.rs"),
-    ("metadata", "heuristic/move/metadata.rs"),
-    ("k_opt_moves", "heuristic/move/list_kernel/k_opt.rs"),
-    (
-        "nearby_state",
-        "heuristic/selector/list_kernel/k_opt/nearby_state.rs",
-    ),
-];
-
-/// Included as it stands in a module that has the names it uses, as the Rust does.
-const INCLUDED: (&str, &str) = ("iter", "heuristic/selector/move_selector/iter.rs");
+const VARIABLE: &str = "MITTENSCHIST_LIB";
 
 fn main() -> ExitCode {
-    match prepare() {
+    match link() {
         Ok(()) => ExitCode::SUCCESS,
         Err(message) => {
             eprintln!("{message}");
@@ -31,66 +17,53 @@ fn main() -> ExitCode {
     }
 }
 
-fn prepare() -> Result<(), String> {
-    let host = PathBuf::from(variable("CARGO_MANIFEST_DIR")?);
-    let root = host.parent().ok_or("host has no folder above it")?;
+fn link() -> Result<(), String> {
     println!("cargo:rerun-if-changed=build.rs");
-    name_sources(&root.join("../shared/docs/src"))?;
-    link_archive(root)
-}
-
-fn variable(name: &str) -> Result<String, String> {
-    env::var(name).map_err(|fault| format!("{name}: {fault}"))
-}
-
-/// The folder that an environment variable names, if it is set.
-fn named_folder(name: &str) -> Option<PathBuf> {
-    println!("cargo:rerun-if-env-changed={name}");
-    env::var_os(name).map(PathBuf::from)
-}
-
-/// Writes, for each Rust file, a declaration of it as a module.
-fn name_sources(usual: &Path) -> Result<(), String> {
-    let folder = named_folder("MITTENSCHIST_RUST_SRC").unwrap_or_else(|| usual.to_path_buf());
-    let sources = folder.join("crates/solverforge-solver/src");
-    for (module, file) in RUST_FILES {
-        let path = found(&sources.join(file))?;
-        let allowed = "dead_code, unused_imports";
-        let declaration =
-            format!("#[path = {path:?}]\n#[allow({allowed})]\npub(crate) mod {module};\n");
-        write_down(module, &declaration)?;
-    }
-    let path = found(&sources.join(INCLUDED.1))?;
-    write_down(INCLUDED.0, &format!("include!({path:?});\n"))
-}
-
-fn found(path: &Path) -> Result<PathBuf, String> {
-    let path = fs::canonicalize(path).map_err(|fault| format!("{}: {fault}", path.display()))?;
-    println!("cargo:rerun-if-changed={}", path.display());
-    Ok(path)
-}
-
-fn write_down(module: &str, declaration: &str) -> Result<(), String> {
-    let out = PathBuf::from(variable("OUT_DIR")?);
-    fs::write(out.join(format!("{module}.rs")), declaration)
-        .map_err(|fault| format!("{module}: {fault}"))
-}
-
-fn link_archive(root: &Path) -> Result<(), String> {
-    let named = named_folder("MITTENSCHIST_LIB");
-    let ours = named.is_none();
-    let place = named.unwrap_or_else(|| root.join("target/staticlib"));
+    println!("cargo:rerun-if-env-changed={VARIABLE}");
+    let place = match env::var_os(VARIABLE) {
+        Some(folder) => PathBuf::from(folder),
+        None => built()?,
+    };
     let archive = place.join("libmittenschist.a");
-    if ours && !archive.exists() {
-        build_archive(root)?;
-    }
     let archive =
         fs::canonicalize(&archive).map_err(|fault| format!("{}: {fault}", archive.display()))?;
-    let place = archive.parent().unwrap_or(root);
+    let place = archive.parent().unwrap_or(&place);
     println!("cargo:rerun-if-changed={}", archive.display());
     println!("cargo:rustc-link-search=native={}", place.display());
     println!("cargo:rustc-link-lib=static=mittenschist");
     Ok(())
+}
+
+/// The folder of the repository's own archive, built if there is none or its code is newer.
+fn built() -> Result<PathBuf, String> {
+    let host = env::var("CARGO_MANIFEST_DIR").map_err(|fault| fault.to_string())?;
+    let root = Path::new(&host).join("..");
+    let crates = root.join("crates");
+    println!("cargo:rerun-if-changed={}", crates.display());
+    let place = root.join("target/staticlib");
+    let made = changed(&place.join("libmittenschist.a"));
+    if made.is_none() || made < newest_source(&crates) {
+        build_archive(&root)?;
+    }
+    Ok(place)
+}
+
+fn changed(path: &Path) -> Option<SystemTime> {
+    fs::metadata(path).ok()?.modified().ok()
+}
+
+fn newest_source(crates: &Path) -> Option<SystemTime> {
+    let sources = entries(crates)
+        .into_iter()
+        .flat_map(|folder| entries(&folder.join("src")));
+    sources.filter_map(|file| changed(&file)).max()
+}
+
+fn entries(folder: &Path) -> Vec<PathBuf> {
+    let Ok(found) = fs::read_dir(folder) else {
+        return Vec::new();
+    };
+    found.flatten().map(|entry| entry.path()).collect()
 }
 
 fn build_archive(root: &Path) -> Result<(), String> {
@@ -98,12 +71,15 @@ fn build_archive(root: &Path) -> Result<(), String> {
         .args(["staticlib", "mittenschist"])
         .current_dir(root)
         .output();
-    let output = run.map_err(|fault| format!("rt staticlib mittenschist: {fault}"))?;
+    let output = run.map_err(|fault| {
+        format!("rt staticlib mittenschist: {fault}; {VARIABLE} may name the folder of an archive")
+    })?;
     if output.status.success() {
         return Ok(());
     }
     Err(format!(
-        "rt staticlib mittenschist failed: {}",
+        "rt staticlib mittenschist failed: {}{}",
+        String::from_utf8_lossy(&output.stdout),
         String::from_utf8_lossy(&output.stderr)
     ))
 }

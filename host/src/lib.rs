@@ -1,37 +1,43 @@
-//! The library beside the Rust it is ported from, on the same inputs.
+//! Polishes routes by k-opt. Every answer is proved: this crate calls the C functions of the Rattle library `mittenschist` and
+//! adds plain types.
+//!
+//! No input is out of bounds: each function judges what it is handed and answers a [`Refusal`] or does its work. After a refusal
+//! everything lent is as before. Nothing is judged here, so where several refusals apply, the one given is the library's first.
+//!
+//! ```
+//! use mittenschist::{polish_route, Ending, Tables};
+//!
+//! // Seconds from each location to each; no deadline in force.
+//! let legs = [0, 5, 1, 1, 0, 5, 5, 1, 0];
+//! let tables = Tables { locations: 3, legs: &legs, latest: &[u32::MAX; 3] };
+//! let mut route = [1, 2];
+//! let polished = polish_route(3, 100, &tables, 0, &mut route)?;
+//! assert_eq!(route, [2, 1]);
+//! assert_eq!((polished.before, polished.after), (15, 3));
+//! assert_eq!((polished.ending, polished.examined), (Ending::Finished, 11));
+//! # Ok::<(), mittenschist::Refusal>(())
+//! ```
 
 #![deny(unsafe_code)]
+#![warn(missing_docs)]
 
-// The Rust names these crates; the stand-ins below take their places.
-extern crate self as smallvec;
-extern crate self as solverforge_config;
-extern crate self as solverforge_core;
-extern crate self as solverforge_scoring;
-
-mod stand_ins;
-use stand_ins::selection::SelectionOrder;
-pub(crate) use stand_ins::small_vec::SmallVec;
-use stand_ins::{domain, pinning, scope, stats, Director};
-
-mod phase {
-    pub(crate) use crate::stand_ins::construction;
-}
-
-mod heuristic;
-
-pub mod checks;
-mod damage;
-pub mod draw;
+mod moves;
+mod nearby;
+mod parts;
+mod polish;
 #[allow(unsafe_code)]
-pub mod ffi;
-pub mod lent;
-pub mod moves;
-pub mod nearby;
-pub mod oracle;
-pub mod parts;
-pub mod polish;
-pub mod random;
-pub mod rules;
-pub mod run;
-pub mod tables;
-pub mod trial;
+pub mod raw;
+mod refusal;
+mod run;
+mod tables;
+
+pub use moves::{k_opt_do_move, k_opt_is_doable, k_opt_undo_move};
+pub use nearby::{nearby_cuts, Listing};
+pub use parts::{
+    delta, next_cut_set, reconnect, reconnection_at, route_feasible, route_length, Deadline,
+    Reconnection,
+};
+pub use polish::{polish_route, Ending, Polished};
+pub use refusal::Refusal;
+pub use run::{run_list_k_opt, RoundReply, RoundState, Rounds};
+pub use tables::Tables;

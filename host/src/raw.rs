@@ -1,4 +1,4 @@
-//! The library's C entries. Each wrapper returns 0 or the refusal number. The only unsafe code of the host.
+//! The C functions as they are, on slices: each returns 0 or the refusal number, and writes the rest to what is lent. The only unsafe code.
 
 // In every wrapper each pointer comes with the length of the slice it is taken from, and the borrows keep what is written apart
 // from everything else that is lent. The library takes any contents and keeps no pointer.
@@ -424,3 +424,6 @@ pub fn route_feasible(
         )
     }
 }
+
+#[cfg(test)]
+mod tests;

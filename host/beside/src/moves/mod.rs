@@ -1,6 +1,6 @@
 //! Moves: apply, undo and the doable check beside `k_opt_do_move`, `k_opt_undo_move` and `k_opt_is_doable`.
 
-mod apply;
+pub mod apply;
 pub mod case;
 mod damage;
 mod doable;

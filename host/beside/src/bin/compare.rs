@@ -4,15 +4,15 @@
 
 #![forbid(unsafe_code)]
 
-use host::random::Random;
-use host::trial::{judge, Drawn, Family, Reply, Source, Trial};
-use host::{checks, moves, nearby, parts, polish, run};
+use beside::random::Random;
+use beside::trial::{judge, Drawn, Family, Reply, Source, Trial};
+use beside::{checks, moves, nearby, parts, polish, run};
 use std::collections::BTreeMap;
 use std::env;
 use std::process::ExitCode;
 
 const SEED: u64 = 1965;
-const CASES: u64 = 100_000;
+const CASES: u64 = 150_000;
 const MOST_PRINTED: u64 = 10;
 
 struct Settings {

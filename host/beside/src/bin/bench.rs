@@ -5,23 +5,18 @@
 
 #![forbid(unsafe_code)]
 
-use host::draw::plane;
-use host::polish::case::Case;
-use host::random::Random;
-use host::tables::Tables;
-use host::trial::{judge, Trial};
-use host::{ffi, nearby, oracle, run};
+use beside::draw::plane;
+use beside::polish::case::Case;
+use beside::random::Random;
+use beside::tables::Tables;
+use beside::trial::{judge, Trial};
+use beside::{ffi, nearby, oracle, run};
 use std::process::ExitCode;
 use std::time::{Duration, Instant};
 
 const CANDIDATES: u64 = 2_000_000;
 const TURNS: usize = 5;
-const SIZES: [(usize, &[usize]); 4] = [
-    (2, &[20, 64, 128, 512]),
-    (3, &[20, 64, 128, 512]),
-    (4, &[20, 64, 128]),
-    (5, &[20, 64, 128]),
-];
+const SIZES: [usize; 4] = [20, 64, 128, 512];
 const KINDS: [&str; 3] = ["quiet", "busy", "deadlines"];
 
 /// Stops in each of eight rounds, by k.
@@ -53,8 +48,8 @@ fn polishing() -> Result<(), String> {
     println!("Polishing\n");
     println!("| k | stops | table | accepted a call | Rust ns | library ns | library / Rust |");
     println!("|---|---|---|---|---|---|---|");
-    for (k, sizes) in SIZES {
-        for &stops in sizes {
+    for k in 2..=5 {
+        for stops in SIZES {
             for kind in KINDS {
                 let case = case(kind, k, stops);
                 same(&case)?;

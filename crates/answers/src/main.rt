@@ -1,0 +1,193 @@
+// Replays the stored answers of the unchanged Rust: the file stdout beside src/ is written from them by tools/store-answers, and this program
+// prints what the library answers for the same inputs, which both draw by the rule of `next`, `draw` and `fill`.
+
+fn say(text: &[u8]) {
+    let _ = io::write_all(1, text);
+}
+
+fn say_number(n: u64) {
+    let _ = io::print_decimal(1, n);
+}
+
+fn say_stop(n: u32) {
+    say_number(n as u64);
+}
+
+fn say_result(result: &[u64]) {
+    for i in 0..result.len() {
+        say(b" ");
+        say_number(result[i]);
+    }
+}
+
+fn say_route(route: &[u32]) {
+    for i in 0..route.len() {
+        say(b" ");
+        say_stop(route[i]);
+    }
+}
+
+fn say_places(places: &[usize]) {
+    for i in 0..places.len() {
+        say(b" ");
+        say_number(places[i] as u64);
+    }
+}
+
+// The number that follows.
+fn next(state: u16) -> u16 {
+    ((state as u32 * 25173 + 13849) % 65536) as u16
+}
+
+// A number from 0 to span.
+fn draw(state: u16, span: u16) -> u32 {
+    (state as u32 / 8) % (span as u32 + 1)
+}
+
+fn fill(seed: u16, span: u16, places: &mut [u32]) {
+    let mut state = seed;
+    for i in 0..places.len() {
+        state = next(state);
+        places[i] = draw(state, span);
+    }
+}
+
+fn fill_floats(seed: u16, span: u16, places: &mut [f64]) {
+    let mut state = seed;
+    for i in 0..places.len() {
+        state = next(state);
+        places[i] = draw(state, span) as f64;
+    }
+}
+
+fn allowance_of(seed: u16) -> u64 {
+    if seed % 3 == 2 {
+        return seed as u64 * 20;
+    }
+    1000000
+}
+
+fn cuts_of(seed: u16) -> usize {
+    (2 + seed % 4) as usize
+}
+
+// Ten locations; legs to 99 seconds, deadlines to 799.
+fn show_polish(seed: u16, route: &mut [u32]) {
+    let mut legs = [0u32; 100];
+    let mut latest = [0u32; 10];
+    let mut result = [9u64; 6];
+    fill(seed, 99, &mut legs);
+    fill(seed, 799, &mut latest);
+    fill(seed, 9, route);
+    let refused = mittenschist::mittenschist_polish_route(
+        cuts_of(seed),
+        allowance_of(seed),
+        10,
+        &legs,
+        &latest,
+        0,
+        route,
+        &mut result,
+    );
+    say(b"polish ");
+    say_number(refused as u64);
+    say_result(&result);
+    say(b" route");
+    say_route(&route[..]);
+    say(b"\n");
+}
+
+// Three rounds; the middle one is short, and pinned for every other four seeds.
+fn show_run(seed: u16) {
+    let mut legs = [0u32; 100];
+    let mut latest = [0u32; 10];
+    let mut stops = [0u32; 16];
+    let mut result = [9u64; 13];
+    fill(seed, 99, &mut legs);
+    fill(seed, 799, &mut latest);
+    fill(seed, 9, &mut stops);
+    let pin = (seed / 4 % 2) as u8;
+    let refused = mittenschist::mittenschist_run_list_k_opt(
+        cuts_of(seed),
+        allowance_of(seed),
+        10,
+        &legs,
+        &latest,
+        &mut stops,
+        &[6, 3, 7],
+        &[0, 1, 2],
+        &[0, pin, 0],
+        &mut result,
+    );
+    say(b"run ");
+    say_number(refused as u64);
+    say_result(&result);
+    say(b" stops");
+    say_route(&stops);
+    say(b"\n");
+}
+
+// Twelve positions; distances to 7, so that many are equal.
+fn show_nearby(seed: u16) {
+    let mut distances = [0.0f64; 144];
+    let mut sets = [99usize; 40];
+    let mut result = [9u64; 3];
+    fill_floats(seed, 7, &mut distances);
+    let refused = mittenschist::mittenschist_nearby_cuts(
+        12,
+        &distances,
+        cuts_of(seed),
+        (1 + seed / 4 % 2) as usize,
+        seed as usize + 4,
+        &mut sets,
+        &mut result,
+    );
+    say(b"nearby ");
+    say_number(refused as u64);
+    say_result(&result);
+    say(b" sets");
+    say_places(&sets);
+    say(b"\n");
+}
+
+fn show_move(k: usize, pattern: usize, rounds: &[usize], cuts: &[usize]) {
+    let mut route = [11u32, 12, 13, 14, 15, 16, 17, 18];
+    let mut journal = [99u32; 9];
+    let refused = mittenschist::mittenschist_k_opt_do_move(
+        k,
+        pattern,
+        1,
+        rounds,
+        cuts,
+        &mut route,
+        &mut journal,
+    );
+    say(b"move ");
+    say_number(refused as u64);
+    say(b" route");
+    say_route(&route);
+    say(b" journal");
+    say_route(&journal);
+    say(b"\n");
+}
+
+fn show_moves(i: u16) {
+    let pattern = i as usize;
+    show_move(3, pattern % 7, &[1; 3], &[1, 3, 6]);
+    show_move(4, pattern * 6 % 47, &[1; 4], &[0, 2, 5, 7]);
+    show_move(5, pattern * 54 % 383, &[1; 5], &[0, 1, 3, 6, 8]);
+}
+
+fn show(seed: u16) {
+    show_polish(seed, &mut [0u32; 9]);
+    show_polish(seed, &mut [0u32; 5]);
+    show_run(seed);
+    show_nearby(seed);
+    show_moves(seed);
+}
+
+fn main() {
+    for seed in 0..16u16 {
+        show(seed);
+    }
+}

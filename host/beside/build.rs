@@ -1,0 +1,75 @@
+//! Finds the Rust sources and tells the compiler where they are.
+//! The sources are compiled where they lie; only their paths are written down.
+
+use std::path::{Path, PathBuf};
+use std::process::ExitCode;
+use std::{env, fs};
+
+const RUST_FILES: [(&str, &str); 7] = [
+    ("general", "manager/phase_factory/list_k_opt/general.rs"),
+    ("kernel", "manager/phase_factory/list_k_opt/kernel.rs"),
+    ("k_opt_reconnection", "heuristic/move/k_opt_reconnection.rs"),
+    ("k_opt", "heuristic/move/k_opt.rs"),
+    ("metadata", "heuristic/move/metadata.rs"),
+    ("k_opt_moves", "heuristic/move/list_kernel/k_opt.rs"),
+    (
+        "nearby_state",
+        "heuristic/selector/list_kernel/k_opt/nearby_state.rs",
+    ),
+];
+
+/// Included as it stands in a module that has the names it uses, as the Rust does.
+const INCLUDED: (&str, &str) = ("iter", "heuristic/selector/move_selector/iter.rs");
+
+fn main() -> ExitCode {
+    match prepare() {
+        Ok(()) => ExitCode::SUCCESS,
+        Err(message) => {
+            eprintln!("{message}");
+            ExitCode::FAILURE
+        }
+    }
+}
+
+fn prepare() -> Result<(), String> {
+    let beside = PathBuf::from(variable("CARGO_MANIFEST_DIR")?);
+    println!("cargo:rerun-if-changed=build.rs");
+    name_sources(&beside.join("../../../shared/docs/src"))
+}
+
+fn variable(name: &str) -> Result<String, String> {
+    env::var(name).map_err(|fault| format!("{name}: {fault}"))
+}
+
+/// The folder that an environment variable names, if it is set.
+fn named_folder(name: &str) -> Option<PathBuf> {
+    println!("cargo:rerun-if-env-changed={name}");
+    env::var_os(name).map(PathBuf::from)
+}
+
+/// Writes, for each Rust file, a declaration of it as a module.
+fn name_sources(usual: &Path) -> Result<(), String> {
+    let folder = named_folder("MITTENSCHIST_RUST_SRC").unwrap_or_else(|| usual.to_path_buf());
+    let sources = folder.join("crates/solverforge-solver/src");
+    for (module, file) in RUST_FILES {
+        let path = found(&sources.join(file))?;
+        let allowed = "dead_code, unused_imports";
+        let declaration =
+            format!("#[path = {path:?}]\n#[allow({allowed})]\npub(crate) mod {module};\n");
+        write_down(module, &declaration)?;
+    }
+    let path = found(&sources.join(INCLUDED.1))?;
+    write_down(INCLUDED.0, &format!("include!({path:?});\n"))
+}
+
+fn found(path: &Path) -> Result<PathBuf, String> {
+    let path = fs::canonicalize(path).map_err(|fault| format!("{}: {fault}", path.display()))?;
+    println!("cargo:rerun-if-changed={}", path.display());
+    Ok(path)
+}
+
+fn write_down(module: &str, declaration: &str) -> Result<(), String> {
+    let out = PathBuf::from(variable("OUT_DIR")?);
+    fs::write(out.join(format!("{module}.rs")), declaration)
+        .map_err(|fault| format!("{module}: {fault}"))
+}

@@ -1,0 +1,36 @@
+//! The library beside the Rust it is ported from, on the same inputs.
+
+#![forbid(unsafe_code)]
+
+// The Rust names these crates; the stand-ins below take their places.
+extern crate self as smallvec;
+extern crate self as solverforge_config;
+extern crate self as solverforge_core;
+extern crate self as solverforge_scoring;
+
+mod stand_ins;
+use stand_ins::selection::SelectionOrder;
+pub(crate) use stand_ins::small_vec::SmallVec;
+use stand_ins::{domain, pinning, scope, stats, Director};
+
+mod phase {
+    pub(crate) use crate::stand_ins::construction;
+}
+
+mod heuristic;
+
+pub mod checks;
+mod damage;
+pub mod draw;
+pub use mittenschist::raw as ffi;
+pub mod lent;
+pub mod moves;
+pub mod nearby;
+pub mod oracle;
+pub mod parts;
+pub mod polish;
+pub mod random;
+pub mod rules;
+pub mod run;
+pub mod tables;
+pub mod trial;

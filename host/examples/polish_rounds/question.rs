@@ -1,0 +1,107 @@
+//! The file of rounds. Only its form is judged here; its numbers are judged by the library.
+
+use std::str::{FromStr, Lines};
+
+pub struct Question {
+    pub k: usize,
+    pub allowance: u64,
+    pub locations: usize,
+    pub depot: u32,
+    pub legs: Vec<u32>,
+    pub latest: Vec<u32>,
+    pub rounds: Vec<Vec<u32>>,
+}
+
+/// The lines not yet read, and the number of the one that was read last.
+struct Reader<'t> {
+    lines: Lines<'t>,
+    number: usize,
+}
+
+impl<'t> Reader<'t> {
+    /// What follows `name=` in the next line.
+    fn value(&mut self, name: &str) -> Result<&'t str, String> {
+        self.number += 1;
+        let line = self.lines.next().unwrap_or_default();
+        line.strip_prefix(name)
+            .and_then(|rest| rest.strip_prefix('='))
+            .ok_or_else(|| format!("line {}: expected {name}=", self.number))
+    }
+
+    fn number<N: FromStr>(&mut self, name: &str) -> Result<N, String> {
+        let word = self.value(name)?;
+        self.parsed(word)
+    }
+
+    fn numbers(&mut self, name: &str) -> Result<Vec<u32>, String> {
+        let words = self.value(name)?;
+        if words.is_empty() {
+            return Ok(Vec::new());
+        }
+        words.split(',').map(|word| self.parsed(word)).collect()
+    }
+
+    fn parsed<N: FromStr>(&self, word: &str) -> Result<N, String> {
+        let fault = || format!("line {}: no number in range: {word:?}", self.number);
+        word.parse().map_err(|_| fault())
+    }
+}
+
+impl Question {
+    pub fn parse(text: &str) -> Result<Self, String> {
+        let mut reader = Reader {
+            lines: text.lines(),
+            number: 0,
+        };
+        let k = reader.number("k")?;
+        let allowance = reader.number("allowance")?;
+        let locations = reader.number("locations")?;
+        let depot = reader.number("depot")?;
+        let mut legs = Vec::new();
+        for _ in 0..locations {
+            legs.extend(reader.numbers("legs")?);
+        }
+        Ok(Self {
+            k,
+            allowance,
+            locations,
+            depot,
+            legs,
+            latest: reader.numbers("latest")?,
+            rounds: rounds(&mut reader)?,
+        })
+    }
+}
+
+fn rounds(reader: &mut Reader) -> Result<Vec<Vec<u32>>, String> {
+    let mut rounds = Vec::new();
+    while reader.lines.clone().next().is_some() {
+        rounds.push(reader.numbers("round")?);
+    }
+    Ok(rounds)
+}
+
+#[cfg(test)]
+mod tests {
+    use super::Question;
+
+    #[test]
+    fn says_which_line_is_wrong() {
+        let fault = |text: &str| Question::parse(text).err().unwrap();
+        assert_eq!(fault(""), "line 1: expected k=");
+        assert_eq!(
+            fault("k=2\nallowance=x\n"),
+            "line 2: no number in range: \"x\""
+        );
+        assert_eq!(
+            fault("k=2\nallowance=1\nlocations=-1\n").split(':').next(),
+            Some("line 3")
+        );
+        let head = "k=2\nallowance=1\nlocations=0\ndepot=0\nlatest=\nround=1\n";
+        assert_eq!(Question::parse(head).unwrap().rounds, [[1]]);
+        assert_eq!(
+            fault(&format!("{head}rounds=2\n")),
+            "line 7: expected round="
+        );
+    }
+}

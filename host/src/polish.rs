@@ -1,0 +1,79 @@
+use crate::{raw, Refusal, Tables};
+
+/// How a search ended.
+#[derive(Clone, Copy, Debug, PartialEq, Eq)]
+pub enum Ending {
+    /// No choice of k cuts and no pattern gives a shorter route that keeps every deadline.
+    Finished,
+    /// The allowance was reached; the route keeps what was accepted.
+    Spent,
+}
+
+/// What polishing did.
+#[derive(Clone, Copy, Debug, PartialEq, Eq)]
+pub struct Polished {
+    /// Finished or spent.
+    pub ending: Ending,
+    /// Candidates examined, at most the allowance.
+    pub examined: u64,
+    /// Candidates accepted; 0 where the route is as handed in.
+    pub accepted: u64,
+    /// Seconds of the route handed in.
+    pub before: u64,
+    /// Seconds of the route handed back.
+    pub after: u64,
+}
+
+impl Polished {
+    /// Seconds saved.
+    pub fn saved(&self) -> u64 {
+        self.before.saturating_sub(self.after)
+    }
+}
+
+/// Polishes a route, examining at most `allowance` candidates. Refuses 1, 2, 3, 4, 5.
+///
+/// ```
+/// use mittenschist::{polish_route, Ending, Refusal, Tables};
+///
+/// let legs = [0, 5, 1, 1, 0, 5, 5, 1, 0];
+/// let tables = Tables { locations: 3, legs: &legs, latest: &[u32::MAX; 3] };
+/// let mut route = [1, 2];
+/// let polished = polish_route(3, 10, &tables, 0, &mut route)?;
+/// assert_eq!(polished.ending, Ending::Spent);
+/// assert_eq!((polished.saved(), route), (12, [2, 1]));
+///
+/// assert_eq!(polish_route(3, 10, &tables, 3, &mut route), Err(Refusal::UnknownStop));
+/// # Ok::<(), Refusal>(())
+/// ```
+pub fn polish_route(
+    k: usize,
+    allowance: u64,
+    tables: &Tables,
+    depot: u32,
+    route: &mut [u32],
+) -> Result<Polished, Refusal> {
+    let mut result = [0; 5];
+    Refusal::check(raw::polish_route(
+        k,
+        allowance,
+        tables.locations,
+        tables.legs,
+        tables.latest,
+        depot,
+        route,
+        &mut result,
+    ))?;
+    let [spent, examined, accepted, before, after] = result;
+    let ending = match spent {
+        0 => Ending::Finished,
+        _ => Ending::Spent,
+    };
+    Ok(Polished {
+        ending,
+        examined,
+        accepted,
+        before,
+        after,
+    })
+}

@@ -1,0 +1,165 @@
+//! A length of 0 may have a null pointer.
+
+use super::*;
+use std::ptr::{null, null_mut};
+
+const LEGS: [u32; 1] = [7];
+const LATEST: [u32; 1] = [0];
+
+// Each pointer below is null with a length of 0, or comes with the length of what it points to.
+
+#[test]
+fn polish_an_empty_route() {
+    let mut result = [9; 5];
+    // SAFETY: as said above.
+    let returned = unsafe {
+        mittenschist_polish_route(
+            2,
+            1,
+            1,
+            LEGS.as_ptr(),
+            1,
+            LATEST.as_ptr(),
+            1,
+            0,
+            null_mut(),
+            0,
+            result.as_mut_ptr(),
+            5,
+        )
+    };
+    assert_eq!((returned, result), (0, [0, 0, 0, 7, 7]));
+}
+
+#[test]
+fn polish_nothing() {
+    // SAFETY: as said above.
+    let polish = |k, locations| unsafe {
+        let (read, write) = (null(), null_mut());
+        mittenschist_polish_route(
+            k,
+            1,
+            locations,
+            read,
+            0,
+            read,
+            0,
+            0,
+            write,
+            0,
+            null_mut(),
+            0,
+        )
+    };
+    assert_eq!((polish(1, 0), polish(2, 0), polish(2, 1)), (1, 2, 2));
+}
+
+#[test]
+fn run_no_rounds() {
+    // SAFETY: as said above.
+    let returned = unsafe {
+        mittenschist_run_list_k_opt(
+            2,
+            1,
+            1,
+            LEGS.as_ptr(),
+            1,
+            LATEST.as_ptr(),
+            1,
+            null_mut(),
+            0,
+            null(),
+            0,
+            null(),
+            0,
+            null(),
+            0,
+            null_mut(),
+            0,
+        )
+    };
+    assert_eq!(returned, 0);
+}
+
+#[test]
+fn no_moves() {
+    let mut result = [9];
+    // SAFETY: as said above.
+    let returned = unsafe {
+        [
+            mittenschist_k_opt_do_move(2, 0, 0, null(), 0, null(), 0, null_mut(), 0, null_mut(), 0),
+            mittenschist_k_opt_undo_move(null_mut(), 0, null(), 0),
+            mittenschist_k_opt_is_doable(2, 0, 0, 0, null(), 0, null(), 0, result.as_mut_ptr(), 1),
+            mittenschist_k_opt_is_doable(2, 0, 0, 0, null(), 0, null(), 0, null_mut(), 0),
+        ]
+    };
+    assert_eq!((returned, result), ([7, 0, 0, 21], [0]));
+}
+
+#[test]
+fn list_no_positions() {
+    let (mut sets, mut result) = ([9; 2], [9; 2]);
+    // SAFETY: as said above.
+    let returned = unsafe {
+        [
+            mittenschist_nearby_cuts(
+                0,
+                null(),
+                0,
+                2,
+                1,
+                4,
+                sets.as_mut_ptr(),
+                2,
+                result.as_mut_ptr(),
+                2,
+            ),
+            mittenschist_nearby_cuts(0, null(), 0, 2, 1, 4, null_mut(), 0, null_mut(), 0),
+        ]
+    };
+    assert_eq!((returned, sets, result), ([0, 21], [9, 9], [0, 0]));
+}
+
+#[test]
+fn parts_of_nothing() {
+    // SAFETY: as said above.
+    let returned = unsafe {
+        [
+            mittenschist_reconnection_at(2, 0, null_mut(), 0),
+            mittenschist_next_cut_set(2, 0, null_mut(), 0, null_mut(), 0),
+            mittenschist_reconnect(2, 0, null(), 0, null(), 0, null_mut(), 0),
+            mittenschist_route_length(1, null(), 0, 0, null(), 0, null_mut(), 0),
+            mittenschist_delta(2, 0, null(), 0, 1, null(), 0, 0, null(), 0, null_mut(), 0),
+            mittenschist_route_feasible(1, null(), 0, null(), 0, 0, null(), 0, null_mut(), 0),
+        ]
+    };
+    assert_eq!(returned, [21, 7, 7, 2, 2, 2]);
+}
+
+#[test]
+fn an_empty_route_has_a_length_and_no_late_stop() {
+    let (legs, latest) = (LEGS.as_ptr(), LATEST.as_ptr());
+    let (mut length, mut late, mut change) = ([9], [9], [9]);
+    // SAFETY: as said above.
+    let returned = unsafe {
+        [
+            mittenschist_route_length(1, legs, 1, 0, null(), 0, length.as_mut_ptr(), 1),
+            mittenschist_route_feasible(1, legs, 1, latest, 1, 0, null(), 0, late.as_mut_ptr(), 1),
+            mittenschist_delta(
+                2,
+                0,
+                null(),
+                0,
+                1,
+                legs,
+                1,
+                0,
+                null(),
+                0,
+                change.as_mut_ptr(),
+                1,
+            ),
+        ]
+    };
+    assert_eq!((returned, length, late, change), ([0, 0, 7], [7], [0], [9]));
+}

@@ -1,0 +1,106 @@
+use crate::{raw, Refusal, Tables};
+
+/// More rounds than this are refused.
+const MOST_ROUNDS: usize = 64;
+
+/// The rounds of a run, held together. They are judged by the run.
+#[derive(Debug)]
+pub struct Rounds<'r> {
+    /// The stops of all rounds, end to end.
+    pub stops: &'r mut [u32],
+    /// How many stops each round has, at most 512.
+    pub lengths: &'r [usize],
+    /// The depot of each round.
+    pub depots: &'r [u32],
+    /// A byte for each round: 0 free, else pinned.
+    pub pins: &'r [u8],
+}
+
+/// What became of a round.
+#[derive(Clone, Copy, Debug, PartialEq, Eq)]
+pub enum RoundState {
+    /// The allowance was reached before it.
+    NotReached,
+    /// Pinned, so left alone.
+    Pinned,
+    /// Under 4 stops, so left alone.
+    Short,
+    /// Polished, and nothing was accepted.
+    Unchanged,
+    /// Polished, and something was accepted.
+    Changed,
+    /// The allowance was reached in it; its stops are as handed in.
+    Spent,
+}
+
+/// What the run did with a round.
+#[derive(Clone, Copy, Debug, PartialEq, Eq)]
+pub struct RoundReply {
+    /// What became of it.
+    pub state: RoundState,
+    /// Candidates examined.
+    pub examined: u64,
+    /// Candidates accepted.
+    pub accepted: u64,
+    /// `accepted` where the round was changed, else 0.
+    pub applied: u64,
+}
+
+impl RoundReply {
+    fn of(numbers: &[u64; 4]) -> Self {
+        let [state, examined, accepted, applied] = *numbers;
+        let state = match state {
+            0 => RoundState::NotReached,
+            1 => RoundState::Pinned,
+            2 => RoundState::Short,
+            3 => RoundState::Unchanged,
+            4 => RoundState::Changed,
+            _ => RoundState::Spent,
+        };
+        Self {
+            state,
+            examined,
+            accepted,
+            applied,
+        }
+    }
+}
+
+/// Polishes round after round under one allowance; with k = 2 by the pair loop, which only the allowance is promised to end.
+/// Refuses 1, 2, 3, 4, 5.
+///
+/// ```
+/// use mittenschist::{run_list_k_opt, RoundState, Rounds, Tables};
+///
+/// let legs = [0, 5, 1, 1, 0, 5, 5, 1, 0];
+/// let tables = Tables { locations: 3, legs: &legs, latest: &[u32::MAX; 3] };
+/// let mut stops = [1, 2, 1, 2, 1, 2];
+/// let rounds = Rounds { stops: &mut stops, lengths: &[2, 4], depots: &[0, 0], pins: &[0, 0] };
+/// let replies = run_list_k_opt(3, 1000, &tables, rounds)?;
+/// assert_eq!(replies[0].state, RoundState::Short);
+/// assert_eq!(replies[1].state, RoundState::Changed);
+/// assert_eq!(stops[..2], [1, 2]);
+/// # Ok::<(), mittenschist::Refusal>(())
+/// ```
+pub fn run_list_k_opt(
+    k: usize,
+    allowance: u64,
+    tables: &Tables,
+    rounds: Rounds,
+) -> Result<Vec<RoundReply>, Refusal> {
+    let mut result = [[0; 4]; MOST_ROUNDS];
+    Refusal::check(raw::run_list_k_opt(
+        k,
+        allowance,
+        tables.locations,
+        tables.legs,
+        tables.latest,
+        rounds.stops,
+        rounds.lengths,
+        rounds.depots,
+        rounds.pins,
+        result.as_flattened_mut(),
+    ))?;
+    let replies = result.iter().take(rounds.lengths.len());
+    Ok(replies.map(RoundReply::of).collect())
+}

@@ -1,0 +1,199 @@
+//! The runs of document 01, by the safe functions, with canaries around what is lent.
+
+#![forbid(unsafe_code)]
+
+mod support;
+
+use mittenschist::{
+    k_opt_do_move, k_opt_is_doable, k_opt_undo_move, nearby_cuts, next_cut_set, polish_route,
+    reconnection_at, route_length, run_list_k_opt, Ending, Polished, Refusal, RoundReply,
+    RoundState, Rounds, Tables,
+};
+use support::lent::Lent;
+use support::{kept, written};
+
+const NO_DEADLINE: u32 = u32::MAX;
+const TEXT_LEGS: [u32; 9] = [0, 5, 1, 1, 0, 5, 5, 1, 0];
+const PAIR_LEGS: [u32; 25] = [
+    0, 10, 1, 5, 1, 10, 0, 1, 1, 1, 1, 1, 0, 10, 10, 5, 1, 10, 0, 1, 1, 1, 10, 1, 0,
+];
+
+/// The text case: what polishing answers, and the route.
+fn text_case(k: usize, allowance: u64, latest_of_1: u32) -> (Polished, Vec<u64>) {
+    let latest = [NO_DEADLINE, latest_of_1, NO_DEADLINE];
+    let tables = Tables {
+        locations: 3,
+        legs: &TEXT_LEGS,
+        latest: &latest,
+    };
+    let mut route = Lent::new("route", &[1, 2]);
+    let polished = polish_route(k, allowance, &tables, 0, route.slice()).unwrap();
+    (polished, written(&route))
+}
+
+fn polished(ending: Ending, examined: u64, accepted: u64, after: u64) -> Polished {
+    Polished {
+        ending,
+        examined,
+        accepted,
+        before: 15,
+        after,
+    }
+}
+
+#[test]
+fn the_text_case() {
+    let changed = (polished(Ending::Finished, 11, 1, 3), vec![2, 1]);
+    let unchanged = (polished(Ending::Finished, 7, 0, 15), vec![1, 2]);
+    assert_eq!(text_case(3, 100, NO_DEADLINE), changed);
+    assert_eq!(text_case(3, 11, NO_DEADLINE), changed);
+    assert_eq!(text_case(3, u64::MAX, 2), changed);
+    assert_eq!(text_case(3, 100, 1), unchanged);
+}
+
+#[test]
+fn the_text_case_at_other_allowances_and_cuts() {
+    let spent = |examined, accepted, after| polished(Ending::Spent, examined, accepted, after);
+    assert_eq!(text_case(3, 10, NO_DEADLINE), (spent(10, 1, 3), vec![2, 1]));
+    assert_eq!(text_case(3, 3, NO_DEADLINE), (spent(3, 0, 15), vec![1, 2]));
+    let none = polished(Ending::Finished, 0, 0, 15);
+    assert_eq!(text_case(4, 0, NO_DEADLINE), (none, vec![1, 2]));
+}
+
+#[test]
+fn bounds() {
+    let tables = |legs: &'static [u32]| Tables {
+        locations: 1,
+        legs,
+        latest: &[0],
+    };
+    let polish = |legs, stops| polish_route(2, 5, &tables(legs), 0, &mut vec![0; stops]);
+    assert!(polish(&[1_000_000], 512).is_ok());
+    assert_eq!(polish(&[1_000_000], 513), Err(Refusal::RoundSize));
+    assert_eq!(polish(&[1_000_001], 513), Err(Refusal::LongLeg));
+    let longest = route_length(&tables(&[1_000_000]), 0, &[0; 512]);
+    assert_eq!(longest, Ok(513_000_000));
+}
+
+#[test]
+fn the_most_locations() {
+    let polish = |locations: usize| {
+        let legs = vec![1; locations * locations];
+        let latest = vec![NO_DEADLINE; locations];
+        let tables = Tables {
+            locations,
+            legs: &legs,
+            latest: &latest,
+        };
+        polish_route(5, 1000, &tables, 1023, &mut [1023, 0, 5, 7])
+    };
+    assert_eq!(polish(1024).map(|polished| polished.before), Ok(5));
+    assert_eq!(polish(1025), Err(Refusal::TableSize));
+}
+
+/// The pair case: what the run answers, and the stops.
+fn pair_case(allowance: u64) -> (Vec<RoundReply>, Vec<u64>) {
+    let latest = [NO_DEADLINE; 5];
+    let tables = Tables {
+        locations: 5,
+        legs: &PAIR_LEGS,
+        latest: &latest,
+    };
+    let mut stops = Lent::new("stops", &[1, 2, 3, 4]);
+    let rounds = Rounds {
+        stops: stops.slice(),
+        lengths: &[4],
+        depots: &[0],
+        pins: &[0],
+    };
+    let replies = run_list_k_opt(2, allowance, &tables, rounds).unwrap();
+    (replies, written(&stops))
+}
+
+#[test]
+fn the_pair_loop() {
+    let reply = |state, examined, accepted, applied| RoundReply {
+        state,
+        examined,
+        accepted,
+        applied,
+    };
+    let changed = reply(RoundState::Changed, 18, 3, 3);
+    assert_eq!(pair_case(100), (vec![changed], vec![2, 1, 3, 4]));
+    let spent = reply(RoundState::Spent, 17, 3, 0);
+    assert_eq!(pair_case(17), (vec![spent], vec![1, 2, 3, 4]));
+    let not_reached = reply(RoundState::NotReached, 0, 0, 0);
+    assert_eq!(pair_case(0), (vec![not_reached], vec![1, 2, 3, 4]));
+}
+
+#[test]
+fn patterns() {
+    let pattern = |k, index| reconnection_at(k, index).map(|found| (found.order, found.mask));
+    let three = (0..7).map(|index| pattern(3, index).unwrap());
+    let (kept, swapped) = (vec![0, 1, 2, 3], vec![0, 2, 1, 3]);
+    let masks = [(&kept, 2), (&kept, 4), (&kept, 6), (&swapped, 0)];
+    let more = [(&swapped, 2), (&swapped, 4), (&swapped, 6)];
+    let wanted = masks.into_iter().chain(more);
+    assert!(three.eq(wanted.map(|(order, mask)| (order.clone(), mask))));
+    assert_eq!(pattern(4, 7), Ok((vec![0, 1, 3, 2, 4], 0)));
+    assert_eq!(pattern(5, 382), Ok((vec![0, 4, 3, 2, 1, 5], 30)));
+    assert_eq!(pattern(5, 383), Err(Refusal::PatternIndex));
+}
+
+#[test]
+fn cut_sets_of_four_stops() {
+    for (k, count) in [(3, 10), (4, 5), (5, 1)] {
+        let first: Vec<usize> = (0..k).collect();
+        let mut cuts = Lent::new("cuts", &first);
+        let mut sets = 1;
+        while next_cut_set(k, 4, cuts.slice()).unwrap() {
+            sets += 1;
+        }
+        assert_eq!(sets, count);
+        assert_eq!(written(&cuts).last(), Some(&4));
+    }
+}
+
+fn listed(from_1_to_3: f64) -> Vec<u64> {
+    let mut distances = [2.0; 25];
+    distances[8] = from_1_to_3;
+    let mut sets = Lent::new("sets", &[0; 30]);
+    let listing = nearby_cuts(5, &distances, 3, 1, 4, sets.slice()).unwrap();
+    assert!(!listing.more);
+    written(&sets)[..3 * listing.sets].to_vec()
+}
+
+#[test]
+fn nearby() {
+    assert_eq!(listed(1.0), [1, 3, 4, 2, 3, 4]);
+    assert_eq!(listed(2.0), [1, 2, 3, 1, 2, 4, 1, 3, 4, 2, 3, 4]);
+}
+
+#[test]
+fn apply_and_undo() {
+    let mut route = Lent::new("route", &[11, 12, 13, 14]);
+    let mut journal = Lent::new("journal", &[9; 6]);
+    let rounds = [0, 0, 0];
+    let cuts = [1, 2, 4];
+    assert_eq!(k_opt_is_doable(3, 3, 0, 4, &rounds, &cuts), Ok(true));
+    k_opt_do_move(3, 3, 0, &rounds, &cuts, route.slice(), journal.slice()).unwrap();
+    assert_eq!(written(&route), [11, 13, 14, 12]);
+    assert_eq!(written(&journal), [11, 12, 13, 14, 9, 9]);
+    let undone = k_opt_undo_move(route.slice(), journal.slice());
+    assert_eq!(undone, Err(Refusal::JournalLength));
+    k_opt_undo_move(route.slice(), &journal.slice()[..4]).unwrap();
+    kept(&route);
+}
+
+#[test]
+fn unordered_cuts_that_name_another_round() {
+    let (mut route, mut journal) = ([11, 12, 13, 14], [0; 4]);
+    let mut apply = |cuts: [usize; 2]| {
+        let doable = k_opt_is_doable(2, 0, 0, 4, &[7, 0], &cuts).unwrap();
+        let applied = k_opt_do_move(2, 0, 0, &[7, 0], &cuts, &mut route, &mut journal);
+        (doable, applied)
+    };
+    assert_eq!(apply([3, 1]), (true, Err(Refusal::Cuts)));
+    assert_eq!(apply([1, 3]), (true, Err(Refusal::OtherRound)));
+    assert_eq!(apply([1, 5]), (false, Err(Refusal::Cuts)));
+}

@@ -1,0 +1,117 @@
+use crate::pools::{self, Tables};
+use crate::support::lent::{filled, Lent};
+use crate::support::rules::{bad_k, lowest, too_many_stops};
+use crate::support::{kept, kept_beyond, number, on_small_stack, written};
+use mittenschist::raw;
+
+struct Case<'c> {
+    k: usize,
+    allowance: u64,
+    tables: &'c Tables,
+    depot: u32,
+    route: &'c [u32],
+    room: usize,
+}
+
+impl Case<'_> {
+    fn refusal(&self, room: usize) -> u32 {
+        lowest(&[
+            (1, bad_k(self.k)),
+            (2, self.tables.bad_size()),
+            (3, self.tables.bad_leg()),
+            (4, self.tables.unknown(&[self.depot], self.route)),
+            (5, too_many_stops(self.route.len())),
+            (21, room < 5),
+        ])
+    }
+
+    fn check(&self) {
+        let before = filled(self.room);
+        let mut legs = Lent::new("legs", &self.tables.legs);
+        let mut latest = Lent::new("latest", &self.tables.latest);
+        let mut route = Lent::new("route", self.route);
+        let mut result = Lent::new("result", &before);
+        let returned = raw::polish_route(
+            self.k,
+            self.allowance,
+            self.tables.locations,
+            legs.slice(),
+            latest.slice(),
+            self.depot,
+            route.slice(),
+            result.slice(),
+        );
+        assert_eq!(returned, self.refusal(self.room));
+        kept(&legs);
+        kept(&latest);
+        if returned != 0 {
+            kept(&route);
+            return kept(&result);
+        }
+        kept_beyond(&result, &before, 5);
+        self.check_reply(&written(&result), &written(&route));
+    }
+
+    fn check_reply(&self, result: &[u64], route: &[u64]) {
+        assert!(result[0] < 2 && result[1] <= self.allowance && result[2] <= result[1]);
+        assert!(result[0] == 0 || result[1] == self.allowance);
+        assert_eq!(result[2] == 0, result[3] == result[4]);
+        assert!(result[4] <= result[3]);
+        let mut stops = route.to_vec();
+        let mut handed_in: Vec<u64> = self.route.iter().map(|&stop| u64::from(stop)).collect();
+        assert!(result[2] > 0 || stops == handed_in);
+        stops.sort_unstable();
+        handed_in.sort_unstable();
+        assert_eq!(stops, handed_in);
+    }
+
+    fn check_safe(&self) {
+        let mut route = Lent::new("route", self.route);
+        let (tables, depot) = (self.tables.lent(), self.depot);
+        let answer =
+            mittenschist::polish_route(self.k, self.allowance, &tables, depot, route.slice());
+        assert_eq!(number(answer), self.refusal(5));
+        match answer {
+            Ok(polished) => assert_eq!(polished.accepted == 0, polished.saved() == 0),
+            Err(_) => kept(&route),
+        }
+    }
+}
+
+fn every_route(k: usize, tables: &Tables) {
+    for route in &pools::routes() {
+        let allowance = if route.len() < 3 { u64::MAX } else { 9 };
+        for depot in pools::PLACES {
+            for (allowance, room) in [(allowance, 0), (0, 4), (0, 5), (1, 5), (allowance, 7)] {
+                let case = Case {
+                    k,
+                    allowance,
+                    tables,
+                    depot,
+                    route,
+                    room,
+                };
+                case.check();
+                case.check_safe();
+            }
+        }
+    }
+}
+
+fn every_call() {
+    for k in pools::CUT_COUNTS {
+        for tables in &pools::tables() {
+            every_route(k, tables);
+        }
+    }
+}
+
+#[test]
+fn numbers_in_order() {
+    every_call();
+}
+
+#[test]
+fn on_128_kib() {
+    on_small_stack(every_call);
+}

@@ -1,0 +1,112 @@
+//! What the calls are handed, some of it in range.
+
+use crate::support::rules::{LONGEST_LEG, MOST_LOCATIONS};
+
+pub const CUT_COUNTS: [usize; 8] = [0, 1, 2, 3, 4, 5, 6, usize::MAX];
+pub const PATTERNS: [usize; 7] = [0, 1, 7, 46, 382, 383, usize::MAX];
+pub const PLACES: [u32; 4] = [0, 2, 3, u32::MAX];
+pub const STOP_COUNTS: [usize; 7] = [0, 1, 4, 512, 513, 1 << 32, usize::MAX];
+
+pub struct Tables {
+    pub locations: usize,
+    pub legs: Vec<u32>,
+    pub latest: Vec<u32>,
+}
+
+impl Tables {
+    fn new(locations: usize, legs: &[u32], latest: &[u32]) -> Self {
+        Self {
+            locations,
+            legs: legs.to_vec(),
+            latest: latest.to_vec(),
+        }
+    }
+
+    pub fn lent(&self) -> mittenschist::Tables<'_> {
+        mittenschist::Tables {
+            locations: self.locations,
+            legs: &self.legs,
+            latest: &self.latest,
+        }
+    }
+
+    /// 2, of the legs alone.
+    pub fn bad_legs_size(&self) -> bool {
+        !(1..=MOST_LOCATIONS).contains(&self.locations)
+            || self.legs.len() != self.locations * self.locations
+    }
+
+    /// 2.
+    pub fn bad_size(&self) -> bool {
+        self.bad_legs_size() || self.latest.len() != self.locations
+    }
+
+    /// 3.
+    pub fn bad_leg(&self) -> bool {
+        self.legs.iter().any(|&leg| leg > LONGEST_LEG)
+    }
+
+    /// 4.
+    pub fn unknown(&self, depots: &[u32], stops: &[u32]) -> bool {
+        let unknown = |&place: &u32| place as usize >= self.locations;
+        depots.iter().chain(stops).any(unknown)
+    }
+}
+
+pub fn tables() -> Vec<Tables> {
+    let (no_deadline, long) = (u32::MAX, LONGEST_LEG + 1);
+    vec![
+        Tables::new(3, &[0, 5, 1, 1, 0, 5, 5, 1, 0], &[no_deadline; 3]),
+        Tables::new(3, &[LONGEST_LEG; 9], &[0, 0, no_deadline]),
+        Tables::new(1, &[7], &[0]),
+        Tables::new(0, &[], &[]),
+        Tables::new(0, &[0], &[0]),
+        Tables::new(3, &[], &[no_deadline; 3]),
+        Tables::new(3, &[0; 8], &[no_deadline; 3]),
+        Tables::new(3, &[0; 10], &[no_deadline; 3]),
+        Tables::new(3, &[0; 9], &[]),
+        Tables::new(3, &[0; 9], &[0; 2]),
+        Tables::new(3, &[0; 9], &[0; 4]),
+        Tables::new(3, &[0, 0, 0, 0, 0, 0, 0, 0, long], &[0; 3]),
+        Tables::new(3, &[u32::MAX; 9], &[0; 2]),
+        Tables::new(1024, &[], &[]),
+        Tables::new(1025, &[0], &[]),
+        Tables::new(1 << 32, &[], &[]),
+        Tables::new(1 << 63, &[], &[]),
+        Tables::new(usize::MAX, &[u32::MAX], &[0]),
+    ]
+}
+
+pub fn routes() -> Vec<Vec<u32>> {
+    let mut all = vec![
+        vec![],
+        vec![0],
+        vec![2, 1],
+        vec![3],
+        vec![1, u32::MAX],
+        vec![0; 512],
+        vec![0; 513],
+        vec![0; 600],
+    ];
+    all[7][599] = u32::MAX;
+    all
+}
+
+pub fn cuts() -> Vec<Vec<usize>> {
+    vec![
+        vec![],
+        vec![0],
+        vec![0, 1],
+        vec![1, 3],
+        vec![3, 1],
+        vec![1, 1],
+        vec![0, usize::MAX],
+        vec![usize::MAX; 2],
+        vec![0, 1, 2],
+        vec![0, 2, 512],
+        vec![0, 1, 2, 3],
+        vec![0, 1, 2, 3, 4],
+        vec![0, 1, 2, 3, 4, 5],
+        vec![7; 1000],
+    ]
+}

@@ -1,0 +1,177 @@
+use crate::pools::{self, Tables};
+use crate::support::lent::{filled, Lent};
+use crate::support::rules::{bad_k, lowest, MOST_ROUNDS, MOST_STOPS};
+use crate::support::{kept, kept_beyond, number, on_small_stack, written};
+use mittenschist::raw;
+
+struct Rounds {
+    stops: Vec<u32>,
+    lengths: Vec<usize>,
+    depots: Vec<u32>,
+    pins: Vec<u8>,
+}
+
+impl Rounds {
+    fn new(stops: &[u32], lengths: &[usize], depots: &[u32], pins: &[u8]) -> Self {
+        Self {
+            stops: stops.to_vec(),
+            lengths: lengths.to_vec(),
+            depots: depots.to_vec(),
+            pins: pins.to_vec(),
+        }
+    }
+
+    /// 5.
+    fn bad(&self) -> bool {
+        let rounds = self.lengths.len();
+        let whole: u128 = self.lengths.iter().map(|&length| length as u128).sum();
+        rounds > MOST_ROUNDS
+            || self.lengths.iter().any(|&length| length > MOST_STOPS)
+            || self.depots.len() != rounds
+            || self.pins.len() != rounds
+            || whole != self.stops.len() as u128
+    }
+}
+
+fn rounds() -> Vec<Rounds> {
+    let half = 1 << 63;
+    vec![
+        Rounds::new(&[], &[], &[], &[]),
+        Rounds::new(&[0; 4], &[4], &[0], &[0]),
+        Rounds::new(&[1, 2, 1, 2, 2], &[1, 4], &[0, 2], &[0, 0]),
+        Rounds::new(&[0; 8], &[4, 4], &[0, 0], &[200, 0]),
+        Rounds::new(&[0; 512], &[512], &[0], &[0]),
+        Rounds::new(&[0; 513], &[513], &[0], &[0]),
+        Rounds::new(&[], &[0; 64], &[0; 64], &[0; 64]),
+        Rounds::new(&[], &[0; 65], &[0; 65], &[0; 65]),
+        Rounds::new(&[], &[half, half], &[0, 0], &[0, 0]),
+        Rounds::new(&[], &[usize::MAX, 1], &[0, 0], &[0, 0]),
+        Rounds::new(&[0; 4], &[4], &[], &[0]),
+        Rounds::new(&[0; 4], &[4], &[0], &[]),
+        Rounds::new(&[0; 4], &[], &[0], &[0]),
+        Rounds::new(&[0; 4], &[5], &[0], &[0]),
+        Rounds::new(&[0, 99], &[1], &[0], &[0]),
+        Rounds::new(&[0; 4], &[4], &[u32::MAX], &[255]),
+        Rounds::new(&[], &[], &[99; 70], &[1; 70]),
+    ]
+}
+
+struct Case<'c> {
+    k: usize,
+    allowance: u64,
+    tables: &'c Tables,
+    rounds: &'c Rounds,
+    room: usize,
+}
+
+impl Case<'_> {
+    fn refusal(&self, room: usize) -> u32 {
+        let rounds = self.rounds;
+        lowest(&[
+            (1, bad_k(self.k)),
+            (2, self.tables.bad_size()),
+            (3, self.tables.bad_leg()),
+            (4, self.tables.unknown(&rounds.depots, &rounds.stops)),
+            (5, rounds.bad()),
+            (21, room < 4 * rounds.lengths.len()),
+        ])
+    }
+
+    fn check(&self) {
+        let before = filled(self.room);
+        let mut legs = Lent::new("legs", &self.tables.legs);
+        let mut latest = Lent::new("latest", &self.tables.latest);
+        let mut stops = Lent::new("stops", &self.rounds.stops);
+        let mut lengths = Lent::new("lengths", &self.rounds.lengths);
+        let mut depots = Lent::new("depots", &self.rounds.depots);
+        let mut pins = Lent::new("pins", &self.rounds.pins);
+        let mut result = Lent::new("result", &before);
+        let returned = raw::run_list_k_opt(
+            self.k,
+            self.allowance,
+            self.tables.locations,
+            legs.slice(),
+            latest.slice(),
+            stops.slice(),
+            lengths.slice(),
+            depots.slice(),
+            pins.slice(),
+            result.slice(),
+        );
+        assert_eq!(returned, self.refusal(self.room));
+        kept(&legs);
+        kept(&latest);
+        kept(&lengths);
+        kept(&depots);
+        kept(&pins);
+        if returned != 0 {
+            kept(&stops);
+            return kept(&result);
+        }
+        let places = 4 * self.rounds.lengths.len();
+        kept_beyond(&result, &before, places);
+        self.check_reply(&written(&result)[..places]);
+        written(&stops);
+    }
+
+    fn check_reply(&self, result: &[u64]) {
+        let examined: u64 = result.chunks(4).map(|round| round[1]).sum();
+        assert!(examined <= self.allowance);
+        for round in result.chunks(4) {
+            let applied = if round[0] == 4 { round[2] } else { 0 };
+            assert!(round[0] < 6 && round[3] == applied);
+        }
+    }
+
+    fn check_safe(&self) {
+        let mut stops = Lent::new("stops", &self.rounds.stops);
+        let rounds = mittenschist::Rounds {
+            stops: stops.slice(),
+            lengths: &self.rounds.lengths,
+            depots: &self.rounds.depots,
+            pins: &self.rounds.pins,
+        };
+        let tables = self.tables.lent();
+        let answer = mittenschist::run_list_k_opt(self.k, self.allowance, &tables, rounds);
+        if let Ok(replies) = &answer {
+            assert_eq!(replies.len(), self.rounds.lengths.len());
+        } else {
+            kept(&stops);
+        }
+        assert_eq!(number(answer), self.refusal(usize::MAX));
+        written(&stops);
+    }
+}
+
+fn every_call() {
+    for k in pools::CUT_COUNTS {
+        for tables in &pools::tables() {
+            for rounds in &rounds() {
+                let places = 4 * rounds.lengths.len();
+                for room in [0, places.saturating_sub(1), places, places + 3] {
+                    for allowance in [0, 1, 90] {
+                        let case = Case {
+                            k,
+                            allowance,
+                            tables,
+                            rounds,
+                            room,
+                        };
+                        case.check();
+                        case.check_safe();
+                    }
+                }
+            }
+        }
+    }
+}
+
+#[test]
+fn numbers_in_order() {
+    every_call();
+}
+
+#[test]
+fn on_128_kib() {
+    on_small_stack(every_call);
+}

@@ -1,0 +1,154 @@
+/* Mittenschist: a route polisher by k-opt in which every answer is proved. Link libmittenschist.a (`rt staticlib mittenschist`).
+ *
+ * Every function returns 0, or the number of a refusal. It takes any numbers and any contents, judges them first, and then refuses or works;
+ * every call ends. After a refusal all lent memory is as before. After 0, places beyond those that are said to be written are as before.
+ * No pointer is kept, nothing is allocated, and there is no state between calls, so that calls may run on several threads at once. A
+ * stack of 128 KiB suffices.
+ *
+ * A slice is a pointer and then a length, counted in elements, not bytes. A length of 0 may have a null pointer. Otherwise the pointer is
+ * aligned for its type and has that many initialised elements; and slices that are written overlap no other slice of the call. These
+ * two things cannot be seen from inside, and so cannot be refused.
+ *
+ * Words: a route or round has n stops, and begins and ends at a depot. Cut p lies before position p, so that cuts are 0 to n. k cuts
+ * make k + 1 segments, numbered from 0; a pattern says in which order they are put together, and which are reversed. There are 1, 7, 47,
+ * 383 patterns for k = 2, 3, 4, 5, with indices from 0.
+ */
+#ifndef MITTENSCHIST_H
+#define MITTENSCHIST_H
+
+#include <stddef.h>
+#include <stdint.h>
+
+#ifdef __cplusplus
+extern "C" {
+#endif
+
+/* Refusals. Where several apply, the lowest number is returned. With each function: those that it gives. */
+enum {
+    MITTENSCHIST_CUT_COUNT = 1,      /* k outside 2 to 5 */
+    MITTENSCHIST_TABLE_SIZE = 2,     /* locations outside 1 to 1,024; legs not locations x locations; latest not as many as locations */
+    MITTENSCHIST_LONG_LEG = 3,       /* a leg above 1,000,000 seconds */
+    MITTENSCHIST_UNKNOWN_STOP = 4,   /* a depot or stop not below the locations */
+    MITTENSCHIST_ROUND_SIZE = 5,     /* more than 512 stops; more than 64 rounds; lists of rounds whose sizes disagree */
+    MITTENSCHIST_PATTERN_INDEX = 6,  /* a pattern index not below the number of patterns for k */
+    MITTENSCHIST_CUTS = 7,           /* not k cuts, a cut above n, or cuts that do not rise strictly */
+    MITTENSCHIST_OTHER_ROUND = 8,    /* a cut that names another round */
+    MITTENSCHIST_NEARBY_INPUT = 9,   /* m outside 1 to 512, neighbours above 32, distances not n x n, or an entry that is no number */
+    MITTENSCHIST_ROOM = 21,          /* a lent result, list of sets, buffer or journal that is too short */
+    MITTENSCHIST_JOURNAL_LENGTH = 22 /* undo: a journal not as long as the route */
+};
+
+/* ---- The four of document 01 ---- */
+
+/* Polishes a route: cuts it at k places, puts it together by each pattern in turn, keeps the first result that is shorter and keeps every
+ * deadline, and begins again; until none is left (finished) or `allowance` candidates have been examined (spent). With 0 for finished it
+ * is proved that no choice of k cuts and no pattern gives a shorter route that keeps every deadline.
+ *   legs    read     locations x locations seconds, row = from
+ *   latest  read     for each location its latest second; 4294967295 where none is in force
+ *   depot            a location
+ *   route   written  the stops, at most 512, which may repeat and may be the depot; as before where nothing was accepted
+ *   result  written  5 places: 0 finished or 1 spent, candidates examined, candidates accepted, length before, length after
+ * Refuses 1, 2, 3, 4, 5, 21 (result under 5 places). */
+uint32_t mittenschist_polish_route(size_t k, uint64_t allowance, size_t locations,
+    const uint32_t *legs, size_t legs_len, const uint32_t *latest, size_t latest_len, uint32_t depot,
+    uint32_t *route, size_t route_len, uint64_t *result, size_t result_len);
+
+/* Polishes rounds one after the other under one allowance; for k = 2 by the pair loop, which only the allowance is promised to end and
+ * which can end longer than it began. A spent round is put back as handed in, and the run stops.
+ *   legs, latest     as above
+ *   stops   written  the stops of all rounds, end to end; as before but for the rounds that changed
+ *   lengths read     for each round the number of its stops
+ *   depots  read     for each round its depot
+ *   pins    read     for each round a byte: 0 free, else pinned
+ *   result  written  4 places a round: state, candidates examined, candidates accepted, candidates applied. The state is 0 not reached,
+ *                    1 pinned, 2 under 4 stops, 3 unchanged, 4 changed, 5 spent; applied is what was accepted in state 4, else 0
+ * Every depot and every stop is judged, whichever round holds it. Refuses 1, 2, 3, 4, 5, 21 (result under 4 places a round). */
+uint32_t mittenschist_run_list_k_opt(size_t k, uint64_t allowance, size_t locations,
+    const uint32_t *legs, size_t legs_len, const uint32_t *latest, size_t latest_len,
+    uint32_t *stops, size_t stops_len, const size_t *lengths, size_t lengths_len,
+    const uint32_t *depots, size_t depots_len, const uint8_t *pins, size_t pins_len,
+    uint64_t *result, size_t result_len);
+
+/* Applies a pattern at k cuts of round number `round`, whose stops are `route`. A cut is a round number and a position.
+ *   rounds    read     the round number of each cut
+ *   positions read     the position of each cut
+ *   route     written  at most 512 stops, any numbers
+ *   journal   written  the old stops in its first n places
+ * Refuses 1, 5, 6, 7 (also where the two lists are not equally long), 8, 21 (journal under n places). */
+uint32_t mittenschist_k_opt_do_move(size_t k, size_t pattern, size_t round,
+    const size_t *rounds, size_t rounds_len, const size_t *positions, size_t positions_len,
+    uint32_t *route, size_t route_len, uint32_t *journal, size_t journal_len);
+
+/* Puts the stops of a journal back. The journal must have n places: of a longer one, hand in the first n.
+ *   route   written  at most 512 stops
+ *   journal read
+ * Refuses 5 (of the route alone), 22. */
+uint32_t mittenschist_k_opt_undo_move(uint32_t *route, size_t route_len, const uint32_t *journal, size_t journal_len);
+
+/* ---- The others ---- */
+
+/* Whether the cuts suit a round of n stops: k of them, none above n, rising. It passes unordered cuts if one names another round.
+ *   rounds, positions  read     as for do_move; lists that are not equally long are answered with no
+ *   result             written  1 place: 1 yes or 0 no
+ * Refuses 1, 5, 6, 21. */
+uint32_t mittenschist_k_opt_is_doable(size_t k, size_t pattern, size_t round, size_t n,
+    const size_t *rounds, size_t rounds_len, const size_t *positions, size_t positions_len,
+    uint64_t *result, size_t result_len);
+
+/* Lists cut sets by nearness, k places each, until no whole set fits any more.
+ *   n                   positions, at most 512
+ *   distances  read     n x n, row = from; infinities are numbers
+ *   m                   stops in the shortest segment, 1 to 512
+ *   neighbours          how many of the nearest positions are tried from a cut, 0 to 32
+ *   sets       written  the sets, end to end
+ *   result     written  2 places: sets written, then 0 ended or 1 more
+ * Refuses 1, 5, 9, 21 (sets under k places, also where there is no set; result under 2). */
+uint32_t mittenschist_nearby_cuts(size_t n, const double *distances, size_t distances_len, size_t k, size_t m, size_t neighbours,
+    size_t *sets, size_t sets_len, uint64_t *result, size_t result_len);
+
+/* The pattern with an index.
+ *   result  written  k + 2 places: k + 1 segment numbers in their order, then the mask, of which bit i reverses segment i
+ * Refuses 1, 6, 21. */
+uint32_t mittenschist_reconnection_at(size_t k, size_t pattern, uint64_t *result, size_t result_len);
+
+/* Moves k cuts of a route of n stops on to the next set. The first is 0, 1 .. k - 1; they follow in dictionary order.
+ *   cuts    written  k cuts; as before where there is no next set
+ *   result  written  1 place: 1 moved, or 0 the last
+ * Refuses 1, 5, 7, 21. */
+uint32_t mittenschist_next_cut_set(size_t k, size_t n, size_t *cuts, size_t cuts_len, uint64_t *result, size_t result_len);
+
+/* The route after a move.
+ *   cuts   read     k cuts
+ *   route  read     at most 512 stops, any numbers
+ *   out    written  its first n places
+ * Refuses 1, 5, 6, 7, 21 (out under n places). */
+uint32_t mittenschist_reconnect(size_t k, size_t pattern, const size_t *cuts, size_t cuts_len,
+    const uint32_t *route, size_t route_len, uint32_t *out, size_t out_len);
+
+/* The length of a route in seconds, from the depot back to it.
+ *   legs, depot, route  read     as for polishing
+ *   result              written  1 place: the length
+ * Refuses 2 (of locations and legs), 3, 4, 5, 21. */
+uint32_t mittenschist_route_length(size_t locations, const uint32_t *legs, size_t legs_len, uint32_t depot,
+    const uint32_t *route, size_t route_len, uint64_t *result, size_t result_len);
+
+/* The length of a route after a move minus its length before.
+ *   cuts, legs, depot, route  read
+ *   result                    written  1 place: the difference
+ * Refuses 1, 2 (of locations and legs), 3, 4, 5, 6, 7, 21. */
+uint32_t mittenschist_delta(size_t k, size_t pattern, const size_t *cuts, size_t cuts_len,
+    size_t locations, const uint32_t *legs, size_t legs_len, uint32_t depot,
+    const uint32_t *route, size_t route_len, int64_t *result, size_t result_len);
+
+/* Whether a route keeps every deadline.
+ *   legs, latest, depot, route  read     as for polishing
+ *   result                      written  1 place: the position of a late stop (which one is free), or n where none is late
+ * Refuses 2, 3, 4, 5, 21. */
+uint32_t mittenschist_route_feasible(size_t locations, const uint32_t *legs, size_t legs_len, const uint32_t *latest, size_t latest_len,
+    uint32_t depot, const uint32_t *route, size_t route_len, uint64_t *result, size_t result_len);
+
+#ifdef __cplusplus
+}
+#endif
+
+#endif
