@@ -6,13 +6,15 @@ mod damage;
 mod generate;
 pub mod planted;
 mod short;
+mod stretches;
 
 use crate::trial::{Family, Source};
 
 const CALL: &str = "polish_route";
 
-pub const FAMILIES: [Family; 5] = [
+pub const FAMILIES: [Family; 6] = [
     Family::new(CALL, "polish/short", Source::Each(short::each)),
+    Family::new(CALL, "polish/stretches", Source::Each(stretches::each)),
     Family::new(CALL, "polish/bounds", Source::Each(bounds::each)).on_small_stack(),
     Family::new(CALL, "polish/random", Source::Drawn(500, 0, generate::draw)),
     Family::new(
