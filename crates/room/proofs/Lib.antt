@@ -1,2 +1,4 @@
 pub mod Bound
 pub mod Once
+pub mod Shared
+pub mod Cost
