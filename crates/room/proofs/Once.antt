@@ -15,7 +15,7 @@ use Rattle.theory.proofs.Delta.{straight}
 use Rattle.theory.proofs.Orders.{in-range}
 use Rattle.joints.specs.States.{state-of}
 use Rattle.room.specs.Bound.{chain-by, next-state, class}
-use Rattle.room.proofs.Bound.{Still, Without, Once, Moving}
+use Rattle.room.proofs.Bound.{Before, Without, Once, Moving, before-still}
 
 -- ---- padding
 
@@ -118,16 +118,16 @@ once-row k mask o h once =
 -- ---- the standing row
 
 module _ {p : ℕ} {F J : ℕ → ℕ → ℕ} {legs tail last : ℕ} {out back : ℕ → ℕ} (m : Moving p F J legs tail last out back) where
-  standing-from : (a i n : ℕ) → Still p a → 1 ≤ i → p ≡ 2 * (i + n - 1) → chain-by J a (map (state-of 0) (upfrom i (suc n))) ≡ chain-by F a (map (state-of 0) (upfrom i (suc n))) + legs + last
+  standing-from : (a i n : ℕ) → Before p a → 1 ≤ i → p ≡ 2 * (i + n - 1) → chain-by J a (map (state-of 0) (upfrom i (suc n))) ≡ chain-by F a (map (state-of 0) (upfrom i (suc n))) + legs + last
   unfolding chain-by upfrom state-of
   standing-from a i zero s h e =
       let here : 2 * (i - 1) + 0 ≡ p = omega arith in
       rw (straight i, here) (omega (arith, m .into a s, m .at-last))
   standing-from a i (suc n) s h e =
-      rw (straight i) (omega (arith, m .others a (2 * (i - 1) + 0) s (omega arith), standing-from (2 * (i - 1) + 0) (suc i) n (inl (omega arith)) (omega arith) (omega arith)))
+      rw (straight i) (omega (arith, m .others a (2 * (i - 1) + 0) (before-still s) (omega arith), standing-from (2 * (i - 1) + 0) (suc i) n (inl (omega arith)) (omega arith) (omega arith)))
 
   -- The standing row costs what it costs in F, with the legs inside P and the leg to the tail.
   pub standing-costs : (k : ℕ) → 2 ≤ k → p ≡ 2 * (k - 1 - 1) → chain-by J 9 (map (state-of 0) (upfrom 1 (k - 1))) ≡ chain-by F 9 (map (state-of 0) (upfrom 1 (k - 1))) + legs + last
   standing-costs k h e =
       let n : k - 1 ≡ suc (k - 1 - 1) = omega arith in
-      rw n (standing-from 9 1 (k - 1 - 1) (inr (inl refl)) (omega arith) (omega arith))
+      rw n (standing-from 9 1 (k - 1 - 1) (inr refl) (omega arith) (omega arith))

@@ -19,7 +19,7 @@ use Rattle.joints.specs.States.{placed-in}
 use Rattle.joints.proofs.States.{halves}
 use Rattle.joints.proofs.Ends.{part-slice, entry-at, exit-at}
 use Rattle.room.specs.Bound.{exit-of, joint-by, fixed-by, opened, last-state}
-use Rattle.room.proofs.Bound.{Still, Moving}
+use Rattle.room.proofs.Bound.{Before, After, Still, Moving, before-still, after-still}
 
 -- ---- another last cut
 
@@ -137,7 +137,7 @@ module _ (P : Problem) (r pre : List ℕ) (some : 1 ≤ length pre) (c : ℕ) (c
   no-legs = ap (inner d) (P-is r pre some (suc q) first-set false p (omega arith)) ∙ unfold reverse-if in one-stop d r q (omega (arith, ends .0, ends .1))
 
   -- What the last cut adds.
-  pub moving : (tail : ℕ) → ((a : ℕ) → Still (last-state pre) a → tail ≤ P .leg (exit-of (placed-in (opened pre) r) (head-end P r (opened pre)) a) (tail-start P r (pre ++ (c ∷ [])))) →
+  pub moving : (tail : ℕ) → ((a : ℕ) → After (last-state pre) a → tail ≤ P .leg (exit-of (placed-in (opened pre) r) (head-end P r (opened pre)) a) (tail-start P r (pre ++ (c ∷ [])))) →
       Moving (last-state pre) (fixed-by (P .leg) (placed-in (opened pre) r) (last-state pre) (head-end P r (opened pre)))
       (joint-by (P .leg) (placed-in (pre ++ (c ∷ [])) r) (head-end P r (pre ++ (c ∷ []))) (tail-start P r (pre ++ (c ∷ []))))
       (inner (P .leg) (placed-in (pre ++ (c ∷ [])) r (last-state pre))) tail (P .leg (getD r (c - 1) 0) (tail-start P r (pre ++ (c ∷ []))))
@@ -148,13 +148,13 @@ module _ (P : Problem) (r pre : List ℕ) (some : 1 ≤ length pre) (c : ℕ) (c
         others = λ a b s l.
             rw (ne-eqb b 8 (λ (e : b ≡ 8). omega (arith, small)), le-ltb p b (omega arith), ne-eqb a p (not-P a s), same-exit a s, same-part b l);
         into = λ a s.
-            rw (ne-eqb p 8 (λ (e : p ≡ 8). omega (arith, small)), le-ltb p p (omega arith), ne-eqb a p (not-P a s), same-exit a s, P-entry r pre some c cut-set, P-entry r pre some (suc q) first-set, no-legs)
+            rw (ne-eqb p 8 (λ (e : p ≡ 8). omega (arith, small)), le-ltb p p (omega arith), ne-eqb a p (not-P a (before-still s)), same-exit a (before-still s), P-entry r pre some c cut-set, P-entry r pre some (suc q) first-set, no-legs)
             (omega arith);
         turned = λ a s.
-            rw (ne-eqb (suc p) 8 (λ (e : suc p ≡ 8). omega (arith, small)), lt-ltb p (suc p) (omega arith), same-exit a s, back-entry r pre some c cut-set) (omega arith);
+            rw (ne-eqb (suc p) 8 (λ (e : suc p ≡ 8). omega (arith, small)), lt-ltb p (suc p) (omega arith), same-exit a (before-still s), back-entry r pre some c cut-set) (omega arith);
         onward = λ b l.
             rw (ne-eqb b 8 (λ (e : b ≡ 8). omega (arith, small)), le-ltb p b (omega arith), eq-eqb p p refl, ne-eqb p 9 (λ (e : p ≡ 9). omega (arith, small)), P-exit r pre some c cut-set, same-part b l) (omega arith);
-        ending = λ a s. rw (lt-ltb p 8 (omega (arith, small)), same-exit a s) (omega (arith, least a s));
+        ending = λ a s. rw (lt-ltb p 8 (omega (arith, small)), same-exit a (after-still s)) (omega (arith, least a s));
         at-last = rw (lt-ltb p 8 (omega (arith, small)), ne-eqb p 9 (λ (e : p ≡ 9). omega (arith, small)), P-exit r pre some c cut-set) (omega arith);
       }
     where
