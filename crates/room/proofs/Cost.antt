@@ -50,9 +50,12 @@ module _ (P : Problem) (cs r : List ℕ) (cut-set : CutSet (length cs) (length r
           let u = Memᴰ·of-map (state-of mask) o m in
           rw (← (u .2)) (state-below (length cs) mask (u .0) (within (u .0) (u .1) .0) (omega (arith, within (u .0) (u .1) .1)))
 
-  pub no-shorter : (order : List ℕ) (mask : ℕ) (f : ForK (length cs) order mask) → cost-by (map (state-of 0) (upfrom 1 (length cs - 1))) ≤ cost-by (map (state-of mask) (f .middle)) →
+  pub no-shorter : (k : ℕ) (many : length cs ≡ k) (order : List ℕ) (mask : ℕ) (f : ForK k order mask) → cost-by (map (state-of 0) (upfrom 1 (k - 1))) ≤ cost-by (map (state-of mask) (f .middle)) →
       ltb (tour-length P (reconnected (record { cuts = cs; pattern = record { order = order; mask = mask } }) r)) (tour-length P r) ≡ false
-  no-shorter order mask f h =
-      let e : length cs ≡ suc (length cs - 1) = omega (arith, cut-set .least) in
-      shorter-through P cs r (length cs) (length cs - 1) (record { order = order; mask = mask }) (for-k-shape (length cs) (length cs - 1) order mask e f) e (cut-set .rising) e
-      ∙ le-ltb _ _ (rw (order-through 0 (upfrom 1 (length cs - 1)) (λ g. refl), order-through mask (f .middle) (f .once)) at h)
+  no-shorter k many order mask f h =
+      let e : k ≡ suc (k - 1) = omega (arith, many, cut-set .least) in
+      let same : k - 1 ≡ length cs - 1 = omega (arith, many) in
+      let once : (g : ℕ → ℕ) → total g (f .middle) ≡ total g (upfrom 1 (length cs - 1)) = λ g. f .once g ∙ ap (λ n. total g (upfrom 1 n)) same in
+      let h′ : cost-by (map (state-of 0) (upfrom 1 (length cs - 1))) ≤ cost-by (map (state-of mask) (f .middle)) = rw same at h in
+      shorter-through P cs r (length cs) (k - 1) (record { order = order; mask = mask }) (for-k-shape k (k - 1) order mask e f) (many ∙ e) (cut-set .rising) (many ∙ e)
+      ∙ le-ltb _ _ (rw (order-through 0 (upfrom 1 (length cs - 1)) (λ g. refl), order-through mask (f .middle) once) at h′)

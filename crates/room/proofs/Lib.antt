@@ -2,3 +2,4 @@ pub mod Bound
 pub mod Once
 pub mod Shared
 pub mod Cost
+pub mod NoGain
