@@ -1,39 +1,37 @@
+-- `room::fill_fixed` meets its contract: the rows of the states before P, of P reversed and of the head are the table. Assumes nothing.
+use mathlib.Core.Path.{refl}
+use Rattle.room.proofs.Filling.{row-fits, whole}
 use native.Mathlib.Omega.{arith}
 use borrow.Author.Needs.{needs}
 use Rattle.room.proofs.fill_fixed.Statement.{statement}
 use Rattle.room.proofs.fill_fixed.Tie as tie
-use Rattle.room.proofs.fill_fixed.Reads as reads
-use Rattle.room.proofs.fill_fixed.Lts as lts
-use Rattle.room.proofs.fill_fixed_row.Reads as fill-fixed-row-reads
-use Rattle.room.proofs.fill_fixed_rows.Reads as fill-fixed-rows-reads
 
--- src/lib.rt:161:5
 fill-fixed-rows-requires : tie.Need-fill-fixed-rows-requires
 fill-fixed-rows-requires c κs = search needs
 
--- src/lib.rt:162:16
 add-back : tie.Need-add-back
 add-back c = search needs
 
--- src/lib.rt:163:37
 mul-fill-fixed-row : tie.Need-mul-fill-fixed-row
 mul-fill-fixed-row c = search needs
 
--- src/lib.rt:163:37
 element-copy-out-fill-fixed-row : tie.Need-element-copy-out-fill-fixed-row
 element-copy-out-fill-fixed-row c = search needs
 
--- src/lib.rt:163:5
 fill-fixed-row-requires : tie.Need-fill-fixed-row-requires
-fill-fixed-row-requires c κs = search needs
+fill-fixed-row-requires c κs =
+    let s = c .before .before .before .before .before in
+    row-fits (s .pre) _ _ (s .pre .exits-known _ (omega arith)) (omega (arith, s .pre .last)) (λ q. omega (arith, s .pre .last)) (c .before .before .fill-fixed-rows .ensures .padded)
 
--- src/lib.rt:164:5
 fill-fixed-row-requires-2 : tie.Need-fill-fixed-row-requires-2
-fill-fixed-row-requires-2 c κs = search needs
+fill-fixed-row-requires-2 c κs =
+    let s = c .before .before .before .before .before .before .before in
+    row-fits (s .pre) _ 9 (s .pre .head-known) (omega arith) (λ q. omega arith) (c .before .fill-fixed-row .ensures .padded)
 
--- src/lib.rt:148:1
 returns : tie.Need-returns
-returns c = search needs
+returns c =
+    let s = c .before .before .before .before .before .before .before .before in
+    whole (s .pre) _ refl (c .before .before .before .before .before .fill-fixed-rows .ensures) (c .before .before .fill-fixed-row .ensures) (c .fill-fixed-row2 .ensures)
 
 pub fill-fixed-spec : {M : Type 1} → statement M
 fill-fixed-spec =
