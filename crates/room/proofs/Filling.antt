@@ -95,7 +95,12 @@ module _ {locations : ℕ} {legs : List ℕ} {head p : ℕ} {entries exits insid
 
   pub whole : {t₁ t₂ t₃ : List ℕ} (from : ℕ) → from ≡ getD exits (p + 1) 0 → FixedRows locations legs head p entries exits inside p t₁ → FixedRow locations legs from (p + 1) entries inside (p + 1) t₁ t₂ →
       FixedRow locations legs head (p + 1) entries inside 9 t₂ t₃ → FixedTable locations legs head p entries exits inside t₃
-  whole {t₁} {t₂} {t₃} from e w f g = record { padded = g .padded; filled = λ a b k h. by a b h k }
+  whole {t₁} {t₂} {t₃} from e w f g =
+      record {
+        padded = g .padded;
+        filled = λ a b k h. by a b h k;
+        blank = λ a b k l h. g .others (16 * a + b) (inl (omega arith)) ∙ f .others (16 * a + b) (inr (omega (arith, given .last))) ∙ w .blank (16 * a + b) (omega arith);
+      }
     where
       early : (a b : ℕ) → a < p + 2 → b < 16 → cell t₃ a b ≡ cell t₂ a b
       early a b l h = g .others (16 * a + b) (inl (omega (arith, given .last)))

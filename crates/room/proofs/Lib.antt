@@ -5,3 +5,4 @@ pub mod Cost
 pub mod NoGain
 pub mod Classes
 pub mod Filling
+pub mod Keeping

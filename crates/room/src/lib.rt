@@ -5,7 +5,7 @@ ghost use mathlib.Core.List.{[], _∷_};
 ghost use Prim.Native.Nat.{ℕ, _+_, _^_, _<_, _≤_};
 ghost use lib.ListN.{length, getD};
 ghost use Rattle.joints.specs.States.{row};
-ghost use Rattle.room.specs.Filling.{Lowered, FourStates, ClassIs, RowAt, Lowable, LowOf, FixedRowFits, FixedRow, Fixable, FixedRows, FixedTable};
+ghost use Rattle.room.specs.Filling.{Lowered, FourStates, ClassIs, RowAt, Lowable, LowOf, FixedRowFits, FixedRow, Fixable, FixedRows, FixedTable, Keepable, KeptNow};
 
 // The lesser of two.
 fn least(a: u64, b: u64) -> u64
@@ -162,4 +162,41 @@ fn fill_fixed(
     let back = p + 1;
     fill_fixed_row(locations, legs, exits[back], back, entries, inside, back, table);
     fill_fixed_row(locations, legs, head, back, entries, inside, 9, table);
+}
+
+// What the cut sets with these first cuts share: the ends of the states before P, the least cost of each class, and the standing cost.
+fn fill_kept(
+    locations: usize,
+    legs: &[u32],
+    depot: u32,
+    route: &[u32],
+    forward: &[u64; 512],
+    backward: &[u64; 512],
+    cuts: &[usize],
+    rows: &[u8; 1532],
+    count: usize,
+    entries: &mut [u32; 8],
+    exits: &mut [u32; 8],
+    inside: &mut [u64; 8],
+    low: &mut [u64; 21],
+)
+    requires { ⌜ Keepable locations (now legs) depot (now route) (now forward) (now backward) (now cuts) (now rows) count (now entries) (now exits) (now inside) (now low) ⌝ }
+    ensures { λ _. ⌜ KeptNow locations (now (legs .entry)) depot (now (route .entry)) (now (cuts .entry)) (now (rows .entry)) count (now (entries .exit)) (now (exits .exit)) (now (inside .exit)) (now (low .exit)) ⌝ }
+{
+    let mut table = [0u64; 160];
+    let p = 2 * (cuts.len() - 2);
+    joints::fill_ends(
+        route,
+        forward,
+        backward,
+        cuts,
+        entries,
+        exits,
+        inside,
+    );
+    let head = costs::head_end(depot, route, cuts);
+    fill_fixed(locations, legs, head, p, entries, exits, inside, &mut table);
+    clear_low(low);
+    fill_low(rows, count, p, &table, low);
+    low[20] = joints::standing_cost(&table, cuts.len());
 }
