@@ -6,3 +6,5 @@ pub mod NoGain
 pub mod Classes
 pub mod Filling
 pub mod Keeping
+pub mod Minima
+pub mod Testing

@@ -1,3 +1,4 @@
 pub mod Bound
 pub mod Room
 pub mod Filling
+pub mod Tests

@@ -1,11 +1,15 @@
 // The cut sets that leave no room for a gain: all cut sets with the same first k - 1 cuts share one table of what their last cut does not move, and from it
 // each class of patterns has a least cost. No entry: crate polishing calls it.
 ghost use mathlib.Core.Path.{_≡_};
+ghost use mathlib.Core.Bool.{cond};
 ghost use mathlib.Core.List.{[], _∷_};
 ghost use Prim.Native.Nat.{ℕ, _+_, _^_, _<_, _≤_};
+ghost use lib.Dec.{ltb};
 ghost use lib.ListN.{length, getD};
 ghost use Rattle.joints.specs.States.{row};
 ghost use Rattle.room.specs.Filling.{Lowered, FourStates, ClassIs, RowAt, Lowable, LowOf, FixedRowFits, FixedRow, Fixable, FixedRows, FixedTable, Keepable, KeptNow};
+ghost use Rattle.room.specs.Tests.{IntoFits, LeastInto, OutFits, LeastOut, Testable, Tested};
+ghost use Rattle.room.specs.Room.{Passable, Passed, PassedOver};
 
 // The lesser of two.
 fn least(a: u64, b: u64) -> u64
@@ -199,4 +203,99 @@ fn fill_kept(
     clear_low(low);
     fill_low(rows, count, p, &table, low);
     low[20] = joints::standing_cost(&table, cuts.len());
+}
+
+// The least of what follows P, as it stands and left at the stop `from`: a state before P, with the least cost of its class.
+fn least_into(
+    locations: usize,
+    legs: &[u32],
+    from: u32,
+    entries: &[u32; 8],
+    inside: &[u64; 8],
+    low: &[u64; 21],
+    p: usize,
+) -> u64
+    requires { ⌜ IntoFits locations (now legs) from (now entries) (now inside) (now low) p ⌝ }
+    ensures { λ r. ⌜ LeastInto locations (now (legs .entry)) from (now (entries .entry)) (now (inside .entry)) (now (low .entry)) p r ⌝ }
+{
+    let mut best = 17592186044416u64;
+    let mut w = 0;
+    while w < p {
+        let way = costs::route_distance(locations, legs, from, entries[w]) + inside[w];
+        best = least(best, low[w] + way);
+        w += 1;
+    }
+    best
+}
+
+// The least of `start` and of what leads from a state before P to the stop `to`.
+fn least_out(
+    locations: usize,
+    legs: &[u32],
+    exits: &[u32; 8],
+    to: u32,
+    add: &[u64; 21],
+    start: u64,
+    p: usize,
+) -> u64
+    requires { ⌜ OutFits locations (now legs) (now exits) to (now add) start p ⌝ }
+    ensures { λ r. ⌜ LeastOut locations (now (legs .entry)) (now (exits .entry)) to (now (add .entry)) start p r ⌝ }
+{
+    let mut best = start;
+    let mut u = 0;
+    while u < p {
+        let way = costs::route_distance(locations, legs, exits[u], to);
+        best = least(best, add[10 + u] + way);
+        u += 1;
+    }
+    best
+}
+
+// Where the tail starts after last cut c.
+fn tail_at(depot: u32, route: &[u32], c: usize) -> u32
+    ensures { λ r. ⌜ r ≡ cond (ltb c (length (now (route .entry)))) (getD (now (route .entry)) c 0) depot ⌝ }
+{
+    if c < route.len() {
+        return route[c];
+    }
+    depot
+}
+
+// Whether a pattern may gain at last cut c: the tests bound from below what every pattern costs, by its class.
+fn has_room(
+    locations: usize,
+    legs: &[u32],
+    depot: u32,
+    route: &[u32],
+    forward: &[u64; 512],
+    backward: &[u64; 512],
+    cuts: &[usize],
+    head: u32,
+    entries: &[u32; 8],
+    exits: &[u32; 8],
+    inside: &[u64; 8],
+    low: &[u64; 21],
+    zero: &[u64; 21],
+    c: usize,
+) -> bool
+    requires { ⌜ Testable locations (now legs) depot (now route) (now forward) (now backward) (now cuts) head (now entries) (now exits) (now inside) (now low) (now zero) c ⌝ }
+    ensures { λ r. ⌜ Tested locations (now (legs .entry)) depot (now (route .entry)) (now (cuts .entry)) (now (entries .entry)) (now (exits .entry)) (now (inside .entry)) (now (low .entry)) c r ⌝ }
+{
+    if low[8] < low[20] {
+        return true;
+    }
+    let p = 2 * (cuts.len() - 2);
+    let start = cuts[cuts.len() - 2];
+    let x = route[c - 1];
+    let y = tail_at(depot, route, c);
+    let here = low[20] + costs::route_distance(locations, legs, x, y);
+    let back = costs::route_distance(locations, legs, route[start], y);
+    let tail = least_out(locations, legs, exits, y, zero, back, p);
+    let straight = least_into(locations, legs, x, entries, inside, low, p);
+    if straight + tail < here {
+        return true;
+    }
+    let after_head = low[19] + costs::route_distance(locations, legs, head, x);
+    let turned = least_out(locations, legs, exits, x, low, after_head, p);
+    turned + tail + backward[c - 1] + forward[start] < here + forward[c - 1] + backward[start]
 }
