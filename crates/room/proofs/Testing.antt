@@ -6,14 +6,14 @@ use mathlib.Core.List.{List, [], _∷_, _++_}
 use Prim.Native.Nat.{ℕ, zero, suc, _+_, _-_, _*_, _/_, _%_, _^_, _≤_, _<_}
 use native.Mathlib.Omega.{arith}
 use native.Mathlib.Decide.{decLt}
-use borrow.Author.Tests.{eq-eqb, ne-eqb, lt-ltb, le-ltb}
+use borrow.Author.Tests.{eq-eqb, ne-eqb, lt-ltb, le-ltb, ltb-false}
 use lib.Dec.{eqb, ltb}
 use lib.ListN.{length, getD, take, replicate, length-append}
 use lib.Seq.{slice, getD-at}
 use Rattle.theory.specs.Route.{segments, reverse-if}
 use Rattle.theory.specs.Costs.{last-of, first-of, inner}
 use Rattle.theory.specs.Tables.{legs-only, CutSet}
-use Rattle.costs.specs.RouteCosts.{leg, RouteCosts, head-end, tail-start}
+use Rattle.costs.specs.RouteCosts.{leg, Spanned, span, RouteCosts, head-end, tail-start}
 use Rattle.costs.proofs.Placing as Placing
 use Rattle.costs.proofs.Segments.{tail-filled, tail-empty}
 use Rattle.joints.specs.States.{placed-in}
@@ -118,17 +118,21 @@ module _ {locations : ℕ} {legs : List ℕ} {depot : ℕ} {r forwards backwards
     backward-P : getD backwards (getD cuts (length cuts - 2) 0) 0 + inner (leg locations legs) (placed-in (first-cuts cuts ++ (c ∷ [])) r (suc (last-state (first-cuts cuts)))) ≡ getD backwards (c - 1) 0
     backward-P = let z : last-state (first-cuts cuts) + 1 ≡ suc (last-state (first-cuts cuts)) = omega arith in rw z at (inside-P true)
 
-    pub sums-small : (getD forwards (c - 1) 0 ≤ 1000000 * 512) × (getD backwards (c - 1) 0 ≤ 1000000 * 512)
-    sums-small =
-        let n : c - 1 < length r = omega (arith, two-last .0) in
-        let m = cut .cut-set .short in
-        (omega (arith, cut .forwards .small (c - 1) n), omega (arith, cut .backwards .small (c - 1) n))
+    pub spanned : (b : Bool) → Spanned (cond b backwards forwards) (getD cuts (length cuts - 2) 0) c
+    spanned b = Placing.inner-asked costs-of b (getD cuts (length cuts - 2) 0) c (omega (arith, two-last .0)) l
 
-  pub start-small : (getD forwards (getD cuts (length cuts - 2) 0) 0 ≤ 1000000 * 512) × (getD backwards (getD cuts (length cuts - 2) 0) 0 ≤ 1000000 * 512)
-  start-small =
+    pub span-small : (b : Bool) → span (cond b backwards forwards) (getD cuts (length cuts - 2) 0) c ≤ 511 * 1000000
+    span-small b = Placing.inner-small costs-of b (getD cuts (length cuts - 2) 0) c (omega (arith, two-last .0)) l
+
+    pub stops-known : (c - 1 < length r) × (getD r (c - 1) 0 < locations)
+    stops-known =
+        let n : c - 1 < length r = omega (arith, two-last .0) in
+        (n, cut .measurable .stops .known (c - 1) n)
+
+  pub start-known : (getD cuts (length cuts - 2) 0 < length r) × (getD r (getD cuts (length cuts - 2) 0) 0 < locations)
+  start-known =
       let n : getD cuts (length cuts - 2) 0 < length r = omega (arith, two-last .0, two-last .1) in
-      let m = cut .cut-set .short in
-      (omega (arith, cut .forwards .small (getD cuts (length cuts - 2) 0) n), omega (arith, cut .backwards .small (getD cuts (length cuts - 2) 0) n))
+      (n, cut .measurable .stops .known _ n)
 
 -- ---- what the minima ask
 
@@ -179,7 +183,8 @@ module _ {locations : ℕ} {legs : List ℕ} {depot : ℕ} {r forwards backwards
       (tail-least : LeastOut locations legs exits y zeros back (2 * (length cuts - 2)) tail) (straight-least : LeastInto locations legs x entries inside low (2 * (length cuts - 2)) straight)
       (after-is : after-head ≡ getD low 19 0 + leg locations legs head x) (turned-least : LeastOut locations legs exits x low after-head (2 * (length cuts - 2)) turned)
       (no-last : getD low 20 0 ≤ getD low 8 0) (no-straight : here ≤ straight + tail)
-      (no-turned : here + getD forwards (c - 1) 0 + getD backwards (getD cuts (length cuts - 2) 0) 0 ≤ turned + tail + getD backwards (c - 1) 0 + getD forwards (getD cuts (length cuts - 2) 0) 0) where
+      (on off : ℕ) (on-is : on ≡ span forwards (getD cuts (length cuts - 2) 0) c) (off-is : off ≡ span backwards (getD cuts (length cuts - 2) 0) c)
+      (no-turned : ltb (turned + tail + off) (here + on) ≡ false) where
     y-tail : y ≡ tail-start (legs-only locations legs depot) r (first-cuts cuts ++ (c ∷ []))
     y-tail = y-is ∙ tail-is (given .cut) c (given .least) (given .most)
 
@@ -211,10 +216,10 @@ module _ {locations : ℕ} {legs : List ℕ} {depot : ℕ} {r forwards backwards
             ≤ getD low (10 + u) 0 + (leg locations legs (exit-of (placed-in (opened (first-cuts cuts)) r) (head-end (legs-only locations legs depot) r (opened (first-cuts cuts))) u) (getD r (c - 1) 0) + inner (leg locations legs) (placed-in (first-cuts cuts ++ (c ∷ [])) r (suc (last-state (first-cuts cuts))))) + tail
         by u (inl h) =
             rw (← y-tail, ← x-is, ← (exit-at u h))
-            (omega (arith, here-is, no-turned, turned-least .below u (omega (arith, state-is (given .cut))), forward-P (given .cut) c (given .least) (given .most), backward-P (given .cut) c (given .least) (given .most)))
+            (omega (arith, here-is, on-is, off-is, ltb-false (turned + tail + off) (here + on) no-turned, turned-least .below u (omega (arith, state-is (given .cut))), forward-P (given .cut) c (given .least) (given .most), backward-P (given .cut) c (given .least) (given .most)))
         by u (inr e) =
             rw (e, ← y-tail, ← x-is, ← (head-same (given .cut)), ← (given .head-is))
-            (omega (arith, here-is, no-turned, turned-least .start-above, after-is, forward-P (given .cut) c (given .least) (given .most), backward-P (given .cut) c (given .least) (given .most)))
+            (omega (arith, here-is, on-is, off-is, ltb-false (turned + tail + off) (here + on) no-turned, turned-least .start-above, after-is, forward-P (given .cut) c (given .least) (given .most), backward-P (given .cut) c (given .least) (given .most)))
 
     pub gains-none : (rows : List ℕ) (count : ℕ) → Kept locations legs depot r (first-cuts cuts) rows count entries exits inside low → NoGain locations legs depot r (first-cuts cuts) rows count c
     gains-none rows count kept = no-gain kept (some (given .cut)) c (other (given .cut) c (given .least) (given .most)) tail tail-below room-none

@@ -297,5 +297,6 @@ fn has_room(
     }
     let after_head = low[19] + costs::route_distance(locations, legs, head, x);
     let turned = least_out(locations, legs, exits, x, low, after_head, p);
-    turned + tail + backward[c - 1] + forward[start] < here + forward[c - 1] + backward[start]
+    let on = costs::inner(forward, start, c);
+    turned + tail + costs::inner(backward, start, c) < here + on
 }
