@@ -20,8 +20,9 @@ use Rattle.joints.specs.States.{placed-in}
 use Rattle.joints.specs.JointTable.{Joinable}
 use Rattle.joints.proofs.Ends.{inside-is, inside-small, entry-known, exit-known, head-below}
 use Rattle.room.specs.Bound.{exit-of, opened, last-state}
-use Rattle.room.specs.Room.{Cut, Kept, NoGain, first-cuts, last-cut}
-use Rattle.room.specs.Tests.{LeastInto, LeastOut, IntoFits, OutFits, Testable, Tested}
+use Rattle.room.specs.Room.{Cut, Kept, NoGain, Opened, Passable, PassedOver, first-cuts, last-cut}
+use Rattle.room.specs.Tests.{LeastInto, LeastOut, IntoFits, OutFits, Testable, Tested, Nextable, NextRoom}
+use Rattle.room.specs.Filling.{Keepable, KeptNow}
 use Rattle.room.proofs.Bound.{Before, After, NoRoom}
 use Rattle.room.proofs.Shared.{other-cut, last-two, same-head, P-is, back-exit, first-set}
 use Rattle.room.proofs.NoGain.{no-gain}
@@ -223,3 +224,70 @@ module _ {locations : ℕ} {legs : List ℕ} {depot : ℕ} {r forwards backwards
 
     pub gains-none : (rows : List ℕ) (count : ℕ) → Kept locations legs depot r (first-cuts cuts) rows count entries exits inside low → NoGain locations legs depot r (first-cuts cuts) rows count c
     gains-none rows count kept = no-gain kept (some (given .cut)) c (other (given .cut) c (given .least) (given .most)) tail tail-below room-none
+
+-- ---- from last cut to last cut
+
+module _ {locations : ℕ} {legs : List ℕ} {depot : ℕ} {r forwards backwards cuts entries exits inside low : List ℕ}
+    (given : Nextable locations legs depot r forwards backwards cuts entries exits inside low) where
+  pub none-passed : NextRoom locations legs depot r cuts entries exits inside low (last-cut cuts)
+  none-passed = record { least = omega arith; most = omega (arith, two-last (given .cut) .1); idle = λ c h k. absurd (omega arith) }
+
+  pub one-passed : {c : ℕ} {b : Bool} → c ≤ length r → NextRoom locations legs depot r cuts entries exits inside low c → Tested locations legs depot r cuts entries exits inside low c b → b ≡ false →
+      NextRoom locations legs depot r cuts entries exits inside low (c + 1)
+  one-passed {c} {b} l w t e =
+      record {
+        least = omega (arith, w .least);
+        most = omega arith;
+        idle = λ x h k rows count kept. by x h k rows count kept (decLt x c);
+      }
+    where
+      by : (x : ℕ) → last-cut cuts ≤ x → x < c + 1 → (rows : List ℕ) (count : ℕ) → Kept locations legs depot r (first-cuts cuts) rows count entries exits inside low → Dec (x < c) →
+          NoGain locations legs depot r (first-cuts cuts) rows count x
+      by x h k rows count kept (yes m) = w .idle x h m rows count kept
+      by x h k rows count kept (no m) = let q : x ≡ c = omega arith in rw q (t e rows count kept)
+
+zero-at : (n c : ℕ) → _≡_ {A = ℕ} (getD (replicate n 0) c 0) 0
+zero-at zero c = refl
+zero-at (suc n) zero = refl
+zero-at (suc n) (suc c) = zero-at n c
+
+pub testable : {locations : ℕ} {legs : List ℕ} {depot : ℕ} {r forwards backwards cuts entries exits inside low : List ℕ} {head c : ℕ} →
+    Nextable locations legs depot r forwards backwards cuts entries exits inside low → head ≡ head-end (legs-only locations legs depot) r cuts → last-cut cuts ≤ c → c ≤ length r →
+    Testable locations legs depot r forwards backwards cuts head entries exits inside low (replicate 21 0) c
+testable g e h l =
+    record { cut = g .cut; head-is = e; places = g .places; kept = g .kept; zero-places = refl; zero-is = zero-at 21; least = h; most = l }
+
+-- ---- kept or filled anew
+
+module _ {locations : ℕ} {legs : List ℕ} {depot : ℕ} {r forwards backwards cuts rows : List ℕ} {count : ℕ} {entries exits inside low : List ℕ}
+    (given : Passable locations legs depot r forwards backwards cuts rows count entries exits inside low) where
+  pub start-small : getD cuts (length cuts - 2) 0 ≤ 512
+  start-small = omega (arith, start-known (given .cut) .0, given .cut .cut-set .short)
+
+  pub still-kept : (last-cut cuts ≡ getD cuts (length cuts - 2) 0 + 1 → ⊥) → KeptNow locations legs depot r cuts rows count entries exits inside low
+  still-kept n = record { places = given .places; kept = by (given .kept) }
+    where
+      by : Opened cuts ⊎ Kept locations legs depot r (first-cuts cuts) rows count entries exits inside low → Kept locations legs depot r (first-cuts cuts) rows count entries exits inside low
+      by (inl o) = absurd (n (omega (arith, o)))
+      by (inr k) = k
+
+  pub fills : last-cut cuts ≡ getD cuts (length cuts - 2) 0 + 1 → Keepable locations legs depot r forwards backwards cuts rows count entries exits inside low
+  fills e = record { cut = given .cut; rows-fit = given .rows-fit; places = given .places; first = omega (arith, e) }
+
+  module _ {entries′ exits′ inside′ low′ : List ℕ} (now-kept : KeptNow locations legs depot r cuts rows count entries′ exits′ inside′ low′) where
+    pub nextable : Nextable locations legs depot r forwards backwards cuts entries′ exits′ inside′ low′
+    nextable =
+        let k = now-kept .kept in
+        record {
+          cut = given .cut;
+          places = now-kept .places;
+          kept = record { entry = k .entry; exit = k .exit; within = k .within; standing = k .standing; least = λ i h. absurd (omega arith) };
+        }
+
+    pub passes-over : {c : ℕ} → NextRoom locations legs depot r cuts entries′ exits′ inside′ low′ c → PassedOver locations legs depot r cuts rows count c entries′ exits′ inside′ low′
+    passes-over w =
+        record {
+          passed = record { least = w .least; most = w .most; idle = λ c h l. w .idle c h l rows count (now-kept .kept) };
+          places = now-kept .places;
+          kept = now-kept .kept;
+        }

@@ -8,8 +8,8 @@ ghost use lib.Dec.{ltb};
 ghost use lib.ListN.{length, getD};
 ghost use Rattle.joints.specs.States.{row};
 ghost use Rattle.room.specs.Filling.{Lowered, FourStates, ClassIs, RowAt, Lowable, LowOf, FixedRowFits, FixedRow, Fixable, FixedRows, FixedTable, Keepable, KeptNow};
-ghost use Rattle.room.specs.Tests.{IntoFits, LeastInto, OutFits, LeastOut, Testable, Tested};
-ghost use Rattle.room.specs.Room.{Passable, Passed, PassedOver};
+ghost use Rattle.room.specs.Tests.{IntoFits, LeastInto, OutFits, LeastOut, Testable, Tested, Nextable, NextRoom};
+ghost use Rattle.room.specs.Room.{Passable, PassedOver};
 
 // The lesser of two.
 fn least(a: u64, b: u64) -> u64
@@ -164,7 +164,16 @@ fn fill_fixed(
 {
     fill_fixed_rows(locations, legs, head, p, entries, exits, inside, table);
     let back = p + 1;
-    fill_fixed_row(locations, legs, exits[back], back, entries, inside, back, table);
+    fill_fixed_row(
+        locations,
+        legs,
+        exits[back],
+        back,
+        entries,
+        inside,
+        back,
+        table,
+    );
     fill_fixed_row(locations, legs, head, back, entries, inside, 9, table);
 }
 
@@ -189,15 +198,7 @@ fn fill_kept(
 {
     let mut table = [0u64; 160];
     let p = 2 * (cuts.len() - 2);
-    joints::fill_ends(
-        route,
-        forward,
-        backward,
-        cuts,
-        entries,
-        exits,
-        inside,
-    );
+    joints::fill_ends(route, forward, backward, cuts, entries, exits, inside);
     let head = costs::head_end(depot, route, cuts);
     fill_fixed(locations, legs, head, p, entries, exits, inside, &mut table);
     clear_low(low);
@@ -299,4 +300,137 @@ fn has_room(
     let turned = least_out(locations, legs, exits, x, low, after_head, p);
     let on = costs::inner(forward, start, c);
     turned + tail + costs::inner(backward, start, c) < here + on
+}
+
+// From the last cut on, with the same first cuts, the first last cut that has room, or one beyond the route.
+fn next_room(
+    locations: usize,
+    legs: &[u32],
+    depot: u32,
+    route: &[u32],
+    forward: &[u64; 512],
+    backward: &[u64; 512],
+    cuts: &[usize],
+    entries: &[u32; 8],
+    exits: &[u32; 8],
+    inside: &[u64; 8],
+    low: &[u64; 21],
+) -> usize
+    requires { ⌜ Nextable locations (now legs) depot (now route) (now forward) (now backward) (now cuts) (now entries) (now exits) (now inside) (now low) ⌝ }
+    ensures { λ r. ⌜ NextRoom locations (now (legs .entry)) depot (now (route .entry)) (now (cuts .entry)) (now (entries .entry)) (now (exits .entry)) (now (inside .entry)) (now (low .entry)) r ⌝ }
+{
+    let zero = [0u64; 21];
+    let head = costs::head_end(depot, route, cuts);
+    let mut c = cuts[cuts.len() - 1];
+    while c <= route.len() {
+        if has_room(
+            locations,
+            legs,
+            depot,
+            route,
+            forward,
+            backward,
+            cuts,
+            head,
+            entries,
+            exits,
+            inside,
+            low,
+            &zero,
+            c,
+        ) {
+            return c;
+        }
+        c += 1;
+    }
+    c
+}
+
+// Fills what is kept anew at the first cut set with its first cuts.
+fn renew(
+    locations: usize,
+    legs: &[u32],
+    depot: u32,
+    route: &[u32],
+    forward: &[u64; 512],
+    backward: &[u64; 512],
+    cuts: &[usize],
+    rows: &[u8; 1532],
+    count: usize,
+    entries: &mut [u32; 8],
+    exits: &mut [u32; 8],
+    inside: &mut [u64; 8],
+    low: &mut [u64; 21],
+)
+    requires { ⌜ Passable locations (now legs) depot (now route) (now forward) (now backward) (now cuts) (now rows) count (now entries) (now exits) (now inside) (now low) ⌝ }
+    ensures { λ _. ⌜ KeptNow locations (now (legs .entry)) depot (now (route .entry)) (now (cuts .entry)) (now (rows .entry)) count (now (entries .exit)) (now (exits .exit)) (now (inside .exit)) (now (low .exit)) ⌝ }
+{
+    let k = cuts.len();
+    if cuts[k - 1] != cuts[k - 2] + 1 {
+        return;
+    }
+    fill_kept(
+        locations,
+        legs,
+        depot,
+        route,
+        forward,
+        backward,
+        cuts,
+        rows,
+        count,
+        entries,
+        exits,
+        inside,
+        low,
+    );
+}
+
+// Passes over last cuts without room, the first cuts being the same: the first last cut that has room, or one beyond the route.
+pub fn pass_over(
+    locations: usize,
+    legs: &[u32],
+    depot: u32,
+    route: &[u32],
+    forward: &[u64; 512],
+    backward: &[u64; 512],
+    cuts: &[usize],
+    rows: &[u8; 1532],
+    count: usize,
+    entries: &mut [u32; 8],
+    exits: &mut [u32; 8],
+    inside: &mut [u64; 8],
+    low: &mut [u64; 21],
+) -> usize
+    requires { ⌜ Passable locations (now legs) depot (now route) (now forward) (now backward) (now cuts) (now rows) count (now entries) (now exits) (now inside) (now low) ⌝ }
+    ensures { λ r. ⌜ PassedOver locations (now (legs .entry)) depot (now (route .entry)) (now (cuts .entry)) (now (rows .entry)) count r (now (entries .exit)) (now (exits .exit)) (now (inside .exit)) (now (low .exit)) ⌝ }
+{
+    renew(
+        locations,
+        legs,
+        depot,
+        route,
+        forward,
+        backward,
+        cuts,
+        rows,
+        count,
+        entries,
+        exits,
+        inside,
+        low,
+    );
+    next_room(
+        locations,
+        legs,
+        depot,
+        route,
+        forward,
+        backward,
+        cuts,
+        entries,
+        exits,
+        inside,
+        low,
+    )
 }
