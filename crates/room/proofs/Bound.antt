@@ -7,7 +7,7 @@ use native.Mathlib.Omega.{arith}
 use borrow.Author.Tests.{eq-eqb, ne-eqb}
 use lib.Dec.{eqb}
 use lib.ListN.{replicate}
-use Rattle.room.specs.Bound.{chain-by, next-state, class}
+use Rattle.shared.specs.Bound.{chain-by, next-state, class}
 
 -- The states that are left at a stop which the last cut does not move: what may come before P is another state or the head; what comes to the tail, unless P
 -- does as it stands, is another state or P reversed.

@@ -17,7 +17,7 @@ use Rattle.costs.specs.RouteCosts.{head-end, tail-start}
 use Rattle.joints.specs.States.{state-count, state-of, placed-in}
 use Rattle.joints.proofs.States.{state-below, placed-states}
 use Rattle.joints.proofs.Chain.{first-any, last-any, full-part, shorter-through}
-use Rattle.room.specs.Bound.{chain-by, exit-of, joint-by}
+use Rattle.shared.specs.Bound.{chain-by, exit-of, joint-by}
 
 -- A row's cost is the way through its parts.
 module _ (d : ℕ → ℕ → ℕ) (part : ℕ → List ℕ) (count head tail : ℕ) (few : count ≤ 8) (full : (s : ℕ) → s < count → 0 < length (part s)) where

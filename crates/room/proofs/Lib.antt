@@ -3,8 +3,5 @@ pub mod Once
 pub mod Shared
 pub mod Cost
 pub mod NoGain
-pub mod Classes
-pub mod Filling
-pub mod Keeping
 pub mod Minima
 pub mod Testing

@@ -13,10 +13,12 @@ use Rattle.theory.specs.Tables.{problem, legs-only, CutSet, ForK}
 use Rattle.costs.specs.RouteCosts.{leg, head-end, tail-start}
 use Rattle.costs.proofs.Orders.{middle-is}
 use Rattle.joints.specs.States.{state-of, states, standing-row, row, placed-in}
-use Rattle.room.specs.Bound.{chain-by, class, exit-of, fixed-by, opened, last-state}
-use Rattle.room.specs.Room.{NoGain, shared, Kept}
+use Rattle.shared.specs.Bound.{chain-by, class, exit-of, fixed-by, opened, last-state}
+use Rattle.shared.specs.Kept.{shared, Kept}
+use Rattle.room.specs.Room.{NoGain}
 use Rattle.room.proofs.Bound.{After, Once, NoRoom, row-costs}
-use Rattle.room.proofs.Once.{chain-padded, class-padded, once-row, standing-costs}
+use Rattle.shared.proofs.Padding.{chain-padded}
+use Rattle.room.proofs.Once.{class-padded, once-row, standing-costs}
 use Rattle.room.proofs.Shared.{moving}
 use Rattle.room.proofs.Cost.{no-shorter}
 

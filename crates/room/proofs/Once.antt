@@ -14,22 +14,10 @@ use Rattle.theory.specs.Route.{reverses}
 use Rattle.theory.proofs.Delta.{straight}
 use Rattle.theory.proofs.Orders.{in-range}
 use Rattle.joints.specs.States.{state-of}
-use Rattle.room.specs.Bound.{chain-by, next-state, class}
+use Rattle.shared.specs.Bound.{chain-by, next-state, class}
 use Rattle.room.proofs.Bound.{Before, Without, Once, Moving, before-still}
 
 -- ---- padding
-
-module _ (t : ℕ → ℕ → ℕ) (z : t 8 8 ≡ 0) where
-  tail-padded : (n : ℕ) → chain-by t 8 (replicate n 8) ≡ 0
-  unfolding chain-by
-  tail-padded zero = z
-  tail-padded (suc n) = omega (arith, z, tail-padded n)
-
-  pub chain-padded : (a n : ℕ) (bs : List ℕ) → chain-by t a (bs ++ replicate n 8) ≡ chain-by t a bs
-  unfolding chain-by
-  chain-padded a zero [] = refl
-  chain-padded a (suc n) [] = omega (arith, tail-padded n)
-  chain-padded a n (b ∷ bs) = ap (λ x. t a b + x) (chain-padded b n bs)
 
 next-padded : (n : ℕ) (bs : List ℕ) → next-state (bs ++ replicate n 8) ≡ next-state bs
 next-padded zero [] = refl

@@ -18,7 +18,7 @@ use Rattle.costs.specs.RouteCosts.{head-end, tail-start}
 use Rattle.joints.specs.States.{placed-in}
 use Rattle.joints.proofs.States.{halves}
 use Rattle.joints.proofs.Ends.{part-slice, entry-at, exit-at}
-use Rattle.room.specs.Bound.{exit-of, joint-by, fixed-by, opened, last-state}
+use Rattle.shared.specs.Bound.{exit-of, joint-by, fixed-by, opened, last-state}
 use Rattle.room.proofs.Bound.{Before, After, Still, Moving, before-still, after-still}
 
 -- ---- another last cut

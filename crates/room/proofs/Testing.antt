@@ -19,14 +19,15 @@ use Rattle.costs.proofs.Segments.{tail-filled, tail-empty}
 use Rattle.joints.specs.States.{placed-in}
 use Rattle.joints.specs.JointTable.{Joinable}
 use Rattle.joints.proofs.Ends.{inside-is, inside-small, entry-known, exit-known, head-below}
-use Rattle.room.specs.Bound.{exit-of, opened, last-state}
-use Rattle.room.specs.Room.{Cut, Kept, NoGain, Opened, Passable, PassedOver, first-cuts, last-cut}
+use Rattle.shared.specs.Bound.{exit-of, opened, last-state}
+use Rattle.shared.specs.Kept.{Cut, Kept, Opened, first-cuts, last-cut}
+use Rattle.room.specs.Room.{NoGain, Passable, PassedOver}
 use Rattle.room.specs.Tests.{LeastInto, LeastOut, IntoFits, OutFits, Testable, Tested, Nextable, NextRoom}
-use Rattle.room.specs.Filling.{Keepable, KeptNow}
+use Rattle.shared.specs.Filling.{Keepable, KeptNow}
 use Rattle.room.proofs.Bound.{Before, After, NoRoom}
 use Rattle.room.proofs.Shared.{other-cut, last-two, same-head, P-is, back-exit, first-set}
 use Rattle.room.proofs.NoGain.{no-gain}
-use Rattle.room.proofs.Keeping.{cuts-parted, first-many, first-at, no-cells}
+use Rattle.shared.proofs.Keeping.{cuts-parted, first-many, first-at, no-cells}
 
 module _ {locations : ℕ} {legs : List ℕ} {depot : ℕ} {r forwards backwards cuts : List ℕ} (cut : Cut locations legs depot r forwards backwards cuts) where
   abbrev pub pre : List ℕ

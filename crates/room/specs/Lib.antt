@@ -1,4 +1,2 @@
-pub mod Bound
 pub mod Room
-pub mod Filling
 pub mod Tests

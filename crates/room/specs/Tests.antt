@@ -6,7 +6,8 @@ use Prim.Native.Nat.{ℕ, _+_, _-_, _*_, _^_, _≤_, _<_}
 use lib.ListN.{length, getD}
 use Rattle.theory.specs.Tables.{legs-only, LegTable}
 use Rattle.costs.specs.RouteCosts.{leg, head-end}
-use Rattle.room.specs.Room.{Cut, Kept, Places, NoGain, first-cuts, last-cut}
+use Rattle.shared.specs.Kept.{Cut, Kept, Places, first-cuts, last-cut}
+use Rattle.room.specs.Room.{NoGain}
 
 -- The states before P, to be entered from a known stop.
 pub record IntoFits (locations : ℕ) (legs : List ℕ) (from : ℕ) (entries inside low : List ℕ) (p : ℕ) : Type 0 where

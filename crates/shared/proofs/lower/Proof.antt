@@ -1,9 +1,9 @@
--- `room::lower` meets its contract. Assumes nothing.
-use Rattle.room.proofs.Classes.{kept-low, stored-low}
+-- `shared::lower` meets its contract. Assumes nothing.
+use Rattle.shared.proofs.Classes.{kept-low, stored-low}
 use native.Mathlib.Omega.{arith}
 use borrow.Author.Needs.{needs}
-use Rattle.room.proofs.lower.Statement.{statement}
-use Rattle.room.proofs.lower.Tie as tie
+use Rattle.shared.proofs.lower.Statement.{statement}
+use Rattle.shared.proofs.lower.Tie as tie
 
 mul-if1 : tie.Need-mul-if1
 mul-if1 c = search needs

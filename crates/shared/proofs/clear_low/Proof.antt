@@ -1,12 +1,12 @@
--- `room::clear_low` meets its contract. The invariant: the places below c hold no more than 2 ^ 40. Assumes nothing.
+-- `shared::clear_low` meets its contract. The invariant: the places below c hold no more than 2 ^ 40. Assumes nothing.
 use mathlib.Core.Path.{_≡_, _∙_}
 use Prim.Native.Nat.{ℕ, _-_, _^_, _≤_, _<_}
 use lib.ListN.{length, getD, length-set}
-use Rattle.room.proofs.Classes.{below-set, all-below}
+use Rattle.shared.proofs.Classes.{below-set, all-below}
 use native.Mathlib.Omega.{arith}
 use borrow.Author.Needs.{needs}
-use Rattle.room.proofs.clear_low.Statement.{statement}
-use Rattle.room.proofs.clear_low.Tie as tie
+use Rattle.shared.proofs.clear_low.Statement.{statement}
+use Rattle.shared.proofs.clear_low.Tie as tie
 
 abbrev Inv-loop : tie.InvT-loop
 Inv-loop low₀ c₀ low c = (length low ≡ 21) × ((x : ℕ) → x < c → getD low x 0 ≤ 2 ^ 40)

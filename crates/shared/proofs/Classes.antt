@@ -14,9 +14,9 @@ use native.Mathlib.Decide.{ℕ-discrete, decLt}
 use Rattle.joints.specs.States.{row}
 use Rattle.joints.specs.JointTable.{chain, Chainable}
 use Rattle.joints.proofs.Rows.{set-small, row-read}
-use Rattle.room.specs.Bound.{next-state, class}
-use Rattle.room.specs.Room.{RowsFit}
-use Rattle.room.specs.Filling.{Lowered, FourStates, ClassIs, RowAt, Lowable, LowOf}
+use Rattle.shared.specs.Bound.{next-state, class}
+use Rattle.shared.specs.Kept.{RowsFit}
+use Rattle.shared.specs.Filling.{Lowered, FourStates, ClassIs, RowAt, Lowable, LowOf}
 
 class-hit : (p a b : ℕ) (bs : List ℕ) → b ≡ p → class p a (b ∷ bs) ≡ next-state bs
 unfolding class

@@ -1,10 +1,10 @@
--- `room::fill_fixed` meets its contract: the rows of the states before P, of P reversed and of the head are the table. Assumes nothing.
+-- `shared::fill_fixed` meets its contract: the rows of the states before P, of P reversed and of the head are the table. Assumes nothing.
 use mathlib.Core.Path.{refl}
-use Rattle.room.proofs.Filling.{row-fits, whole}
+use Rattle.shared.proofs.Filling.{row-fits, whole}
 use native.Mathlib.Omega.{arith}
 use borrow.Author.Needs.{needs}
-use Rattle.room.proofs.fill_fixed.Statement.{statement}
-use Rattle.room.proofs.fill_fixed.Tie as tie
+use Rattle.shared.proofs.fill_fixed.Statement.{statement}
+use Rattle.shared.proofs.fill_fixed.Tie as tie
 
 fill-fixed-rows-requires : tie.Need-fill-fixed-rows-requires
 fill-fixed-rows-requires c κs = search needs

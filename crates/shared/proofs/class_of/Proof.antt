@@ -1,9 +1,9 @@
--- `room::class_of` meets its contract: one law for each state that may be P. Assumes nothing.
-use Rattle.room.proofs.Classes.{first-hit, first-back, second-hit, second-back, third-hit, third-back, fourth-back, fourth-else}
+-- `shared::class_of` meets its contract: one law for each state that may be P. Assumes nothing.
+use Rattle.shared.proofs.Classes.{first-hit, first-back, second-hit, second-back, third-hit, third-back, fourth-back, fourth-else}
 use native.Mathlib.Omega.{arith}
 use borrow.Author.Needs.{needs}
-use Rattle.room.proofs.class_of.Statement.{statement}
-use Rattle.room.proofs.class_of.Tie as tie
+use Rattle.shared.proofs.class_of.Statement.{statement}
+use Rattle.shared.proofs.class_of.Tie as tie
 
 returns : tie.Need-returns
 returns c = first-hit (c .before .pre) (c .if1 .taken)

@@ -1,11 +1,11 @@
--- `room::fill_kept` meets its contract. Assumes nothing.
+-- `shared::fill_kept` meets its contract. Assumes nothing.
 use mathlib.Core.Path.{refl}
 use Rattle.joints.proofs.Ends.{ends-fillable}
-use Rattle.room.proofs.Keeping.{joinable, few, fixable, keeps}
+use Rattle.shared.proofs.Keeping.{joinable, few, fixable, keeps}
 use native.Mathlib.Omega.{arith}
 use borrow.Author.Needs.{needs}
-use Rattle.room.proofs.fill_kept.Statement.{statement}
-use Rattle.room.proofs.fill_kept.Tie as tie
+use Rattle.shared.proofs.fill_kept.Statement.{statement}
+use Rattle.shared.proofs.fill_kept.Tie as tie
 
 sub-p : tie.Need-sub-p
 sub-p c = search needs

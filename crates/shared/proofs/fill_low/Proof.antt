@@ -1,12 +1,12 @@
--- `room::fill_low` meets its contract. The invariant: the same of the rows below i. Assumes nothing.
+-- `shared::fill_low` meets its contract. The invariant: the same of the rows below i. Assumes nothing.
 use mathlib.Core.Path.{_≡_}
 use Prim.Native.Nat.{_-_, _≤_}
-use Rattle.room.specs.Filling.{LowOf}
-use Rattle.room.proofs.Classes.{no-rows-low, row-at, chainable, more-low}
+use Rattle.shared.specs.Filling.{LowOf}
+use Rattle.shared.proofs.Classes.{no-rows-low, row-at, chainable, more-low}
 use native.Mathlib.Omega.{arith}
 use borrow.Author.Needs.{needs}
-use Rattle.room.proofs.fill_low.Statement.{statement}
-use Rattle.room.proofs.fill_low.Tie as tie
+use Rattle.shared.proofs.fill_low.Statement.{statement}
+use Rattle.shared.proofs.fill_low.Tie as tie
 
 abbrev Inv-loop : tie.InvT-loop
 Inv-loop rows count p table low₀ i₀ low i = (i ≤ count) × LowOf rows i p table low

@@ -1,13 +1,13 @@
--- `room::fill_fixed_row` meets its contract. The invariant: the cells below b are filled, and all other places are as they were. Assumes nothing.
+-- `shared::fill_fixed_row` meets its contract. The invariant: the cells below b are filled, and all other places are as they were. Assumes nothing.
 use mathlib.Core.Path.{_≡_}
 use Prim.Native.Nat.{_+_, _-_, _^_, _≤_}
 use lib.ListN.{getD}
-use Rattle.room.specs.Filling.{FixedRow}
-use Rattle.room.proofs.Filling.{none-filled, more-filled}
+use Rattle.shared.specs.Filling.{FixedRow}
+use Rattle.shared.proofs.Filling.{none-filled, more-filled}
 use native.Mathlib.Omega.{arith}
 use borrow.Author.Needs.{needs}
-use Rattle.room.proofs.fill_fixed_row.Statement.{statement}
-use Rattle.room.proofs.fill_fixed_row.Tie as tie
+use Rattle.shared.proofs.fill_fixed_row.Statement.{statement}
+use Rattle.shared.proofs.fill_fixed_row.Tie as tie
 
 abbrev Inv-loop : tie.InvT-loop
 Inv-loop locations legs from count entries inside a table₀ start b₀ table b = (b ≤ count) × FixedRow locations legs from b entries inside a table₀ table

@@ -14,7 +14,7 @@ use lib.Seq.{getD-set-same, getD-set-other}
 use Rattle.costs.specs.RouteCosts.{leg}
 use Rattle.joints.specs.JointTable.{cell, Padded, Fillable}
 use Rattle.joints.proofs.Rows.{set-small}
-use Rattle.room.specs.Filling.{fixed-cell, FixedRowFits, FixedRow, Fixable, FixedRows, FixedTable}
+use Rattle.shared.specs.Filling.{fixed-cell, FixedRowFits, FixedRow, Fixable, FixedRows, FixedTable}
 
 padded-set : (table : List ℕ) (a b v : ℕ) → Padded table → a ≢ 8 → b < 16 → v ≤ 2 ^ 40 → Padded (set table (16 * a + b) v)
 padded-set table a b v p n h s =

@@ -22,10 +22,10 @@ use Rattle.joints.proofs.States.{state-below}
 use Rattle.joints.proofs.Rows.{set-small, row-read}
 use Rattle.joints.proofs.Ends.{inside-is, inside-small, entry-known, exit-known, head-below}
 use Rattle.joints.proofs.Chain as Chain
-use Rattle.room.specs.Bound.{chain-by, class, exit-of, fixed-by, opened, last-state}
-use Rattle.room.specs.Room.{shared, Kept, Places, RowsFit, Cut, Opened, first-cuts, last-cut}
-use Rattle.room.specs.Filling.{fixed-cell, Fixable, FixedTable, LowOf, Lowable, Keepable, KeptNow}
-use Rattle.room.proofs.Once as Once
+use Rattle.shared.specs.Bound.{chain-by, class, exit-of, fixed-by, opened, last-state}
+use Rattle.shared.specs.Kept.{shared, Kept, Places, RowsFit, Cut, Opened, first-cuts, last-cut}
+use Rattle.shared.specs.Filling.{fixed-cell, Fixable, FixedTable, LowOf, Lowable, Keepable, KeptNow}
+use Rattle.shared.proofs.Padding as Padding
 
 -- ---- the first cuts and the last
 
@@ -145,7 +145,7 @@ module _ {locations : ℕ} {legs : List ℕ} {depot : ℕ} {r forwards backwards
           ∙ v-is
           ∙ Chain.chain-padded table 9 (5 - length cuts) bs (t .padded .padding)
           ∙ chain-same table T (suc (suc p)) 9 bs cell-is (omega (arith, few .1)) (inr refl) below
-          ∙ sym (Once.chain-padded T blank 9 (5 - length cuts) bs)
+          ∙ sym (Padding.chain-padded T blank 9 (5 - length cuts) bs)
         where
           below : (b : ℕ) → List·Memᴰ b (map (state-of 0) (upfrom 1 (length cuts - 1))) → b < suc (suc p)
           below b m =

@@ -1,10 +1,10 @@
--- `room::row_class` meets its contract: the four states read are the row. Assumes nothing.
+-- `shared::row_class` meets its contract: the four states read are the row. Assumes nothing.
 use Prim.Native.Nat.{_+_, _*_}
-use Rattle.room.proofs.Classes.{row-class-is}
+use Rattle.shared.proofs.Classes.{row-class-is}
 use native.Mathlib.Omega.{arith}
 use borrow.Author.Needs.{needs}
-use Rattle.room.proofs.row_class.Statement.{statement}
-use Rattle.room.proofs.row_class.Tie as tie
+use Rattle.shared.proofs.row_class.Statement.{statement}
+use Rattle.shared.proofs.row_class.Tie as tie
 
 mul-at : tie.Need-mul-at
 mul-at c = search needs

@@ -1,12 +1,12 @@
--- `room::fill_fixed_rows` meets its contract. The invariant: the same of the rows below a. Assumes nothing.
+-- `shared::fill_fixed_rows` meets its contract. The invariant: the same of the rows below a. Assumes nothing.
 use mathlib.Core.Path.{_≡_, refl}
 use Prim.Native.Nat.{_-_, _≤_}
-use Rattle.room.specs.Filling.{FixedRows}
-use Rattle.room.proofs.Filling.{row-fits, no-rows, more-rows}
+use Rattle.shared.specs.Filling.{FixedRows}
+use Rattle.shared.proofs.Filling.{row-fits, no-rows, more-rows}
 use native.Mathlib.Omega.{arith}
 use borrow.Author.Needs.{needs}
-use Rattle.room.proofs.fill_fixed_rows.Statement.{statement}
-use Rattle.room.proofs.fill_fixed_rows.Tie as tie
+use Rattle.shared.proofs.fill_fixed_rows.Statement.{statement}
+use Rattle.shared.proofs.fill_fixed_rows.Tie as tie
 
 abbrev Inv-loop : tie.InvT-loop
 Inv-loop locations legs head p entries exits inside table₀ a₀ table a = (a ≤ p) × FixedRows locations legs head p entries exits inside a table

@@ -10,8 +10,8 @@ use Rattle.theory.specs.Tables.{LegTable}
 use Rattle.costs.specs.RouteCosts.{leg}
 use Rattle.joints.specs.States.{row}
 use Rattle.joints.specs.JointTable.{cell, chain, Padded, Fillable, EndPlaces}
-use Rattle.room.specs.Bound.{class}
-use Rattle.room.specs.Room.{Cut, RowsFit, Places, Opened, Kept, first-cuts}
+use Rattle.shared.specs.Bound.{class}
+use Rattle.shared.specs.Kept.{Cut, RowsFit, Places, Opened, Kept, first-cuts}
 
 -- ---- the least cost of each class
 
