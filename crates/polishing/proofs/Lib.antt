@@ -1,4 +1,5 @@
 pub mod Scanning
+pub mod Passing
 pub mod Numbers
 pub mod Taking
 pub mod Replies

@@ -2,13 +2,15 @@
 use theory::Counts;
 use theory::Polished;
 ghost use mathlib.Core.Path.{_≡_};
-ghost use mathlib.Core.List.{_∷_, _++_};
-ghost use Prim.Native.Nat.{min, _≤_};
+ghost use mathlib.Core.List.{[], _∷_, _++_};
+ghost use Prim.Native.Nat.{min, _-_, _*_, _≤_};
 ghost use lib.ListN.{length, drop};
 ghost use Rattle.theory.specs.Moves.{patterns};
 ghost use Rattle.theory.specs.Tables.{problem, pattern-rows};
 ghost use Rattle.theory.specs.Answers.{Polishes, polish-values};
-ghost use Rattle.polishing.specs.Loop.{Built, Taken, Scannable, Scans, PolishableRows, Polishable};
+ghost use Rattle.cuts.specs.Step.{Stepped};
+ghost use Rattle.shared.specs.Kept.{first-cuts};
+ghost use Rattle.polishing.specs.Loop.{Overstepped, Built, Taken, Scannable, Scans, PolishableRows, Polishable};
 
 // What the scan counted when it ended.
 struct Scanned {
@@ -25,6 +27,24 @@ fn still_allowed(patterns: usize, left: u64) -> usize
         return patterns;
     }
     left as usize
+}
+
+// How many patterns the cut sets passed over have.
+fn passed_patterns(sets: usize, patterns: usize) -> u64
+    requires { ⌜ (sets ≤ 513) × (patterns ≤ 383) ⌝ }
+    ensures { λ r. ⌜ r ≡ sets * patterns ⌝ }
+{
+    (sets * patterns) as u64
+}
+
+// The cut set after the one whose last cut lies before `hit`, the first cuts being the same; after the last set it answers no.
+fn step_over(cuts: &mut [usize], hit: usize, n: usize) -> bool
+    requires { ⌜ Overstepped n (now cuts) hit ⌝ }
+    ensures { λ r. ⌜ Stepped n (first-cuts (now (cuts .entry)) ++ ((hit - 1) ∷ [])) r (now (cuts .exit)) ⌝ }
+{
+    let k = cuts.len();
+    cuts[k - 1] = hit - 1;
+    cuts::next_cut_set(cuts, n)
 }
 
 // The accepted candidate as the route, with its sums: the old ones say nothing of it.
@@ -65,12 +85,51 @@ fn scan_cut_sets(
     let mut backward = [0u64; 512];
     let mut joint = [0u64; 160];
     let mut spare = [0u32; 512];
+    let mut entries = [0u32; 8];
+    let mut exits = [0u32; 8];
+    let mut inside = [0u64; 8];
+    let mut low = [0u64; 21];
     costs::forward_sums(locations, legs, &route[..], &mut forward);
     costs::backward_sums(locations, legs, &route[..], &mut backward);
     let mut cut = [0usize, 1, 2, 3, 4];
     let mut examined = 0u64;
     let mut accepted = 0u64;
     loop {
+        let hit = room::pass_over(
+            locations,
+            legs,
+            depot,
+            &route[..],
+            &forward,
+            &backward,
+            &cut[..k],
+            rows,
+            masks.len(),
+            &mut entries,
+            &mut exits,
+            &mut inside,
+            &mut low,
+        );
+        let last = cut[k - 1];
+        if last < hit {
+            let over = passed_patterns(hit - last, masks.len());
+            if allowance - examined < over {
+                return Scanned {
+                    finished: false,
+                    examined: allowance,
+                    accepted,
+                };
+            }
+            examined += over;
+            if !step_over(&mut cut[..k], hit, route.len()) {
+                return Scanned {
+                    finished: true,
+                    examined,
+                    accepted,
+                };
+            }
+            continue;
+        }
         let limit = still_allowed(masks.len(), allowance - examined);
         let found = search::first_gain(
             locations,

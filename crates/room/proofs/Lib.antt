@@ -5,3 +5,4 @@ pub mod Cost
 pub mod NoGain
 pub mod Minima
 pub mod Testing
+pub mod NextCuts
