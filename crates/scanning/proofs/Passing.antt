@@ -26,8 +26,8 @@ use Rattle.costs.specs.RouteCosts.{leg, Sums}
 use Rattle.theory.specs.Costs.{forward, backward}
 use Rattle.room.proofs.Shared.{other-cut, last-two}
 use Rattle.room.proofs.NextCuts.{next-last, next-shape}
-use Rattle.polishing.specs.Loop.{Scannable, Overstepped}
-use Rattle.polishing.proofs.Scanning.{At, timed, own-cuts}
+use Rattle.scanning.specs.Loop.{Scannable, Overstepped}
+use Rattle.scanning.proofs.Scanning.{At, timed, own-cuts}
 
 and-false : (b : Bool) → (b && false) ≡ false
 and-false true = refl

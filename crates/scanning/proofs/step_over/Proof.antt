@@ -1,12 +1,12 @@
--- `polishing::step_over` meets its contract. Assumes nothing.
+-- `scanning::step_over` meets its contract. Assumes nothing.
 use mathlib.Core.Path.{_∙_}
 use Prim.Native.Nat.{_-_}
 use lib.ListN.{length, length-set}
-use Rattle.polishing.proofs.Passing.{stored-set, stored-step}
+use Rattle.scanning.proofs.Passing.{stored-set, stored-step}
 use native.Mathlib.Omega.{arith}
 use borrow.Author.Needs.{needs}
-use Rattle.polishing.proofs.step_over.Statement.{statement}
-use Rattle.polishing.proofs.step_over.Tie as tie
+use Rattle.scanning.proofs.step_over.Statement.{statement}
+use Rattle.scanning.proofs.step_over.Tie as tie
 
 sub-cuts : tie.Need-sub-cuts
 sub-cuts c = search needs

@@ -1,4 +1,4 @@
--- `polishing::scan_cut_sets` meets its contract. The invariant: what is left from here is the whole scan, and the sums are those of the route at hand. Assumes
+-- `scanning::scan_cut_sets` meets its contract. The invariant: what is left from here is the whole scan, and the sums are those of the route at hand. Assumes
 -- nothing.
 use mathlib.Core.Path.{_≡_, refl, sym, ap, _∙_}
 use mathlib.Core.Logic.{_⊎_, inl, inr}
@@ -12,11 +12,11 @@ use Rattle.theory.proofs.Polishing.{Polishing}
 use Rattle.costs.specs.RouteCosts.{leg, Sums}
 use Rattle.joints.specs.JointTable.{Padded}
 use Rattle.shared.specs.Kept.{Places, Kept, Opened, first-cuts, last-cut}
-use Rattle.polishing.proofs.Passing.{no-places, first-opened, last-is, passable, few-sets, ahead-so, overstepped, spends-now, moves-now, ends-now, some-passed, kept-next, kept-after}
-use Rattle.polishing.proofs.Scanning.{no-cells, starts, below, same-size, timed, own-cuts, own-rows, own-states, candidate-stops, gains, moves-on, ends, stops-here}
+use Rattle.scanning.proofs.Passing.{no-places, first-opened, last-is, passable, few-sets, ahead-so, overstepped, spends-now, moves-now, ends-now, some-passed, kept-next, kept-after}
+use Rattle.scanning.proofs.Scanning.{no-cells, starts, below, same-size, timed, own-cuts, own-rows, own-states, candidate-stops, gains, moves-on, ends, stops-here}
 use native.Mathlib.Omega.{arith}
-use Rattle.polishing.proofs.scan_cut_sets.Statement.{statement}
-use Rattle.polishing.proofs.scan_cut_sets.Tie as tie
+use Rattle.scanning.proofs.scan_cut_sets.Statement.{statement}
+use Rattle.scanning.proofs.scan_cut_sets.Tie as tie
 
 abbrev Inv-loop : tie.InvT-loop
 Inv-loop k allowance locations legs latest depot orders masks rows route₀ forward₀ backward₀ joint₀ spare₀ entries₀ exits₀ inside₀ low₀ cut₀ examined₀ accepted₀ route forward backward joint spare entries exits inside low cut examined accepted =
