@@ -1,16 +1,8 @@
 -- What polishing asks.
-use mathlib.Core.Path.{_≡_}
 use mathlib.Core.List.{List}
-use Prim.Native.Nat.{ℕ, _+_, _≤_, _<_}
-use lib.ListN.{length, take}
-use Rattle.theory.specs.Moves.{Pattern}
-use Rattle.theory.specs.Route.{Problem}
-use Rattle.theory.specs.Costs.{forward, backward}
-use Rattle.theory.specs.Polish.{polish-with}
-use Rattle.theory.specs.Tables.{LegTable, Stops, Timed, CutSet, PatternRows}
-use Rattle.shared.specs.Kept.{last-cut}
-use Rattle.costs.specs.RouteCosts.{leg, Sums}
-use Rattle.joints.specs.States.{StateRows}
+use Prim.Native.Nat.{ℕ, _≤_, _<_}
+use lib.ListN.{length}
+use Rattle.theory.specs.Tables.{Timed, PatternRows}
 
 -- What polishing with lent rows of patterns asks, and what polishing with document 01's patterns asks.
 pub record PolishableRows (k locations : ℕ) (legs latest : List ℕ) (depot : ℕ) (orders masks route : List ℕ) : Type 0 where
