@@ -35,12 +35,12 @@ chain-padded J a n (b ∷ bs) z = ap (λ x. cell J a b + x) (chain-padded J b n 
 
 -- ---- the way through the parts
 
-first-any : (l : List ℕ) (x y : ℕ) → 0 < length l → first-of l x ≡ first-of l y
+pub first-any : (l : List ℕ) (x y : ℕ) → 0 < length l → first-of l x ≡ first-of l y
 unfolding first-of
 first-any [] x y h = absurd (omega arith)
 first-any (z ∷ l) x y h = refl
 
-last-any : (x y : ℕ) (l : List ℕ) → 0 < length l → last-of x l ≡ last-of y l
+pub last-any : (x y : ℕ) (l : List ℕ) → 0 < length l → last-of x l ≡ last-of y l
 unfolding last-of
 last-any x y [] h = absurd (omega arith)
 last-any x y (z ∷ l) h = refl
@@ -62,7 +62,7 @@ module _ {d : ℕ → ℕ → ℕ} {part : ℕ → List ℕ} {count head tail : 
 -- ---- the segments of a cut set
 
 module _ (cs r : List ℕ) (cut-set : CutSet (length cs) (length r) cs) where
-  full-part : (s : ℕ) → s < state-count (length cs) → 0 < length (placed-in cs r s)
+  pub full-part : (s : ℕ) → s < state-count (length cs) → 0 < length (placed-in cs r s)
   full-part s h =
       let k : 1 + s / 2 < length cs = omega arith in
       rw (
@@ -100,7 +100,7 @@ module _ (cs r : List ℕ) (cut-set : CutSet (length cs) (length r) cs) where
 
 -- ---- the comparison that the scan makes
 
-shorter-through : (P : Problem) (cs r : List ℕ) (k m : ℕ) (p : Pattern) (s : Shape m p) → length cs ≡ suc m → Rising 0 cs (length r) → k ≡ suc m →
+pub shorter-through : (P : Problem) (cs r : List ℕ) (k m : ℕ) (p : Pattern) (s : Shape m p) → length cs ≡ suc m → Rising 0 cs (length r) → k ≡ suc m →
     ltb (tour-length P (reconnected (record { cuts = cs; pattern = p }) r)) (tour-length P r)
     ≡ ltb
     (through (P .leg) (last-of (P .depot) (getD (segments 0 cs r) 0 [])) (placed (p .mask) (segments 0 cs r) (s .middle)) (first-of (getD (segments 0 cs r) k []) (P .depot)))

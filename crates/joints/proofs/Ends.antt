@@ -49,13 +49,13 @@ inner-sum-at forwards backwards cs s i false h e =
 
 -- State s of segment i.
 module _ (cs r : List ℕ) (cut-set : CutSet (length cs) (length r) cs) (s i : ℕ) (b : Bool) (h : 1 ≤ i) (k : i < length cs) (e : s ≡ 2 * (i - 1) + cond b 1 0) where
-  part-slice : placed-in cs r s ≡ reverse-if b (slice (getD cs (i - 1) 0) (getD cs i 0) r)
+  pub part-slice : placed-in cs r s ≡ reverse-if b (slice (getD cs (i - 1) 0) (getD cs i 0) r)
   part-slice = part-at cs r s i b h e ∙ ap (reverse-if b) (segment-is cs r cut-set i h k)
 
-  entry-at : cond b (getD r (getD cs i 0 - 1) 0) (getD r (getD cs (i - 1) 0) 0) ≡ first-of (placed-in cs r s) 0
+  pub entry-at : cond b (getD r (getD cs i 0 - 1) 0) (getD r (getD cs (i - 1) 0) 0) ≡ first-of (placed-in cs r s) 0
   entry-at = sym (ap (λ l. first-of l 0) part-slice ∙ first-placed r (getD cs (i - 1) 0) (getD cs i 0) (segment-filled cs r cut-set i h k) (cut-below cs r cut-set i k) b 0)
 
-  exit-at : cond b (getD r (getD cs (i - 1) 0) 0) (getD r (getD cs i 0 - 1) 0) ≡ last-of 0 (placed-in cs r s)
+  pub exit-at : cond b (getD r (getD cs (i - 1) 0) 0) (getD r (getD cs i 0 - 1) 0) ≡ last-of 0 (placed-in cs r s)
   exit-at = sym (ap (last-of 0) part-slice ∙ last-placed r (getD cs (i - 1) 0) (getD cs i 0) (segment-filled cs r cut-set i h k) (cut-below cs r cut-set i k) b 0)
 
 -- ---- segment by segment

@@ -1,5 +1,5 @@
 pub mod States
 pub mod Chain
-mod Rows
-mod Ends
+pub mod Rows
+pub mod Ends
 mod Filling

@@ -60,7 +60,7 @@ row-put {k} {order} {mask} {i} {rows} {v₀} {v₁} {v₂} {v₃} s h n e₀ e�
     }
 
 -- A row read state by state.
-row-read : (rows : List ℕ) (at : ℕ) → at + 4 ≤ length rows → slice at (at + 4) rows ≡ getD rows at 0 ∷ getD rows (at + 1) 0 ∷ getD rows (at + 2) 0 ∷ getD rows (at + 3) 0 ∷ []
+pub row-read : (rows : List ℕ) (at : ℕ) → at + 4 ≤ length rows → slice at (at + 4) rows ≡ getD rows at 0 ∷ getD rows (at + 1) 0 ∷ getD rows (at + 2) 0 ∷ getD rows (at + 3) 0 ∷ []
 row-read rows at h =
     let two : at + 2 ≡ suc (suc at) = omega arith in
     let three : at + 3 ≡ suc (suc (suc at)) = omega arith in

@@ -93,7 +93,7 @@ fn put_ends(
 }
 
 // Where each state of a middle segment is entered and left, and the legs inside it.
-fn fill_ends(
+pub fn fill_ends(
     route: &[u32],
     forward: &[u64; 512],
     backward: &[u64; 512],

@@ -1,6 +1,4 @@
-pub mod Scanning
 pub mod Numbers
-pub mod Taking
 pub mod Replies
 pub mod Enumerated
 pub mod Judged

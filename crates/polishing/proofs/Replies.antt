@@ -15,8 +15,9 @@ use Rattle.theory.proofs.ForK.{rows-for-cuts}
 use Rattle.theory.proofs.Polish.{polish-with-demand3, same-total}
 use Rattle.theory.proofs.Steps.{nowhere}
 use Rattle.theory.proofs.Stops.{stops-rearranged}
-use Rattle.polishing.specs.Loop.{PolishableRows, Scannable, Scans}
-use Rattle.polishing.specs.declared.Scanned.{Scanned}
+use Rattle.scanning.specs.Loop.{Scannable, Scans}
+use Rattle.scanning.specs.declared.Scanned.{Scanned}
+use Rattle.polishing.specs.Loop.{PolishableRows}
 use Rattle.joints.specs.States.{StateRows}
 
 -- Deadlines play no part in a length.

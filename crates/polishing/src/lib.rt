@@ -1,117 +1,14 @@
-// Polishing a route: the scan of document 01, in steps of one cut set. No entry: crate mittenschist and the text program call it.
+// Polishing a route by the scan of document 01. No entry: crate mittenschist and the text program call it.
 use theory::Counts;
 use theory::Polished;
 ghost use mathlib.Core.Path.{_≡_};
 ghost use mathlib.Core.List.{_∷_, _++_};
-ghost use Prim.Native.Nat.{min, _≤_};
+ghost use Prim.Native.Nat.{_≤_};
 ghost use lib.ListN.{length, drop};
 ghost use Rattle.theory.specs.Moves.{patterns};
 ghost use Rattle.theory.specs.Tables.{problem, pattern-rows};
 ghost use Rattle.theory.specs.Answers.{Polishes, polish-values};
-ghost use Rattle.polishing.specs.Loop.{Built, Taken, Scannable, Scans, PolishableRows, Polishable};
-
-// What the scan counted when it ended.
-struct Scanned {
-    finished: bool,
-    examined: u64,
-    accepted: u64,
-}
-
-// The patterns of a cut set that are still allowed.
-fn still_allowed(patterns: usize, left: u64) -> usize
-    ensures { λ r. ⌜ r ≡ min patterns left ⌝ }
-{
-    if (patterns as u64) < left {
-        return patterns;
-    }
-    left as usize
-}
-
-// The accepted candidate as the route, with its sums: the old ones say nothing of it.
-fn take_gain(
-    locations: usize,
-    legs: &[u32],
-    spare: &[u32],
-    route: &mut [u32],
-    forward: &mut [u64; 512],
-    backward: &mut [u64; 512],
-)
-    requires { ⌜ Built locations (now legs) (now spare) (now route) (now forward) (now backward) ⌝ }
-    ensures { λ _. ⌜ Taken locations (now (legs .entry)) (now (spare .entry)) (now (route .entry)) (now (route .exit)) (now (forward .exit)) (now (backward .exit)) ⌝ }
-{
-    let n = route.len();
-    reconnection::copy_in(&spare[..n], route, 0);
-    costs::forward_sums(locations, legs, &route[..], forward);
-    costs::backward_sums(locations, legs, &route[..], backward);
-}
-
-// The scan, cut set by cut set: the first improving pattern is taken and the scan begins again, or the patterns allowed are passed.
-fn scan_cut_sets(
-    k: usize,
-    allowance: u64,
-    locations: usize,
-    legs: &[u32],
-    latest: &[u32],
-    depot: u32,
-    orders: &[u8],
-    masks: &[u8],
-    rows: &[u8; 1532],
-    route: &mut [u32],
-) -> Scanned
-    requires { ⌜ Scannable k locations (now legs) (now latest) depot (now orders) (now masks) (now rows) (now route) ⌝ }
-    ensures { λ r. ⌜ Scans (problem locations (now (legs .entry)) (now (latest .entry)) depot) (pattern-rows k (now (orders .entry)) (now (masks .entry))) k allowance (now (route .entry)) r (now (route .exit)) ⌝ }
-{
-    let mut forward = [0u64; 512];
-    let mut backward = [0u64; 512];
-    let mut joint = [0u64; 160];
-    let mut spare = [0u32; 512];
-    costs::forward_sums(locations, legs, &route[..], &mut forward);
-    costs::backward_sums(locations, legs, &route[..], &mut backward);
-    let mut cut = [0usize, 1, 2, 3, 4];
-    let mut examined = 0u64;
-    let mut accepted = 0u64;
-    loop {
-        let limit = still_allowed(masks.len(), allowance - examined);
-        let found = search::first_gain(
-            locations,
-            legs,
-            latest,
-            depot,
-            &route[..],
-            &forward,
-            &backward,
-            &cut[..k],
-            orders,
-            masks,
-            rows,
-            &mut joint,
-            &mut spare,
-            limit,
-        );
-        if found < limit {
-            take_gain(locations, legs, &spare, route, &mut forward, &mut backward);
-            cut = [0, 1, 2, 3, 4];
-            examined += found as u64 + 1;
-            accepted += 1;
-        } else {
-            examined += limit as u64;
-            if limit < masks.len() {
-                return Scanned {
-                    finished: false,
-                    examined,
-                    accepted,
-                };
-            }
-            if !cuts::next_cut_set(&mut cut[..k], route.len()) {
-                return Scanned {
-                    finished: true,
-                    examined,
-                    accepted,
-                };
-            }
-        }
-    }
-}
+ghost use Rattle.polishing.specs.Loop.{PolishableRows, Polishable};
 
 // Polishing with lent rows of patterns for k cuts.
 pub fn polish_rows(
@@ -139,7 +36,7 @@ pub fn polish_rows(
     }
     let mut rows = [0u8; 1532];
     joints::fill_rows(k, orders, masks, &mut rows);
-    let scanned = scan_cut_sets(
+    let scanned = scanning::scan_cut_sets(
         k,
         allowance,
         locations,

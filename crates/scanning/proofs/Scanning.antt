@@ -18,7 +18,7 @@ use Rattle.theory.proofs.Polishing.{Polishing, begins, within, as-long, gained,
 use Rattle.cuts.specs.Step.{found, or-kept, Stepped}
 use Rattle.joints.specs.States.{StateRows}
 use Rattle.joints.specs.JointTable.{Padded}
-use Rattle.polishing.specs.Loop.{Scannable}
+use Rattle.scanning.specs.Loop.{Scannable}
 
 -- The first cut set, as the array has it.
 pub first-cuts : (k : ℕ) → k ≤ 5 → take k (0 ∷ 1 ∷ 2 ∷ 3 ∷ 4 ∷ []) ≡ upfrom 0 k

@@ -1,8 +1,8 @@
--- `polishing::take_gain` meets its contract. Assumes nothing.
+-- `scanning::take_gain` meets its contract. Assumes nothing.
 use borrow.Author.Needs.{needs}
-use Rattle.polishing.proofs.Taking.{room, fits, is-candidate, summable}
-use Rattle.polishing.proofs.take_gain.Statement.{statement}
-use Rattle.polishing.proofs.take_gain.Tie as tie
+use Rattle.scanning.proofs.Taking.{room, fits, is-candidate, summable}
+use Rattle.scanning.proofs.take_gain.Statement.{statement}
+use Rattle.scanning.proofs.take_gain.Tie as tie
 
 slice-aggregate-copy-in : tie.Need-slice-aggregate-copy-in
 slice-aggregate-copy-in c =

@@ -6,7 +6,7 @@ use native.Mathlib.Omega.{arith}
 use lib.ListN.{length, take, drop, length-take, drop-of-length-le}
 use Rattle.costs.specs.RouteCosts.{Summable}
 use Rattle.reconnection.specs.Segments.{Fits}
-use Rattle.polishing.specs.Loop.{Built}
+use Rattle.scanning.specs.Loop.{Built}
 
 module _ (locations : ℕ) (legs spare route forward-sums backward-sums : List ℕ) (ok : Built locations legs spare route forward-sums backward-sums) where
   pub room : length route ≡ length (take (length route) spare)

@@ -1,0 +1,8 @@
+pub mod Bound
+pub mod Once
+pub mod Shared
+pub mod Cost
+pub mod NoGain
+pub mod Minima
+pub mod Testing
+pub mod NextCuts

@@ -1,0 +1,248 @@
+// The cut sets that leave no room for a gain, passed over without a look at their patterns. No entry: crate polishing calls it.
+ghost use mathlib.Core.Path.{_≡_};
+ghost use mathlib.Core.Bool.{cond};
+ghost use Prim.Native.Nat.{_≤_};
+ghost use lib.Dec.{ltb};
+ghost use lib.ListN.{length, getD};
+ghost use Rattle.shared.specs.Filling.{KeptNow};
+ghost use Rattle.room.specs.Tests.{IntoFits, LeastInto, OutFits, LeastOut, Testable, Tested, Nextable, NextRoom};
+ghost use Rattle.room.specs.Room.{Passable, PassedOver};
+
+// The lesser of two.
+fn least(a: u64, b: u64) -> u64
+    ensures { λ r. ⌜ (r ≤ a) × (r ≤ b) ⌝ }
+{
+    if a < b {
+        return a;
+    }
+    b
+}
+
+// The least of what follows P, as it stands and left at the stop `from`: a state before P, with the least cost of its class.
+fn least_into(
+    locations: usize,
+    legs: &[u32],
+    from: u32,
+    entries: &[u32; 8],
+    inside: &[u64; 8],
+    low: &[u64; 21],
+    p: usize,
+) -> u64
+    requires { ⌜ IntoFits locations (now legs) from (now entries) (now inside) (now low) p ⌝ }
+    ensures { λ r. ⌜ LeastInto locations (now (legs .entry)) from (now (entries .entry)) (now (inside .entry)) (now (low .entry)) p r ⌝ }
+{
+    let mut best = 17592186044416u64;
+    let mut w = 0;
+    while w < p {
+        let way = costs::route_distance(locations, legs, from, entries[w]) + inside[w];
+        best = least(best, low[w] + way);
+        w += 1;
+    }
+    best
+}
+
+// The least of `start` and of what leads from a state before P to the stop `to`.
+fn least_out(
+    locations: usize,
+    legs: &[u32],
+    exits: &[u32; 8],
+    to: u32,
+    add: &[u64; 21],
+    start: u64,
+    p: usize,
+) -> u64
+    requires { ⌜ OutFits locations (now legs) (now exits) to (now add) start p ⌝ }
+    ensures { λ r. ⌜ LeastOut locations (now (legs .entry)) (now (exits .entry)) to (now (add .entry)) start p r ⌝ }
+{
+    let mut best = start;
+    let mut u = 0;
+    while u < p {
+        let way = costs::route_distance(locations, legs, exits[u], to);
+        best = least(best, add[10 + u] + way);
+        u += 1;
+    }
+    best
+}
+
+// Where the tail starts after last cut c.
+fn tail_at(depot: u32, route: &[u32], c: usize) -> u32
+    ensures { λ r. ⌜ r ≡ cond (ltb c (length (now (route .entry)))) (getD (now (route .entry)) c 0) depot ⌝ }
+{
+    if c < route.len() {
+        return route[c];
+    }
+    depot
+}
+
+// Whether a pattern may gain at last cut c: the tests bound from below what every pattern costs, by its class.
+fn has_room(
+    locations: usize,
+    legs: &[u32],
+    depot: u32,
+    route: &[u32],
+    forward: &[u64; 512],
+    backward: &[u64; 512],
+    cuts: &[usize],
+    head: u32,
+    entries: &[u32; 8],
+    exits: &[u32; 8],
+    inside: &[u64; 8],
+    low: &[u64; 21],
+    zero: &[u64; 21],
+    c: usize,
+) -> bool
+    requires { ⌜ Testable locations (now legs) depot (now route) (now forward) (now backward) (now cuts) head (now entries) (now exits) (now inside) (now low) (now zero) c ⌝ }
+    ensures { λ r. ⌜ Tested locations (now (legs .entry)) depot (now (route .entry)) (now (cuts .entry)) (now (entries .entry)) (now (exits .entry)) (now (inside .entry)) (now (low .entry)) c r ⌝ }
+{
+    if low[8] < low[20] {
+        return true;
+    }
+    let p = 2 * (cuts.len() - 2);
+    let start = cuts[cuts.len() - 2];
+    let x = route[c - 1];
+    let y = tail_at(depot, route, c);
+    let here = low[20] + costs::route_distance(locations, legs, x, y);
+    let back = costs::route_distance(locations, legs, route[start], y);
+    let tail = least_out(locations, legs, exits, y, zero, back, p);
+    let straight = least_into(locations, legs, x, entries, inside, low, p);
+    if straight + tail < here {
+        return true;
+    }
+    let after_head = low[19] + costs::route_distance(locations, legs, head, x);
+    let turned = least_out(locations, legs, exits, x, low, after_head, p);
+    let on = costs::inner(forward, start, c);
+    turned + tail + costs::inner(backward, start, c) < here + on
+}
+
+// From the last cut on, with the same first cuts, the first last cut that has room, or one beyond the route.
+fn next_room(
+    locations: usize,
+    legs: &[u32],
+    depot: u32,
+    route: &[u32],
+    forward: &[u64; 512],
+    backward: &[u64; 512],
+    cuts: &[usize],
+    entries: &[u32; 8],
+    exits: &[u32; 8],
+    inside: &[u64; 8],
+    low: &[u64; 21],
+) -> usize
+    requires { ⌜ Nextable locations (now legs) depot (now route) (now forward) (now backward) (now cuts) (now entries) (now exits) (now inside) (now low) ⌝ }
+    ensures { λ r. ⌜ NextRoom locations (now (legs .entry)) depot (now (route .entry)) (now (cuts .entry)) (now (entries .entry)) (now (exits .entry)) (now (inside .entry)) (now (low .entry)) r ⌝ }
+{
+    let zero = [0u64; 21];
+    let head = costs::head_end(depot, route, cuts);
+    let mut c = cuts[cuts.len() - 1];
+    while c <= route.len() {
+        if has_room(
+            locations,
+            legs,
+            depot,
+            route,
+            forward,
+            backward,
+            cuts,
+            head,
+            entries,
+            exits,
+            inside,
+            low,
+            &zero,
+            c,
+        ) {
+            return c;
+        }
+        c += 1;
+    }
+    c
+}
+
+// Fills what is kept anew at the first cut set with its first cuts.
+fn renew(
+    locations: usize,
+    legs: &[u32],
+    depot: u32,
+    route: &[u32],
+    forward: &[u64; 512],
+    backward: &[u64; 512],
+    cuts: &[usize],
+    rows: &[u8; 1532],
+    count: usize,
+    entries: &mut [u32; 8],
+    exits: &mut [u32; 8],
+    inside: &mut [u64; 8],
+    low: &mut [u64; 21],
+)
+    requires { ⌜ Passable locations (now legs) depot (now route) (now forward) (now backward) (now cuts) (now rows) count (now entries) (now exits) (now inside) (now low) ⌝ }
+    ensures { λ _. ⌜ KeptNow locations (now (legs .entry)) depot (now (route .entry)) (now (cuts .entry)) (now (rows .entry)) count (now (entries .exit)) (now (exits .exit)) (now (inside .exit)) (now (low .exit)) ⌝ }
+{
+    let k = cuts.len();
+    if cuts[k - 1] != cuts[k - 2] + 1 {
+        return;
+    }
+    shared::fill_kept(
+        locations,
+        legs,
+        depot,
+        route,
+        forward,
+        backward,
+        cuts,
+        rows,
+        count,
+        entries,
+        exits,
+        inside,
+        low,
+    );
+}
+
+// Passes over last cuts without room, the first cuts being the same: the first last cut that has room, or one beyond the route.
+pub fn pass_over(
+    locations: usize,
+    legs: &[u32],
+    depot: u32,
+    route: &[u32],
+    forward: &[u64; 512],
+    backward: &[u64; 512],
+    cuts: &[usize],
+    rows: &[u8; 1532],
+    count: usize,
+    entries: &mut [u32; 8],
+    exits: &mut [u32; 8],
+    inside: &mut [u64; 8],
+    low: &mut [u64; 21],
+) -> usize
+    requires { ⌜ Passable locations (now legs) depot (now route) (now forward) (now backward) (now cuts) (now rows) count (now entries) (now exits) (now inside) (now low) ⌝ }
+    ensures { λ r. ⌜ PassedOver locations (now (legs .entry)) depot (now (route .entry)) (now (cuts .entry)) (now (rows .entry)) count r (now (entries .exit)) (now (exits .exit)) (now (inside .exit)) (now (low .exit)) ⌝ }
+{
+    renew(
+        locations,
+        legs,
+        depot,
+        route,
+        forward,
+        backward,
+        cuts,
+        rows,
+        count,
+        entries,
+        exits,
+        inside,
+        low,
+    );
+    next_room(
+        locations,
+        legs,
+        depot,
+        route,
+        forward,
+        backward,
+        cuts,
+        entries,
+        exits,
+        inside,
+        low,
+    )
+}

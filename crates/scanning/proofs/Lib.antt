@@ -1,0 +1,3 @@
+mod Scanning
+mod Passing
+mod Taking

@@ -1,0 +1,121 @@
+-- The shared table, filled cell by cell and row by row. Assumes nothing.
+use mathlib.Core.Path.{_≡_, refl, _∙_}
+use mathlib.Core.Bool.{cond}
+use mathlib.Core.Logic.{_≢_, _⊎_, inl, inr}
+use mathlib.Core.List.{List}
+use Prim.Native.Nat.{ℕ, suc, _+_, _*_, _^_, _≤_, _<_}
+use native.Mathlib.Omega.{arith}
+use native.Mathlib.Decide.{ℕ-discrete, decLt}
+use borrow.Author.Tests.{eq-eqb, ne-eqb, lt-ltb, le-ltb}
+use borrow.Author.Count.{below-more}
+use lib.Dec.{eqb, ltb}
+use lib.ListN.{length, getD, set, length-set}
+use lib.Seq.{getD-set-same, getD-set-other}
+use Rattle.costs.specs.RouteCosts.{leg}
+use Rattle.joints.specs.JointTable.{cell, Padded, Fillable}
+use Rattle.joints.proofs.Rows.{set-small}
+use Rattle.shared.specs.Filling.{fixed-cell, FixedRowFits, FixedRow, Fixable, FixedRows, FixedTable}
+
+padded-set : (table : List ℕ) (a b v : ℕ) → Padded table → a ≢ 8 → b < 16 → v ≤ 2 ^ 40 → Padded (set table (16 * a + b) v)
+padded-set table a b v p n h s =
+    record {
+      places = length-set table (16 * a + b) v ∙ p .places;
+      padding = getD-set-other table (16 * a + b) 136 v 0 (λ q. n (omega arith)) ∙ p .padding;
+      small = λ c. set-small table (16 * a + b) v c (2 ^ 40) s (λ q. p .small c);
+    }
+
+pub none-filled : (locations : ℕ) (legs : List ℕ) (from : ℕ) (entries inside : List ℕ) (a : ℕ) (table : List ℕ) → Padded table → FixedRow locations legs from 0 entries inside a table table
+none-filled locations legs from entries inside a table p = record { padded = p; next = λ b h. absurd (omega arith); others = λ c h. refl }
+
+pub more-filled : {locations : ℕ} {legs : List ℕ} {from : ℕ} {entries inside : List ℕ} {a b : ℕ} {before table : List ℕ} → FixedRow locations legs from b entries inside a before table →
+    (v : ℕ) → a < 10 → a ≢ 8 → b < 8 → v ≤ 2 ^ 40 → v ≡ leg locations legs from (getD entries b 0) + getD inside b 0 → FixedRow locations legs from (b + 1) entries inside a before (set table (16 * a + b) v)
+more-filled {locations} {legs} {from} {entries} {inside} {a} {b} {before} {table} w v l n h s e =
+    record {
+      padded = padded-set table a b v (w .padded) n (omega arith) s;
+      next = below-more (λ x. cell (set table (16 * a + b) v) a x ≡ leg locations legs from (getD entries x 0) + getD inside x 0) b
+          (λ x k. getD-set-other table (16 * a + b) (16 * a + x) v 0 (λ q. omega arith) ∙ w .next x k)
+          (getD-set-same table (16 * a + b) v 0 (omega (arith, w .padded .places)) ∙ e);
+      others = λ c k. getD-set-other table (16 * a + b) c v 0 (λ q. apart c k q) ∙ w .others c (wider c k);
+    }
+  where
+    apart : (c : ℕ) → (c < 16 * a) ⊎ (16 * a + (b + 1) ≤ c) → c ≡ 16 * a + b → ⊥
+    apart c (inl k) q = omega arith
+    apart c (inr k) q = omega arith
+
+    wider : (c : ℕ) → (c < 16 * a) ⊎ (16 * a + (b + 1) ≤ c) → (c < 16 * a) ⊎ (16 * a + b ≤ c)
+    wider c (inl k) = inl k
+    wider c (inr k) = inr (omega arith)
+
+-- ---- row by row
+
+module _ {locations : ℕ} {legs : List ℕ} {head p : ℕ} {entries exits inside table₀ : List ℕ} (given : Fixable locations legs head p entries exits inside table₀) where
+  pub row-fits : (from a : ℕ) {table : List ℕ} → from < locations → a < 10 → a ≢ 8 → Padded table → FixedRowFits locations legs from (p + 1) entries inside a table
+  row-fits from a f l n t =
+      record {
+        fillable = record {
+          leg-table = given .leg-table;
+          tail-known = f;
+          few = omega (arith, given .last);
+          entry-places = given .places .entry-places;
+          inside-places = given .places .inside-places;
+          entries-known = λ s h. given .entries-known s (omega arith);
+          inside-small = λ s h. given .inside-small s (omega arith);
+        };
+        padded = t;
+        within = l;
+        not-tail = n;
+      }
+
+  -- A filled row, cell by cell.
+  row-is : {before after : List ℕ} (from a b : ℕ) → FixedRow locations legs from (p + 1) entries inside a before after → ((c : ℕ) → 16 * a + (p + 1) ≤ c → c < 16 * a + 16 → getD before c 0 ≡ 0) → a ≢ p →
+      from ≡ cond (eqb a 9) head (getD exits a 0) → b < 16 → cell after a b ≡ fixed-cell locations legs p head entries exits inside a b
+  row-is {before} {after} from a b w blank n e h = by (decLt p b)
+    where
+      by : Dec (p < b) → cell after a b ≡ fixed-cell locations legs p head entries exits inside a b
+      by (yes l) = rw (lt-ltb p b l) (w .others (16 * a + b) (inr (omega arith)) ∙ blank (16 * a + b) (omega arith) (omega arith))
+      by (no l) = rw (le-ltb p b (omega arith), ne-eqb a p n, ← e) (w .next b (omega arith))
+
+  pub no-rows : FixedRows locations legs head p entries exits inside 0 table₀
+  no-rows = record { padded = given .padded; filled = λ x b h. absurd (omega arith); blank = λ c h. given .blank c }
+
+  pub more-rows : {before after : List ℕ} (a from : ℕ) → a < p → from ≡ getD exits a 0 → FixedRows locations legs head p entries exits inside a before →
+      FixedRow locations legs from (p + 1) entries inside a before after → FixedRows locations legs head p entries exits inside (a + 1) after
+  more-rows {before} {after} a from l e w f =
+      let n : a ≢ 9 = λ (q : a ≡ 9). omega (arith, given .last) in
+      record {
+        padded = f .padded;
+        filled = λ x b h k. by x b k (ℕ-discrete x a) h;
+        blank = λ c h. f .others c (inr (omega (arith, given .last))) ∙ w .blank c (omega arith);
+      }
+    where
+      by : (x b : ℕ) → b < 16 → Dec (x ≡ a) → x < a + 1 → cell after x b ≡ fixed-cell locations legs p head entries exits inside x b
+      by x b k (yes q) h =
+          rw q (row-is from a b f (λ c m o. w .blank c (omega arith)) (λ z. omega arith) (e ∙ rw (ne-eqb a 9 (λ (z : a ≡ 9). omega (arith, given .last)))) k)
+      by x b k (no q) h = f .others (16 * x + b) (inl (omega arith)) ∙ w .filled x b (omega arith) k
+
+  pub whole : {t₁ t₂ t₃ : List ℕ} (from : ℕ) → from ≡ getD exits (p + 1) 0 → FixedRows locations legs head p entries exits inside p t₁ → FixedRow locations legs from (p + 1) entries inside (p + 1) t₁ t₂ →
+      FixedRow locations legs head (p + 1) entries inside 9 t₂ t₃ → FixedTable locations legs head p entries exits inside t₃
+  whole {t₁} {t₂} {t₃} from e w f g =
+      record {
+        padded = g .padded;
+        filled = λ a b k h. by a b h k;
+        blank = λ a b k l h. g .others (16 * a + b) (inl (omega arith)) ∙ f .others (16 * a + b) (inr (omega (arith, given .last))) ∙ w .blank (16 * a + b) (omega arith);
+      }
+    where
+      early : (a b : ℕ) → a < p + 2 → b < 16 → cell t₃ a b ≡ cell t₂ a b
+      early a b l h = g .others (16 * a + b) (inl (omega (arith, given .last)))
+
+      by : (a b : ℕ) → b < 16 → (a < suc (suc p)) ⊎ (a ≡ 9) → cell t₃ a b ≡ fixed-cell locations legs p head entries exits inside a b
+      by a b h (inr q) =
+          rw q (row-is head 9 b g (λ c m o. f .others c (inr (omega (arith, given .last))) ∙ w .blank c (omega (arith, given .last))) (λ (z : 9 ≡ p). omega (arith, given .last)) refl h)
+      by a b h (inl l) = early a b (omega arith) h ∙ low (ℕ-discrete a p) (ℕ-discrete a (p + 1))
+        where
+          low : Dec (a ≡ p) → Dec (a ≡ p + 1) → cell t₂ a b ≡ fixed-cell locations legs p head entries exits inside a b
+          low (yes q) y = f .others (16 * a + b) (inl (omega arith)) ∙ w .blank (16 * a + b) (omega arith) ∙ nothing (decLt p b)
+            where
+              nothing : Dec (p < b) → 0 ≡ fixed-cell locations legs p head entries exits inside a b
+              nothing (yes m) = rw (lt-ltb p b m)
+              nothing (no m) = rw (le-ltb p b (omega arith), eq-eqb a p q)
+          low (no q) (yes y) =
+              rw y (row-is from (p + 1) b f (λ c m o. w .blank c (omega arith)) (λ (z : p + 1 ≡ p). omega arith) (e ∙ rw (ne-eqb (p + 1) 9 (λ (z : p + 1 ≡ 9). omega (arith, given .last)))) h)
+          low (no q) (no y) = f .others (16 * a + b) (inl (omega arith)) ∙ w .filled a b (omega arith) h

@@ -1,0 +1,46 @@
+-- `shared::fill_fixed` meets its contract: the rows of the states before P, of P reversed and of the head are the table. Assumes nothing.
+use mathlib.Core.Path.{refl}
+use Rattle.shared.proofs.Filling.{row-fits, whole}
+use native.Mathlib.Omega.{arith}
+use borrow.Author.Needs.{needs}
+use Rattle.shared.proofs.fill_fixed.Statement.{statement}
+use Rattle.shared.proofs.fill_fixed.Tie as tie
+
+fill-fixed-rows-requires : tie.Need-fill-fixed-rows-requires
+fill-fixed-rows-requires c κs = search needs
+
+add-back : tie.Need-add-back
+add-back c = search needs
+
+mul-fill-fixed-row : tie.Need-mul-fill-fixed-row
+mul-fill-fixed-row c = search needs
+
+element-copy-out-fill-fixed-row : tie.Need-element-copy-out-fill-fixed-row
+element-copy-out-fill-fixed-row c = search needs
+
+fill-fixed-row-requires : tie.Need-fill-fixed-row-requires
+fill-fixed-row-requires c κs =
+    let s = c .before .before .before .before .before in
+    row-fits (s .pre) _ _ (s .pre .exits-known _ (omega arith)) (omega (arith, s .pre .last)) (λ q. omega (arith, s .pre .last)) (c .before .before .fill-fixed-rows .ensures .padded)
+
+fill-fixed-row-requires-2 : tie.Need-fill-fixed-row-requires-2
+fill-fixed-row-requires-2 c κs =
+    let s = c .before .before .before .before .before .before .before in
+    row-fits (s .pre) _ 9 (s .pre .head-known) (omega arith) (λ q. omega arith) (c .before .fill-fixed-row .ensures .padded)
+
+returns : tie.Need-returns
+returns c =
+    let s = c .before .before .before .before .before .before .before .before in
+    whole (s .pre) _ refl (c .before .before .before .before .before .fill-fixed-rows .ensures) (c .before .before .fill-fixed-row .ensures) (c .fill-fixed-row2 .ensures)
+
+pub fill-fixed-spec : {M : Type 1} → statement M
+fill-fixed-spec =
+    tie.close
+    (tie.spec
+    fill-fixed-rows-requires
+    add-back
+    mul-fill-fixed-row
+    element-copy-out-fill-fixed-row
+    fill-fixed-row-requires
+    fill-fixed-row-requires-2
+    returns)
