@@ -4,17 +4,16 @@ use mathlib.Core.Bool.{Bool, true, false, _&&_, false≢true}
 use mathlib.Core.List.{List, [], _∷_, _++_}
 use Prim.Native.Nat.{ℕ, suc, _+_, _-_, _≤_, _<_}
 use native.Mathlib.Numerals.{add-one}
-use native.Mathlib.Nat.{add-assoc}
 use native.Mathlib.Omega.{arith}
 use lib.Dec.{leb}
-use lib.ListN.{length, getD, drop, drop-of-length-le}
+use lib.ListN.{length, getD, drop}
 use lib.Seq.{drop-cons}
 use borrow.Author.Tests.{le-leb, lt-leb}
 use Rattle.theory.specs.Route.{Problem, path, reverse-if}
 use Rattle.theory.specs.Costs.{last-of}
 use Rattle.theory.specs.Tables.{Stops, problem}
 use Rattle.theory.proofs.Clock.{on-time, clock-step}
-use Rattle.theory.proofs.Delta.{length-reverse-if}
+use Rattle.theory.proofs.Costs.{path-append}
 use Rattle.reconnection.proofs.Reversal.{getD-reverse}
 use Rattle.deadlines.specs.declared.Walked.{Walked}
 use Rattle.deadlines.specs.Walk.{Walks}
@@ -36,21 +35,21 @@ placed-known part false s i h = s .known i h
 
 -- ---- one walk
 
--- At place i of a part: what is to come decides, from the stop before it and the second of the clock.
-pub record Going (P : Problem) (from clock : ℕ) (part : List ℕ) (i previous now : ℕ) : Type 0 where
-  pub kept : on-time P from clock part ≡ on-time P previous now (drop i part)
-  pub last : last-of from part ≡ last-of previous (drop i part)
-  pub reached : clock + path (P .leg) from part ≡ now + path (P .leg) previous (drop i part)
+-- On the way through a part: what is to come decides, from the stop before it and the second of the clock.
+pub record Going (P : Problem) (from clock : ℕ) (part : List ℕ) (previous now : ℕ) (rest : List ℕ) : Type 0 where
+  pub kept : on-time P from clock part ≡ on-time P previous now rest
+  pub last : last-of from part ≡ last-of previous rest
+  pub reached : clock + path (P .leg) from part ≡ now + path (P .leg) previous rest
 
-pub set-out : (P : Problem) (from clock : ℕ) (part : List ℕ) → Going P from clock part 0 from clock
+pub set-out : (P : Problem) (from clock : ℕ) (part : List ℕ) → Going P from clock part from clock part
 set-out P from clock part = record { kept = refl; last = refl; reached = refl }
 
-module _ (P : Problem) (from clock : ℕ) (part : List ℕ) (i previous now stop seconds : ℕ) (h : i < length part) (going : Going P from clock part i previous now)
+module _ (P : Problem) (from clock : ℕ) (part : List ℕ) (i previous now stop seconds : ℕ) (h : i < length part) (going : Going P from clock part previous now (drop i part))
     (at : stop ≡ getD part i 0) (leg : seconds ≡ P .leg previous stop) where
   next-test : on-time P from clock part ≡ (leb (now + seconds) (P .latest stop) && on-time P stop (now + seconds) (drop (suc i) part))
   next-test = rw (leg, at) (going .kept ∙ clock-step P previous now part i h)
 
-  pub goes-on : now + seconds ≤ P .latest stop → Going P from clock part (i + 1) stop (now + seconds)
+  pub goes-on : now + seconds ≤ P .latest stop → Going P from clock part stop (now + seconds) (drop (i + 1) part)
   unfolding last-of path
   goes-on l =
       record {
@@ -67,11 +66,10 @@ module _ (P : Problem) (from clock : ℕ) (part : List ℕ) (i previous now stop
         reached = λ t. absurd (false≢true (sym e ∙ t));
       }
 
-pub arrived : (P : Problem) (from clock : ℕ) (part : List ℕ) (i previous now : ℕ) (r : Walked) → length part ≤ i → Going P from clock part i previous now →
+pub arrived : (P : Problem) (from clock : ℕ) (part : List ℕ) (previous now : ℕ) (rest : List ℕ) (r : Walked) → rest ≡ [] → Going P from clock part previous now rest →
     r .kept ≡ true → r .last ≡ previous → r .clock ≡ now → Walks P from clock part r
 unfolding on-time last-of path
-arrived P from clock part i previous now r h going k l t =
-    let e : drop i part ≡ [] = drop-of-length-le part h in
+arrived P from clock part previous now rest r e going k l t =
     record {
       kept = k ∙ sym (going .kept ∙ rw e);
       last = λ u. l ∙ sym (going .last ∙ rw e);
@@ -92,6 +90,34 @@ on-time-append P a t [] ys = let e : t + 0 ≡ t = omega arith in rw e
 on-time-append P a t (x ∷ xs) ys =
     let e : t + P .leg a x + path (P .leg) x xs ≡ t + (P .leg a x + path (P .leg) x xs) = omega arith in
     rw (on-time-append P x (t + P .leg a x) xs ys, e) (sym (and-assoc (leb (t + P .leg a x) (P .latest x)) (on-time P x (t + P .leg a x) xs) _))
+
+last-append : (a : ℕ) (xs ys : List ℕ) → last-of a (xs ++ ys) ≡ last-of (last-of a xs) ys
+unfolding last-of
+last-append a [] ys = refl
+last-append a (x ∷ xs) ys = last-append x xs ys
+
+-- One part of the way is walked.
+module _ (P : Problem) (from clock : ℕ) (whole : List ℕ) (previous now : ℕ) (part rest : List ℕ) (going : Going P from clock whole previous now (part ++ rest))
+    {r : Walked} (walks : Walks P previous now part r) where
+  parted : on-time P from clock whole ≡ (r .kept && on-time P (last-of previous part) (now + path (P .leg) previous part) rest)
+  parted = going .kept ∙ on-time-append P previous now part rest ∙ ap (λ b. b && on-time P (last-of previous part) (now + path (P .leg) previous part) rest) (sym (walks .kept))
+
+  pub part-walked : r .kept ≡ true → Going P from clock whole (r .last) (r .clock) rest
+  part-walked k =
+      rw (walks .last k, walks .reached k)
+      (record {
+        kept = parted ∙ rw k;
+        last = going .last ∙ last-append previous part rest;
+        reached = going .reached ∙ rw (path-append (P .leg) previous part rest) (omega arith);
+      })
+
+  pub part-late : r .kept ≡ false → Walks P from clock whole r
+  part-late k =
+      record {
+        kept = k ∙ sym (parted ∙ rw k);
+        last = λ t. absurd (false≢true (sym k ∙ t));
+        reached = λ t. absurd (false≢true (sym k ∙ t));
+      }
 
 -- No depot is read.
 pub any-depot : (locations : ℕ) (legs latest : List ℕ) (depot depot′ a t : ℕ) (xs : List ℕ) →

@@ -68,26 +68,26 @@ pub fn walk(
     ensures { λ r. ⌜ WalkedPart locations (problem locations (now (legs .entry)) (now (latest .entry)) 0) from clock (reverse-if reversed (now (part .entry))) r ⌝ }
 {
     let mut now = clock;
-    let mut previous = from;
+    let mut last = from;
     let mut i = 0;
     while i < part.len() {
-        let stop = stop_of(part, reversed, i);
-        now += costs::route_distance(locations, legs, previous, stop);
-        let location = stop as usize;
-        let deadline = latest[location] as u64;
+        let next = stop_of(part, reversed, i);
+        now += costs::route_distance(locations, legs, last, next);
+        let place = next as usize;
+        let deadline = latest[place] as u64;
         if deadline < now {
             return Walked {
                 kept: false,
-                last: previous,
+                last,
                 clock: now,
             };
         }
-        previous = stop;
+        last = next;
         i += 1;
     }
     Walked {
         kept: true,
-        last: previous,
+        last,
         clock: now,
     }
 }

@@ -1,2 +1,3 @@
 pub mod Candidate
+pub mod Parts
 pub mod Gain

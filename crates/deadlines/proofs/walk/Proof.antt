@@ -3,7 +3,7 @@ use mathlib.Core.Path.{refl}
 use mathlib.Core.List.{List}
 use Prim.Native.Nat.{ℕ, _+_, _-_, _*_, _≤_, _<_}
 use native.Mathlib.Omega.{arith}
-use lib.ListN.{length}
+use lib.ListN.{length, drop, drop-of-length-le}
 use Rattle.theory.specs.Route.{reverse-if}
 use Rattle.theory.specs.Tables.{problem}
 use Rattle.theory.proofs.Delta.{length-reverse-if}
@@ -13,14 +13,14 @@ use Rattle.deadlines.proofs.walk.Statement.{statement}
 use Rattle.deadlines.proofs.walk.Tie as tie
 
 abbrev Inv-loop : tie.InvT-loop
-Inv-loop locations legs latest part reversed from clock now₀ previous₀ i₀ now previous i =
+Inv-loop locations legs latest part reversed from clock now₀ last₀ i₀ now last i =
     (i ≤ length part)
-    × (previous < locations)
+    × (last < locations)
     × (now ≤ clock + 1000000 * i)
-    × Going (problem locations legs latest 0) from clock (reverse-if reversed part) i previous now
+    × Going (problem locations legs latest 0) from clock (reverse-if reversed part) last now (drop i (reverse-if reversed part))
 
 abbrev μ-loop : tie.MeasureT-loop
-μ-loop locations legs latest part reversed from clock now₀ previous₀ i₀ now previous i = length part - i
+μ-loop locations legs latest part reversed from clock now₀ last₀ i₀ now last i = length part - i
 
 -- The part as it is placed.
 abbrev walked : tie.Start Inv-loop μ-loop → List ℕ
@@ -51,8 +51,8 @@ route-distance-requires c κs =
 add-now : tie.Need-add-now Inv-loop μ-loop
 add-now c = search needs
 
-cast-location : tie.Need-cast-location Inv-loop μ-loop
-cast-location c = omega (arith, known (c .before), c .before .before .before .before .before .before .before .pre .table .few)
+cast-place : tie.Need-cast-place Inv-loop μ-loop
+cast-place c = omega (arith, known (c .before), c .before .before .before .before .before .before .before .pre .table .few)
 
 mul-deadline : tie.Need-mul-deadline Inv-loop μ-loop
 mul-deadline c = omega (arith, known (c .before), c .before .before .before .before .before .before .before .pre .table .few)
@@ -70,7 +70,7 @@ returns c =
     let h = c .before .before .before .before .loop-test .taken in
     let d = c .before .before .route-distance .ensures in
     record {
-      walks = late-there (problem (s .args .locations) (s .args .legs .now) (s .args .latest .now) 0) (s .args .from) (s .args .clock) (walked s) (l .i) (l .previous) (l .now) _ _
+      walks = late-there (problem (s .args .locations) (s .args .legs .now) (s .args .latest .now) 0) (s .args .from) (s .args .clock) (walked s) (l .i) (l .last) (l .now) _ _
           (within s (l .i) h) (l .inv .3) (c .before .before .before .stop-of .ensures) (d .is) _ refl (c .if1 .taken);
       known = l .inv .1;
       early = omega (arith, d .small, l .inv .2, h, s .pre .stops .short);
@@ -91,7 +91,7 @@ loop-again c =
       omega (arith, h),
       known (c .before .before .before),
       omega (arith, d .small, l .inv .2),
-      goes-on (problem (s .args .locations) (s .args .legs .now) (s .args .latest .now) 0) (s .args .from) (s .args .clock) (walked s) (l .i) (l .previous) (l .now) _ _
+      goes-on (problem (s .args .locations) (s .args .legs .now) (s .args .latest .now) 0) (s .args .from) (s .args .clock) (walked s) (l .i) (l .last) (l .now) _ _
           (within s (l .i) h) (l .inv .3) (c .before .before .before .stop-of .ensures) (d .is) (c .if1 .left),
     )
 
@@ -100,8 +100,8 @@ returns-2 c =
     let s = c .before .before .before .before .before in
     let l = c .before .loop in
     record {
-      walks = arrived (problem (s .args .locations) (s .args .legs .now) (s .args .latest .now) 0) (s .args .from) (s .args .clock) (walked s) (l .i) (l .previous) (l .now) _
-          (rw (length-reverse-if (s .args .reversed) (s .args .part .now)) (c .loop-test .left)) (l .inv .3) refl refl refl;
+      walks = arrived (problem (s .args .locations) (s .args .legs .now) (s .args .latest .now) 0) (s .args .from) (s .args .clock) (walked s) (l .last) (l .now) _ _
+          (drop-of-length-le (walked s) {i = l .i} (rw (length-reverse-if (s .args .reversed) (s .args .part .now)) (c .loop-test .left))) (l .inv .3) refl refl refl;
       known = l .inv .1;
       early = omega (arith, l .inv .2, l .inv .0, s .pre .stops .short);
     }
@@ -116,7 +116,7 @@ walk-spec =
     stop-of-requires
     route-distance-requires
     add-now
-    cast-location
+    cast-place
     mul-deadline
     shared-slice-read-deadline
     cast-deadline
