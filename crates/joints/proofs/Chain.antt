@@ -62,7 +62,7 @@ module _ {d : ℕ → ℕ → ℕ} {part : ℕ → List ℕ} {count head tail : 
 -- ---- the segments of a cut set
 
 module _ (cs r : List ℕ) (cut-set : CutSet (length cs) (length r) cs) where
-  full-part : (s : ℕ) → s < state-count (length cs) → 0 < length (placed-in cs r s)
+  pub full-part : (s : ℕ) → s < state-count (length cs) → 0 < length (placed-in cs r s)
   full-part s h =
       let k : 1 + s / 2 < length cs = omega arith in
       rw (
