@@ -2,13 +2,13 @@
 use mathlib.Core.Path.{_≡_}
 use mathlib.Core.Bool.{Bool, true, _&&_}
 use mathlib.Core.List.{List, [], _∷_, reverse}
-use Prim.Native.Nat.{ℕ, _+_, _*_, _^_, _≤_, _<_}
+use Prim.Native.Nat.{ℕ, _+_, _-_, _*_, _^_, _≤_, _<_}
 use lib.Dec.{ltb}
 use lib.ListN.{length, getD}
 use lib.Seq.{slice}
 use Rattle.theory.specs.Route.{Problem, path}
 use Rattle.theory.specs.Costs.{backward}
-use Rattle.theory.specs.Tables.{LegTable, Stops, problem}
+use Rattle.theory.specs.Tables.{LegTable, Stops, CutSet, problem}
 use Rattle.theory.proofs.Clock.{on-time}
 use Rattle.costs.specs.RouteCosts.{leg, Sums}
 use Rattle.joints.specs.States.{state-count, placed-in}
@@ -48,6 +48,27 @@ pub record Growable (locations : ℕ) (legs latest route backward-sums : List �
   pub of : Spannable locations legs latest route backward-sums start end
   pub more : end < length route
   pub dues : SegmentDues (problem locations legs latest 0) (slice start end route) straight reversed
+
+-- Places for the dues, and a middle segment.
+pub record Puttable (dues : List ℕ) (segment : ℕ) : Type 0 where
+  pub places : length dues ≡ 8
+  pub least : 1 ≤ segment
+  pub most : segment ≤ 4
+
+-- What the dues of the first `count` middle segments are read from, and the places for them.
+pub record DuesFillable (locations : ℕ) (legs latest route backward-sums cuts : List ℕ) (count : ℕ) (dues : List ℕ) : Type 0 where
+  pub table : LegTable locations legs
+  pub deadlines : length latest ≡ locations
+  pub stops : Stops locations route
+  pub backwards : Sums route (backward (leg locations legs) route) backward-sums
+  pub cut-set : CutSet (length cuts) (length route) cuts
+  pub fewer : count < length cuts
+  pub places : length dues ≡ 8
+
+-- The dues of the first `count` middle segments: segment i, between the cuts i - 1 and i, as state 2 i - 2 and reversed as the next.
+pub record SegmentsDue (P : Problem) (cuts route : List ℕ) (count : ℕ) (dues : List ℕ) : Type 0 where
+  pub places : length dues ≡ 8
+  pub each : (i : ℕ) → 1 ≤ i → i ≤ count → SegmentDues P (slice (getD cuts (i - 1) 0) (getD cuts i 0) route) (getD dues (2 * i - 2) 0) (getD dues (2 * i - 2 + 1) 0)
 
 -- Along the states listed, from state a left at second t: each is left before its due.
 unfoldable pub in-time : List ℕ → List ℕ → ℕ → ℕ → List ℕ → Bool

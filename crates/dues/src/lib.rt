@@ -1,9 +1,10 @@
 // Deadlines of placed segments, shared by the candidates that have them: the second before which a segment must be left. No entry: for the inner search.
 ghost use mathlib.Core.Path.{_≡_};
 ghost use Prim.Native.Nat.{min, _+_, _-_, _*_};
+ghost use lib.ListN.{set};
 ghost use lib.Seq.{slice};
 ghost use Rattle.theory.specs.Tables.{problem};
-ghost use Rattle.dues.specs.Due.{in-time, OwnDue, OwnDueIs, Growable, Spannable, SegmentDues, RowTimed};
+ghost use Rattle.dues.specs.Due.{in-time, OwnDue, OwnDueIs, Growable, Spannable, SegmentDues, Puttable, DuesFillable, SegmentsDue, RowTimed};
 
 // The dues of a segment as it stands and reversed.
 pub struct Dues {
@@ -89,6 +90,40 @@ pub fn segment_dues(
         upto += 1;
     }
     Dues { straight, reversed }
+}
+
+// The dues of a middle segment into the places of its two states.
+pub fn put_dues(dues: &mut [u64; 8], segment: usize, straight: u64, reversed: u64)
+    requires { ⌜ Puttable (now dues) segment ⌝ }
+    ensures { λ _. ⌜ now (dues .exit) ≡ set (set (now (dues .entry)) (2 * segment - 2) straight) (2 * segment - 2 + 1) reversed ⌝ }
+{
+    let s = 2 * segment - 2;
+    dues[s] = straight;
+    dues[s + 1] = reversed;
+}
+
+// The dues of the first `count` middle segments; only the cuts up to that of number `count` are read, so those behind it share them.
+pub fn fill_dues(
+    locations: usize,
+    legs: &[u32],
+    latest: &[u32],
+    route: &[u32],
+    backward: &[u64; 512],
+    cuts: &[usize],
+    count: usize,
+    dues: &mut [u64; 8],
+)
+    requires { ⌜ DuesFillable locations (now legs) (now latest) (now route) (now backward) (now cuts) count (now dues) ⌝ }
+    ensures { λ _. ⌜ SegmentsDue (problem locations (now (legs .entry)) (now (latest .entry)) 0) (now (cuts .entry)) (now (route .entry)) count (now (dues .exit)) ⌝ }
+{
+    let mut i = 1;
+    while i <= count {
+        let start = cuts[i - 1];
+        let end = cuts[i];
+        let found = segment_dues(locations, legs, latest, route, backward, start, end);
+        put_dues(dues, i, found.straight, found.reversed);
+        i += 1;
+    }
 }
 
 fn wide(x: u8) -> usize
