@@ -2,3 +2,4 @@ pub mod Candidate
 pub mod Parts
 pub mod Gain
 pub mod MiddleOnly
+pub mod DueGain

@@ -1,0 +1,57 @@
+-- Where the route keeps every deadline and the dues of the states are known, a shorter pattern improves exactly where its row is in time. Assumes nothing.
+use mathlib.Core.Path.{_≡_, refl, sym, ap, _∙_}
+use mathlib.Core.Bool.{Bool, true, false, _&&_}
+use mathlib.Core.List.{List}
+use Prim.Native.Nat.{ℕ, _+_, _-_, _*_, _<_}
+use native.Mathlib.Omega.{arith}
+use lib.Dec.{ltb}
+use lib.ListN.{length}
+use lib.Seq.{slice}
+use borrow.Author.Tests.{lt-ltb, ltb-true}
+use Rattle.theory.specs.Moves.{Pattern}
+use Rattle.theory.specs.Route.{Problem, path, tour-length, reconnected, feasible}
+use Rattle.theory.specs.Costs.{last-of}
+use Rattle.theory.specs.Polish.{move-at}
+use Rattle.theory.specs.Tables.{problem, pattern-rows, ForK}
+use Rattle.theory.proofs.Clock.{on-time}
+use Rattle.theory.proofs.Rows.{listed-for-k}
+use Rattle.deadlines.proofs.Walking.{any-depot}
+use Rattle.joints.specs.States.{row, standing-row}
+use Rattle.joints.specs.JointTable.{chain}
+use Rattle.joints.proofs.Chain.{shorter}
+use Rattle.dues.specs.Due.{in-time, DuesOf}
+use Rattle.dues.proofs.InTime.{row-kept}
+use Rattle.search.specs.Parts.{head, middle}
+use Rattle.search.specs.Gain.{gains, Tabled}
+use Rattle.search.proofs.MiddleOnly.{middle-only}
+
+and-true : (b : Bool) → (b && true) ≡ b
+and-true true = refl
+and-true false = refl
+
+module _ {locations : ℕ} {legs latest : List ℕ} {depot : ℕ} {r cs orders masks rows J : List ℕ} {limit : ℕ} (D : List ℕ)
+    (given : Tabled locations legs latest depot r cs orders masks rows J limit) (dues : DuesOf (problem locations legs latest 0) cs r D)
+    (kept : feasible (problem locations legs latest depot) r ≡ true) where
+  abbrev P : Problem
+  P = problem locations legs latest depot
+
+  abbrev pattern : ℕ → Pattern
+  pattern i = move-at (pattern-rows (length cs) orders masks) cs i .pattern
+
+  -- When the head is left.
+  abbrev clock : ℕ
+  clock = path (P .leg) depot (head r cs)
+
+  pub shorter-gains : (i : ℕ) → i < limit → chain J 9 (row rows i) < chain J 9 (standing-row (length cs)) →
+      gains locations legs latest depot r cs orders masks i ≡ in-time J D 9 clock (slice (4 * i) (4 * i + (length cs - 1)) rows)
+  shorter-gains i h l =
+      let k : i < length masks = omega (arith, given .allowed) in
+      let f : ForK (length cs) (pattern i .order) (pattern i .mask) = listed-for-k (length cs) orders masks (given .patterns) i _ k in
+      let e = shorter P cs r J (pattern i .order) (pattern i .mask) (given .cut-set) f (given .joined) in
+      let c = ap (λ s. ltb (chain J 9 s) (chain J 9 (standing-row (length cs)))) (sym (given .state-rows .each i k)) in
+      let short : ltb (tour-length P (reconnected (record { cuts = cs; pattern = pattern i }) r)) (tour-length P r) ≡ true = e ∙ c ∙ lt-ltb _ _ l in
+      ap (λ b. feasible P (reconnected (record { cuts = cs; pattern = pattern i }) r) && b) short
+      ∙ and-true (feasible P (reconnected (record { cuts = cs; pattern = pattern i }) r))
+      ∙ middle-only cs r (given .cut-set) P (pattern i) f kept (ltb-true _ _ short)
+      ∙ any-depot locations legs latest depot 0 (last-of depot (head r cs)) clock (middle r cs (pattern i .order) (pattern i .mask))
+      ∙ sym (row-kept (problem locations legs latest 0) cs r J D (given .cut-set) (given .joined) dues (pattern i .order) rows (pattern i .mask) i clock f (given .state-rows .each i k))
