@@ -7,12 +7,13 @@ use native.Mathlib.Numerals.{add-one}
 use native.Mathlib.Omega.{arith}
 use lib.Dec.{ltb}
 use lib.ListN.{length, getD, take, drop, replicate, length-map}
-use lib.Seq.{slice, slice-cons, slice-empty, length-slice, take-at, take-take}
+use lib.Seq.{slice, slice-cons, slice-empty, length-slice, take-at, take-take, getD-drop, getD-take}
 use borrow.Author.Tests.{lt-ltb, le-ltb}
 use Rattle.theory.specs.Route.{Problem, path, segments, placed}
 use Rattle.theory.specs.Costs.{last-of, first-of, inner}
 use Rattle.theory.specs.Tables.{CutSet, ForK}
 use Rattle.theory.proofs.Clock.{on-time}
+use Rattle.theory.proofs.Index.{getD-map}
 use Rattle.theory.proofs.Orders.{in-range}
 use Rattle.costs.proofs.Orders.{middle-is, pattern-middle}
 use Rattle.deadlines.proofs.Walking.{on-time-append}
@@ -79,18 +80,40 @@ first-states rows i m h =
     let f : 4 * i + 4 - 4 * i ≡ 4 = omega arith in
     rw (front-of (4 * i) (4 * i + m) rows, front-of (4 * i) (4 * i + 4) rows, e, f, take-take m 4 (drop (4 * i) rows) h)
 
+-- A pattern's row begins with the states of its middle segments.
+module _ (k : ℕ) (order rows : List ℕ) (mask i : ℕ) (two : 2 ≤ k) (most : k ≤ 5) (f : ForK k order mask) (e : row rows i ≡ states k order mask) where
+  long : k ≤ length order
+  long = pattern-middle k order mask two f .long
+
+  row-states : slice (4 * i) (4 * i + (k - 1)) rows ≡ map (state-of mask) (slice 1 k order)
+  unfolding states
+  row-states =
+      first-states rows i (k - 1) (omega arith)
+      ∙ ap (take (k - 1)) e
+      ∙ take-at (map (state-of mask) (slice 1 k order)) (replicate (5 - k) 8) (k - 1) (length-map (slice 1 k order) (state-of mask) ∙ length-slice 1 k order long)
+
+  pub row-known : (c : ℕ) → 4 * i ≤ c → c < 4 * i + (k - 1) → getD rows c 0 < 8
+  row-known c l m =
+      let j = c - 4 * i in
+      let at : 4 * i + j ≡ c = omega arith in
+      let o = slice 1 k order in
+      let stands : getD rows c 0 ≡ getD (slice (4 * i) (4 * i + (k - 1)) rows) j 0 =
+      sym (getD-drop (4 * i) (take (4 * i + (k - 1)) rows) j 0 ∙ ap (λ n. getD (take (4 * i + (k - 1)) rows) n 0) at ∙ getD-take (4 * i + (k - 1)) rows c 0 m) in
+      let is : getD rows c 0 ≡ state-of mask (getD o j 0) =
+      stands ∙ ap (λ s. getD s j 0) row-states ∙ getD-map (state-of mask) o j 0 0 (omega (arith, length-slice 1 k order long)) in
+      let place : getD o j 0 ≡ getD order (1 + j) 0 = getD-drop 1 (take k order) j 0 ∙ getD-take k order (1 + j) 0 (omega arith) in
+      let middle = pattern-middle k order mask two f in
+      let b = state-below k mask (getD order (1 + j) 0) (middle .least (1 + j) (omega arith) (omega arith)) (middle .most (1 + j) (omega arith) (omega arith)) in
+      omega (arith, b, is, ap (state-of mask) place)
+
 module _ (P : Problem) (cs r J D : List ℕ) (cut-set : CutSet (length cs) (length r) cs) {head tail : ℕ} (t : JointTable (P .leg) (placed-in cs r) (state-count (length cs)) head tail J)
     (dues : DuesOf P cs r D) where
   -- The states of a pattern's row are left before their dues exactly where its middle segments, walked from the head's end, keep their deadlines.
   pub row-kept : (order rows : List ℕ) (mask i clock : ℕ) → ForK (length cs) order mask → row rows i ≡ states (length cs) order mask →
       in-time J D 9 clock (slice (4 * i) (4 * i + (length cs - 1)) rows) ≡ on-time P head clock (flatten (placed mask (segments 0 cs r) (slice 1 (length cs) order)))
-  unfolding states
   row-kept order rows mask i clock f e =
       let o = slice 1 (length cs) order in
-      let many : length o ≡ length cs - 1 = length-slice 1 (length cs) order (pattern-middle (length cs) order mask (cut-set .least) f .long) in
-      let s : slice (4 * i) (4 * i + (length cs - 1)) rows ≡ map (state-of mask) o =
-      first-states rows i (length cs - 1) (omega (arith, cut-set .most)) ∙ ap (take (length cs - 1)) e ∙ take-at (map (state-of mask) o) (replicate (5 - length cs) 8) (length cs - 1) (length-map o (state-of mask) ∙ many) in
-      ap (in-time J D 9 clock) s
+      ap (in-time J D 9 clock) (row-states (length cs) order rows mask i (cut-set .least) (cut-set .most) f e)
       ∙ along P (placed-in cs r) D t (full-part cs r cut-set) (dues .each) 9 head clock (t .from-head) (map (state-of mask) o) below
       ∙ ap (λ ps. on-time P head clock (flatten ps)) (placed-states cs r mask o (λ x m. within x m .0))
     where

@@ -2,12 +2,13 @@
 use mathlib.Core.Path.{_≡_, refl, sym, ap, _∙_}
 use mathlib.Core.Bool.{Bool, true, false, _&&_}
 use mathlib.Core.List.{List}
-use Prim.Native.Nat.{ℕ, _+_, _-_, _*_, _<_}
+use Prim.Native.Nat.{ℕ, _+_, _-_, _*_, _^_, _≤_, _<_}
+use native.Mathlib.Decide.{decLt}
 use native.Mathlib.Omega.{arith}
 use lib.Dec.{ltb}
 use lib.ListN.{length}
 use lib.Seq.{slice}
-use borrow.Author.Tests.{lt-ltb, ltb-true}
+use borrow.Author.Tests.{lt-ltb, le-ltb, ltb-true}
 use Rattle.theory.specs.Moves.{Pattern}
 use Rattle.theory.specs.Route.{Problem, path, tour-length, reconnected, feasible}
 use Rattle.theory.specs.Costs.{last-of}
@@ -20,14 +21,18 @@ use Rattle.joints.specs.States.{row, standing-row}
 use Rattle.joints.specs.JointTable.{chain}
 use Rattle.joints.proofs.Chain.{shorter}
 use Rattle.dues.specs.Due.{in-time, DuesOf}
-use Rattle.dues.proofs.InTime.{row-kept}
+use Rattle.dues.proofs.InTime.{row-kept, row-known}
 use Rattle.search.specs.Parts.{head, middle}
-use Rattle.search.specs.Gain.{gains, Tabled}
+use Rattle.search.specs.Gain.{gains, due-gain, Tabled, FirstGain, DueRows, FirstDue}
 use Rattle.search.proofs.MiddleOnly.{middle-only}
 
 and-true : (b : Bool) → (b && true) ≡ b
 and-true true = refl
 and-true false = refl
+
+and-false : (b : Bool) → (b && false) ≡ false
+and-false true = refl
+and-false false = refl
 
 module _ {locations : ℕ} {legs latest : List ℕ} {depot : ℕ} {r cs orders masks rows J : List ℕ} {limit : ℕ} (D : List ℕ)
     (given : Tabled locations legs latest depot r cs orders masks rows J limit) (dues : DuesOf (problem locations legs latest 0) cs r D)
@@ -55,3 +60,53 @@ module _ {locations : ℕ} {legs latest : List ℕ} {depot : ℕ} {r cs orders m
       ∙ middle-only cs r (given .cut-set) P (pattern i) f kept (ltb-true _ _ short)
       ∙ any-depot locations legs latest depot 0 (last-of depot (head r cs)) clock (middle r cs (pattern i .order) (pattern i .mask))
       ∙ sym (row-kept (problem locations legs latest 0) cs r J D (given .cut-set) (given .joined) dues (pattern i .order) rows (pattern i .mask) i clock f (given .state-rows .each i k))
+
+  gain-is : (i : ℕ) → i < length masks → gains locations legs latest depot r cs orders masks i
+      ≡ (feasible P (reconnected (record { cuts = cs; pattern = pattern i }) r) && ltb (chain J 9 (row rows i)) (chain J 9 (standing-row (length cs))))
+  gain-is i k =
+      ap (λ b. feasible P (reconnected (record { cuts = cs; pattern = pattern i }) r) && b)
+      (shorter P cs r J (pattern i .order) (pattern i .mask) (given .cut-set) (listed-for-k (length cs) orders masks (given .patterns) i _ k) (given .joined)
+      ∙ ap (λ s. ltb (chain J 9 s) (chain J 9 (standing-row (length cs)))) (sym (given .state-rows .each i k)))
+
+  -- A row is shorter and in time exactly where its pattern improves the route.
+  gain-due : (i : ℕ) → i < limit → gains locations legs latest depot r cs orders masks i ≡ due-gain J rows D (length cs) clock i
+  gain-due i h = by (decLt (chain J 9 (row rows i)) (chain J 9 (standing-row (length cs))))
+    where
+      by : Dec (chain J 9 (row rows i) < chain J 9 (standing-row (length cs))) → gains locations legs latest depot r cs orders masks i ≡ due-gain J rows D (length cs) clock i
+      by (yes l) =
+          shorter-gains i h l
+          ∙ sym (ap (λ b. in-time J D 9 clock (slice (4 * i) (4 * i + (length cs - 1)) rows) && b) (lt-ltb _ _ l) ∙ and-true (in-time J D 9 clock (slice (4 * i) (4 * i + (length cs - 1)) rows)))
+      by (no n) =
+          let l : chain J 9 (standing-row (length cs)) ≤ chain J 9 (row rows i) = omega arith in
+          gain-is i (omega (arith, given .allowed))
+          ∙ ap (λ b. feasible P (reconnected (record { cuts = cs; pattern = pattern i }) r) && b) (le-ltb _ _ l)
+          ∙ and-false (feasible P (reconnected (record { cuts = cs; pattern = pattern i }) r))
+          ∙ sym (ap (λ b. in-time J D 9 clock (slice (4 * i) (4 * i + (length cs - 1)) rows) && b) (le-ltb _ _ l) ∙ and-false (in-time J D 9 clock (slice (4 * i) (4 * i + (length cs - 1)) rows)))
+
+  pub first-due-gain : (i : ℕ) → FirstDue J rows D (length cs) clock limit i → FirstGain P (pattern-rows (length cs) orders masks) (length cs) r cs limit i
+  first-due-gain i d =
+      record {
+        within = d .within;
+        passed = λ x h. gain-due x (omega (arith, d .within)) ∙ d .passed x h;
+        gains = λ h. gain-due i h ∙ d .gains h;
+      }
+
+  -- The rows can be judged by the dues.
+  pub due-rows : clock ≤ 2 ^ 40 → DueRows J rows D (length cs) clock limit
+  due-rows e =
+      record {
+        chains = record {
+          padded = given .joined .padded;
+          places = given .state-rows .places;
+          few = omega (arith, given .allowed, given .patterns .few);
+          within = omega arith;
+          known = λ c l. given .state-rows .small c (omega (arith, given .allowed));
+        };
+        least = given .cut-set .least;
+        most = given .cut-set .most;
+        due-places = dues .places;
+        states = λ i h c l m.
+            let k : i < length masks = omega (arith, given .allowed) in
+            row-known (length cs) (pattern i .order) rows (pattern i .mask) i (given .cut-set .least) (given .cut-set .most) (listed-for-k (length cs) orders masks (given .patterns) i _ k) (given .state-rows .each i k) c l m;
+        early = e;
+      }

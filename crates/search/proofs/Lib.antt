@@ -3,3 +3,4 @@ pub mod Parts
 pub mod Gain
 pub mod MiddleOnly
 pub mod DueGain
+pub mod FirstDue

@@ -1,8 +1,10 @@
 -- The inner step of the scan: on one cut set, the first pattern whose candidate improves.
 use mathlib.Core.Path.{_≡_}
-use mathlib.Core.Bool.{Bool, true, false}
+use mathlib.Core.Bool.{Bool, true, false, _&&_}
 use mathlib.Core.List.{List}
-use Prim.Native.Nat.{ℕ, _*_, _≤_, _<_}
+use Prim.Native.Nat.{ℕ, _+_, _-_, _*_, _^_, _≤_, _<_}
+use lib.Dec.{ltb}
+use lib.Seq.{slice}
 use lib.ListN.{length, getD, take}
 use Rattle.theory.specs.Moves.{Pattern}
 use Rattle.theory.specs.Scan.{improves}
@@ -11,7 +13,8 @@ use Rattle.theory.specs.Route.{Problem, reconnected}
 use Rattle.theory.specs.Costs.{forward, backward}
 use Rattle.theory.specs.Tables.{problem, Timed, CutSet, PatternRows, pattern-rows}
 use Rattle.costs.specs.RouteCosts.{leg, Sums}
-use Rattle.joints.specs.States.{row, StateRows}
+use Rattle.joints.specs.States.{row, standing-row, StateRows}
+use Rattle.dues.specs.Due.{in-time}
 use Rattle.joints.specs.JointTable.{chain, Padded, JointOf}
 
 -- What the step reads: tables, the route with its running sums, k cuts of it, and rows of patterns of which the first `limit` are still allowed.
@@ -74,3 +77,25 @@ pub record Tabled (locations : ℕ) (legs latest : List ℕ) (depot : ℕ) (rout
   pub allowed : limit ≤ length masks
   pub state-rows : StateRows (length cuts) orders masks (length masks) rows
   pub joined : JointOf locations legs depot route cuts table
+
+-- ---- the step for a route that keeps every deadline, by the dues of the states
+
+-- Row x is below the standing one, and left in time.
+abbrev pub due-gain : List ℕ → List ℕ → List ℕ → ℕ → ℕ → ℕ → Bool
+due-gain table rows dues k clock x =
+    in-time table dues 9 clock (slice (4 * x) (4 * x + (k - 1)) rows) && ltb (chain table 9 (row rows x)) (chain table 9 (standing-row k))
+
+-- Rows of states, the joint table and the dues, and when the head is left.
+pub record DueRows (table rows dues : List ℕ) (k clock limit : ℕ) : Type 0 where
+  pub chains : Chains table rows 0 limit
+  pub least : 2 ≤ k
+  pub most : k ≤ 5
+  pub due-places : length dues ≡ 8
+  pub states : (i : ℕ) → i < limit → (c : ℕ) → 4 * i ≤ c → c < 4 * i + (k - 1) → getD rows c 0 < 8
+  pub early : clock ≤ 2 ^ 40
+
+-- The first such row, or `limit` where none is.
+pub record FirstDue (table rows dues : List ℕ) (k clock limit i : ℕ) : Type 0 where
+  pub within : i ≤ limit
+  pub passed : (x : ℕ) → x < i → due-gain table rows dues k clock x ≡ false
+  pub gains : i < limit → due-gain table rows dues k clock i ≡ true

@@ -10,7 +10,7 @@ ghost use Rattle.theory.proofs.Clock.{on-time};
 ghost use Rattle.deadlines.specs.Walk.{WalkedPart};
 ghost use Rattle.search.specs.Candidate.{candidate, Buildable, BuildableFront, BuiltFront};
 ghost use Rattle.search.specs.Parts.{head, middle, tail, after-head, WalkFrom, SegmentWalk, MiddleWalk, WalkedMiddle, CandidateWalk};
-ghost use Rattle.search.specs.Gain.{Chains, NextShorter, Tabled, FirstGain, Gainable, Gained};
+ghost use Rattle.search.specs.Gain.{Chains, NextShorter, Tabled, FirstGain, Gainable, Gained, DueRows, FirstDue};
 
 // The candidate of pattern i.
 fn build_candidate(
@@ -269,6 +269,30 @@ fn first_kept(
             from,
             clock,
         ) {
+            return i;
+        }
+        i = next_shorter(joint, rows, standing, i + 1, limit);
+    }
+    i
+}
+
+// The first row that costs less than the standing one and is left in time, or `limit`.
+fn first_due(
+    joint: &[u64; 160],
+    rows: &[u8; 1532],
+    dues: &[u64; 8],
+    k: usize,
+    clock: u64,
+    limit: usize,
+) -> usize
+    requires { ⌜ DueRows (now joint) (now rows) (now dues) k clock limit ⌝ }
+    ensures { λ r. ⌜ FirstDue (now (joint .entry)) (now (rows .entry)) (now (dues .entry)) k clock limit r ⌝ }
+{
+    let m = k - 1;
+    let standing = joints::standing_cost(joint, k);
+    let mut i = next_shorter(joint, rows, standing, 0, limit);
+    while i < limit {
+        if dues::row_in_time(joint, rows, dues, i, m, clock) {
             return i;
         }
         i = next_shorter(joint, rows, standing, i + 1, limit);
