@@ -42,7 +42,7 @@ no-states J D rows a t at end whole e so-far = so-far ∙ rw (e, slice-empty end
 
 -- ---- as a middle
 
-path-in : (d : ℕ → ℕ → ℕ) (a : ℕ) (xs : List ℕ) → 0 < length xs → path d a xs ≡ d a (first-of xs 0) + inner d xs
+pub path-in : (d : ℕ → ℕ → ℕ) (a : ℕ) (xs : List ℕ) → 0 < length xs → path d a xs ≡ d a (first-of xs 0) + inner d xs
 unfolding path first-of inner
 path-in d a [] h = absurd (omega arith)
 path-in d a (x ∷ xs) h = refl

@@ -9,12 +9,12 @@ use lib.ListN.{length, getD, take}
 use Rattle.theory.specs.Moves.{Pattern}
 use Rattle.theory.specs.Scan.{improves}
 use Rattle.theory.specs.Polish.{search-of, move-at}
-use Rattle.theory.specs.Route.{Problem, reconnected}
+use Rattle.theory.specs.Route.{Problem, reconnected, feasible}
 use Rattle.theory.specs.Costs.{forward, backward}
 use Rattle.theory.specs.Tables.{problem, Timed, CutSet, PatternRows, pattern-rows}
 use Rattle.costs.specs.RouteCosts.{leg, Sums}
 use Rattle.joints.specs.States.{row, standing-row, StateRows}
-use Rattle.dues.specs.Due.{in-time}
+use Rattle.dues.specs.Due.{in-time, DuesOf}
 use Rattle.joints.specs.JointTable.{chain, Padded, JointOf}
 
 -- What the step reads: tables, the route with its running sums, k cuts of it, and rows of patterns of which the first `limit` are still allowed.
@@ -99,3 +99,9 @@ pub record FirstDue (table rows dues : List ℕ) (k clock limit i : ℕ) : Type 
   pub within : i ≤ limit
   pub passed : (x : ℕ) → x < i → due-gain table rows dues k clock x ≡ false
   pub gains : i < limit → due-gain table rows dues k clock i ≡ true
+
+-- What the step reads where the route keeps every deadline: the dues of the states as well.
+pub record DueGainable (locations : ℕ) (legs latest : List ℕ) (depot : ℕ) (route forward-sums backward-sums cuts orders masks rows table spare dues : List ℕ) (limit : ℕ) : Type 0 where
+  pub gainable : Gainable locations legs latest depot route forward-sums backward-sums cuts orders masks rows table spare limit
+  pub dues-of : DuesOf (problem locations legs latest 0) cuts route dues
+  pub kept : feasible (problem locations legs latest depot) route ≡ true

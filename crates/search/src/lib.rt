@@ -9,8 +9,8 @@ ghost use Rattle.theory.specs.Tables.{problem, pattern-rows};
 ghost use Rattle.theory.proofs.Clock.{on-time};
 ghost use Rattle.deadlines.specs.Walk.{WalkedPart};
 ghost use Rattle.search.specs.Candidate.{candidate, Buildable, BuildableFront, BuiltFront};
-ghost use Rattle.search.specs.Parts.{head, middle, tail, after-head, WalkFrom, SegmentWalk, MiddleWalk, WalkedMiddle, CandidateWalk};
-ghost use Rattle.search.specs.Gain.{Chains, NextShorter, Tabled, FirstGain, Gainable, Gained, DueRows, FirstDue};
+ghost use Rattle.search.specs.Parts.{head, middle, tail, after-head, WalkFrom, SegmentWalk, MiddleWalk, WalkedMiddle, CandidateWalk, HeadTimed, HeadClock};
+ghost use Rattle.search.specs.Gain.{Chains, NextShorter, Tabled, FirstGain, Gainable, Gained, DueRows, FirstDue, DueGainable};
 
 // The candidate of pattern i.
 fn build_candidate(
@@ -343,6 +343,66 @@ pub fn first_gain(
         joint,
         limit,
     );
+    if i == limit {
+        return limit;
+    }
+    build_front(route, cuts, orders, masks, i, spare);
+    i
+}
+
+// When the head is left.
+fn head_clock(
+    locations: usize,
+    legs: &[u32],
+    depot: u32,
+    route: &[u32],
+    forward: &[u64; 512],
+    cuts: &[usize],
+) -> u64
+    requires { ⌜ HeadTimed locations (now legs) depot (now route) (now forward) (now cuts) ⌝ }
+    ensures { λ r. ⌜ HeadClock locations (now (legs .entry)) depot (now (route .entry)) (now (cuts .entry)) r ⌝ }
+{
+    let first = cuts[0];
+    if first == 0 {
+        return 0;
+    }
+    let inside = forward[first - 1];
+    costs::route_distance(locations, legs, depot, route[0]) + inside
+}
+
+// As `first_gain`, for a route that keeps every deadline: only the middle of a candidate is judged, by the dues of its states.
+pub fn first_gain_due(
+    locations: usize,
+    legs: &[u32],
+    latest: &[u32],
+    depot: u32,
+    route: &[u32],
+    forward: &[u64; 512],
+    backward: &[u64; 512],
+    cuts: &[usize],
+    orders: &[u8],
+    masks: &[u8],
+    rows: &[u8; 1532],
+    joint: &mut [u64; 160],
+    spare: &mut [u32; 512],
+    dues: &[u64; 8],
+    limit: usize,
+) -> usize
+    requires { ⌜ DueGainable locations (now legs) (now latest) depot (now route) (now forward) (now backward) (now cuts) (now orders) (now masks) (now rows) (now joint) (now spare) (now dues) limit ⌝ }
+    ensures { λ r. ⌜ Gained (problem locations (now (legs .entry)) (now (latest .entry)) depot) (pattern-rows (length (now (cuts .entry))) (now (orders .entry)) (now (masks .entry))) (length (now (cuts .entry))) (now (route .entry)) (now (cuts .entry)) limit r (now (joint .exit)) (now (spare .exit)) ⌝ }
+{
+    joints::fill_joint(
+        locations,
+        legs,
+        depot,
+        route,
+        forward,
+        backward,
+        cuts,
+        joint,
+    );
+    let clock = head_clock(locations, legs, depot, route, forward, cuts);
+    let i = first_due(joint, rows, dues, cuts.len(), clock, limit);
     if i == limit {
         return limit;
     }
