@@ -289,13 +289,13 @@ fn first_due(
     ensures { λ r. ⌜ FirstDue (now (joint .entry)) (now (rows .entry)) (now (dues .entry)) k clock limit r ⌝ }
 {
     let m = k - 1;
-    let standing = joints::standing_cost(joint, k);
-    let mut i = next_shorter(joint, rows, standing, 0, limit);
+    let current = joints::standing_cost(joint, k);
+    let mut i = next_shorter(joint, rows, current, 0, limit);
     while i < limit {
         if dues::row_in_time(joint, rows, dues, i, m, clock) {
             return i;
         }
-        i = next_shorter(joint, rows, standing, i + 1, limit);
+        i = next_shorter(joint, rows, current, i + 1, limit);
     }
     i
 }
