@@ -1,24 +1,27 @@
 -- The candidate of a pattern: its order as code lends it, and the route that it makes, which has the same stops. Assumes nothing.
 use mathlib.Core.Path.{_≡_, sym, ap, _∙_}
-use mathlib.Core.Bool.{Bool, true, false}
+use mathlib.Core.Bool.{true, false}
 use mathlib.Core.List.{List, [], _++_}
 use Prim.Native.Nat.{ℕ}
 use native.Mathlib.Omega.{arith}
 use lib.ListN.{length, getD, take, drop, length-append, length-drop}
 use lib.Seq.{take-at, length-take-le}
 use Rattle.theory.specs.Moves.{Move, total}
-use Rattle.theory.specs.Route.{Problem, reconnected, feasible}
+use Rattle.theory.specs.Route.{Problem, reconnected}
 use Rattle.theory.specs.Polish.{move-at}
-use Rattle.theory.specs.Tables.{problem, Order, pattern-rows}
-use Rattle.theory.specs.Answers.{Checked}
-use Rattle.theory.specs.declared.Deadline.{Deadline}
-use Rattle.theory.specs.declared.Deadline.the-variants as Check
+use Rattle.theory.specs.Tables.{Order, ForK, pattern-rows}
 use Rattle.theory.proofs.Route.{total-reconnected}
 use Rattle.theory.proofs.Rows.{lent-row, lent-at, listed-for-k}
+use Rattle.theory.proofs.Clock.{on-time}
 use Rattle.theory.proofs.ForK.{for-k-order}
-use Rattle.theory.proofs.Stops.{as-many, stops-rearranged}
-use Rattle.deadlines.proofs.Answer.{kept-feasible, late-infeasible}
-use Rattle.search.specs.Gain.{candidate, Candidate, TimedFront, Checkable, Judged}
+use Rattle.theory.proofs.Stops.{as-many}
+use Rattle.costs.specs.RouteCosts.{Middle}
+use Rattle.costs.proofs.Orders.{pattern-middle}
+use Rattle.deadlines.specs.declared.Walked.{Walked}
+use Rattle.deadlines.specs.Walk.{Walks}
+use Rattle.deadlines.proofs.Walking.{Going, set-out, part-walked, part-late}
+use Rattle.search.specs.Candidate.{candidate, Candidate, BuildableFront, BuiltFront}
+use Rattle.search.specs.Parts.{middle, tail, after-head}
 
 module _ {r cs orders masks : List ℕ} {i : ℕ} (given : Candidate r cs orders masks i) where
   abbrev move : Move
@@ -37,21 +40,35 @@ module _ {r cs orders masks : List ℕ} {i : ℕ} (given : Candidate r cs orders
   pub lent-candidate : reconnected (record { cuts = cs; pattern = record { order = lent-row (length cs) orders i; mask = getD masks i 0 } }) r ≡ candidate r cs orders masks i
   lent-candidate = ap (λ p. reconnected (record { cuts = cs; pattern = p }) r) (sym lent-pattern)
 
+  -- What it has behind the head, and its middle segments.
+  pub for-k : ForK (length cs) (move .pattern .order) (move .pattern .mask)
+  for-k = listed-for-k (length cs) orders masks (given .patterns) i _ (given .listed)
+
+  lent-behind : after-head r cs (move .pattern) ≡ middle r cs (lent-row (length cs) orders i) (getD masks i 0) ++ tail r cs
+  lent-behind = ap (after-head r cs) lent-pattern
+
+  pub lent-middle : Middle (length cs) (lent-row (length cs) orders i)
+  lent-middle = rw (ap (λ p. p .order) lent-pattern) at (pattern-middle (length cs) (move .pattern .order) (move .pattern .mask) (given .cut-set .least) for-k)
+
+  -- Once its middle segments are walked.
+  module _ {P : Problem} {from clock : ℕ} {w : Walked} (walks : Walks P from clock (middle r cs (lent-row (length cs) orders i) (getD masks i 0)) w) where
+    out : Going P from clock (middle r cs (lent-row (length cs) orders i) (getD masks i 0) ++ tail r cs) from clock (middle r cs (lent-row (length cs) orders i) (getD masks i 0) ++ tail r cs)
+    out = set-out P from clock _
+
+    pub kept-behind : w .kept ≡ true → on-time P from clock (after-head r cs (move .pattern)) ≡ on-time P (w .last) (w .clock) (tail r cs)
+    kept-behind k = ap (on-time P from clock) lent-behind ∙ part-walked P from clock _ from clock _ (tail r cs) out walks k .kept
+
+    pub late-behind : w .kept ≡ false → w .kept ≡ on-time P from clock (after-head r cs (move .pattern))
+    late-behind k = part-late P from clock _ from clock _ (tail r cs) out walks k .kept ∙ sym (ap (on-time P from clock) lent-behind)
+
   same-stops : (g : ℕ → ℕ) → total g (candidate r cs orders masks i) ≡ total g r
   same-stops g = total-reconnected g (length r) move r (given .cut-set .rising) (order-of .once)
 
   as-long : length (candidate r cs orders masks i) ≡ length r
   as-long = as-many r _ same-stops
 
--- What the check's answer says of a route.
-pub kept-told : (P : Problem) (r : List ℕ) {answer : Deadline} → answer ≡ Check.Kept → Checked P r answer → true ≡ feasible P r
-kept-told P r a told = sym (kept-feasible P r (rw a at told))
-
-pub late-told : (P : Problem) (r : List ℕ) {answer : Deadline} {p : ℕ} → answer ≡ Check.Late p → Checked P r answer → false ≡ feasible P r
-late-told P r a told = sym (late-infeasible P r (rw a at told))
-
 -- Built at the front of the spare array.
-module _ {locations : ℕ} {legs latest : List ℕ} {depot : ℕ} {r cs orders masks : List ℕ} {i : ℕ} {spare : List ℕ} (given : Checkable locations legs latest depot r cs orders masks i spare) where
+module _ {r cs orders masks : List ℕ} {i : ℕ} {spare : List ℕ} (given : BuildableFront r cs orders masks i spare) where
   pub room : length (take (length r) spare) ≡ length r
   room = length-take-le (length r) spare (omega (arith, given .places, given .of .cut-set .short))
 
@@ -59,24 +76,9 @@ module _ {locations : ℕ} {legs latest : List ℕ} {depot : ℕ} {r cs orders m
     out-length : length out ≡ length r
     out-length = ap length e ∙ as-long (given .of)
 
-    front : take (length r) (out ++ drop (length r) spare) ≡ candidate r cs orders masks i
-    front = take-at out (drop (length r) spare) (length r) out-length ∙ e
-
-    spare-length : length (out ++ drop (length r) spare) ≡ 512
-    spare-length = simp (length-append, length-drop) (omega (arith, out-length, given .of .cut-set .short, given .places))
-
-    pub front-timed : TimedFront locations legs latest depot r (out ++ drop (length r) spare)
-    front-timed =
-        let m = given .timed .measurable in
+    pub built-front : BuiltFront r cs orders masks i (out ++ drop (length r) spare)
+    built-front =
         record {
-          room = omega (arith, spare-length, given .of .cut-set .short);
-          timed = rw front
-              (record {
-                measurable = record { table = m .table; depot-known = m .depot-known; stops = stops-rearranged r _ (same-stops (given .of)) locations (m .stops) };
-                deadlines = given .timed .deadlines;
-              });
+          is = take-at out (drop (length r) spare) (length r) out-length ∙ e;
+          places = simp (length-append, length-drop) (omega (arith, out-length, given .of .cut-set .short, given .places));
         }
-
-    pub judged : {kept : Bool} → kept ≡ feasible (problem locations legs latest depot) (take (length r) (out ++ drop (length r) spare)) →
-        Judged (problem locations legs latest depot) r cs orders masks i kept (out ++ drop (length r) spare)
-    judged k = record { is = k ∙ ap (feasible (problem locations legs latest depot)) front; built = front; places = spare-length }

@@ -2,7 +2,7 @@
 use mathlib.Core.Path.{_≡_, refl, sym, ap, _∙_}
 use mathlib.Core.Bool.{Bool, true, false, _&&_}
 use mathlib.Core.List.{List}
-use Prim.Native.Nat.{ℕ, _+_, _≤_, _<_}
+use Prim.Native.Nat.{ℕ, _+_, _*_, _≤_, _<_}
 use native.Mathlib.Omega.{arith}
 use native.Mathlib.Decide.{decLt}
 use borrow.Author.Count.{below-more}
@@ -11,18 +11,26 @@ use lib.Dec.{ltb}
 use lib.ListN.{length}
 use Rattle.theory.specs.Route.{feasible}
 use Rattle.theory.specs.Tables.{problem, pattern-rows}
+use Rattle.theory.specs.Polish.{move-at}
+use Rattle.theory.proofs.Clock.{on-time}
 use Rattle.theory.proofs.Rows.{listed-for-k}
 use Rattle.joints.specs.States.{row, standing-row}
 use Rattle.joints.specs.JointTable.{chain}
 use Rattle.joints.proofs.Chain.{shorter}
-use Rattle.search.specs.Gain.{candidate, gains, Checkable, Judged, Chains, NextShorter, Tabled, FirstKept}
+use Rattle.deadlines.specs.declared.Walked.{Walked}
+use Rattle.deadlines.specs.Walk.{WalkedPart}
+use Rattle.search.specs.Candidate.{candidate, Candidate}
+use Rattle.search.specs.Parts.{head, after-head, WalkFrom, CandidateWalk}
+use Rattle.search.specs.Gain.{gains, Chains, NextShorter, Tabled, FirstGain}
+use Rattle.search.proofs.Candidate.{for-k}
+use Rattle.search.proofs.Parts.{behind-head, head-late}
 
 and-false : (b : Bool) → (b && false) ≡ false
 and-false true = refl
 and-false false = refl
 
-module _ {locations : ℕ} {legs latest : List ℕ} {depot : ℕ} {r cs orders masks rows J spare : List ℕ} {limit : ℕ}
-    (given : Tabled locations legs latest depot r cs orders masks rows J spare limit) where
+module _ {locations : ℕ} {legs latest : List ℕ} {depot : ℕ} {r cs orders masks rows J : List ℕ} {limit : ℕ}
+    (given : Tabled locations legs latest depot r cs orders masks rows J limit) where
   abbrev gain : ℕ → Bool
   gain i = gains locations legs latest depot r cs orders masks i
 
@@ -59,8 +67,13 @@ module _ {locations : ℕ} {legs latest : List ℕ} {depot : ℕ} {r cs orders m
         known = λ c l. given .state-rows .small c (omega (arith, given .allowed));
       }
 
-  pub checkable : (i : ℕ) {spare′ : List ℕ} → i < limit → length spare′ ≡ 512 → Checkable locations legs latest depot r cs orders masks i spare′
-  checkable i h n = record { of = record { cut-set = given .cut-set; patterns = given .patterns; listed = omega (arith, given .allowed) }; timed = given .timed; places = n }
+  candidate-of : (i : ℕ) → i < length masks → Candidate r cs orders masks i
+  candidate-of i h = record { cut-set = given .cut-set; patterns = given .patterns; listed = h }
+
+  pub walk-from : (from clock : ℕ) → from < locations → clock ≤ 7 * 512 * 1000000 → WalkFrom locations legs latest r cs from clock
+  walk-from from clock h e =
+      let m = given .timed .measurable in
+      record { table = m .table; deadlines = given .timed .deadlines; stops = m .stops; cut-set = given .cut-set; from-known = h; early = e }
 
   -- None improves before the next one that is shorter.
   pub passed-on : (s from : ℕ) {i : ℕ} → s ≡ standing → ((x : ℕ) → x < from → gain x ≡ false) → NextShorter J rows s from limit i → (x : ℕ) → x < i → gain x ≡ false
@@ -70,21 +83,44 @@ module _ {locations : ℕ} {legs latest : List ℕ} {depot : ℕ} {r cs orders m
       by (yes l) = before x l
       by (no n) = not-shorter x (omega (arith, next .most, given .allowed)) (rw e at (next .passed x (omega arith) h))
 
-  -- A shorter one that is late is passed.
-  pub passed-late : (i : ℕ) → i < limit → false ≡ kept i → ((x : ℕ) → x < i → gain x ≡ false) → (x : ℕ) → x < i + 1 → gain x ≡ false
-  passed-late i h e before = below-more (λ x. gain x ≡ false) i before (not-kept i (omega (arith, given .allowed)) e)
+  pub not-found : (i : ℕ) → limit ≤ i → i ≤ limit → ((x : ℕ) → x < i → gain x ≡ false) → FirstGain (problem locations legs latest depot) (pattern-rows (length cs) orders masks) (length cs) r cs limit i
+  not-found i h k before = record { within = k; passed = before; gains = λ m. absurd (omega arith) }
 
-  pub found : (s i : ℕ) {spare′ : List ℕ} → s ≡ standing → i < limit → chain J 9 (row rows i) < s → ((x : ℕ) → x < i → gain x ≡ false) →
-      Judged (problem locations legs latest depot) r cs orders masks i true spare′ →
-      FirstKept (problem locations legs latest depot) (pattern-rows (length cs) orders masks) (length cs) r cs limit i spare′
-  found s i e h l before j =
-      record {
-        first = record { within = omega arith; passed = before; gains = λ m. shorter-kept i (omega (arith, given .allowed)) (rw e at l) (j .is) };
-        built = λ m. j .built;
-        places = j .places;
-      }
+  pub none-shorter : (s i : ℕ) → i ≡ limit → s ≡ standing → NextShorter J rows s 0 limit i → FirstGain (problem locations legs latest depot) (pattern-rows (length cs) orders masks) (length cs) r cs limit limit
+  none-shorter s i e d next = not-found limit (omega arith) (omega arith) (λ x h. passed-on s 0 d (λ y l. absurd (omega arith)) next x (omega arith))
 
-  pub not-found : (i : ℕ) {spare′ : List ℕ} → limit ≤ i → i ≤ limit → ((x : ℕ) → x < i → gain x ≡ false) → length spare′ ≡ 512 →
-      FirstKept (problem locations legs latest depot) (pattern-rows (length cs) orders masks) (length cs) r cs limit i spare′
-  not-found i h k before n =
-      record { first = record { within = k; passed = before; gains = λ m. absurd (omega arith) }; built = λ m. absurd (omega arith); places = n }
+  -- With the head walked.
+  module _ {w : Walked} (walked : WalkedPart locations (problem locations legs latest 0) depot 0 (head r cs) w) where
+    abbrev kept-behind : ℕ → Bool
+    kept-behind i = on-time (problem locations legs latest 0) (w .last) (w .clock) (after-head r cs (move-at (pattern-rows (length cs) orders masks) cs i .pattern))
+
+    kept-is : w .kept ≡ true → (i : ℕ) → i < length masks → kept i ≡ kept-behind i
+    kept-is k i h =
+        behind-head locations legs latest depot r cs (move-at (pattern-rows (length cs) orders masks) cs i .pattern) (given .cut-set .least) (for-k (candidate-of i h)) (walked .walks) k
+
+    -- Where the head is late, so is every candidate.
+    pub none-kept : w .kept ≡ false → FirstGain (problem locations legs latest depot) (pattern-rows (length cs) orders masks) (length cs) r cs limit limit
+    none-kept k =
+        not-found limit (omega arith) (omega arith)
+        (λ x h.
+        let l : x < length masks = omega (arith, given .allowed) in
+        not-kept x l (sym (head-late locations legs latest depot r cs (move-at (pattern-rows (length cs) orders masks) cs x .pattern) (given .cut-set .least) (for-k (candidate-of x l)) (walked .walks) k)))
+
+    pub behind : (i : ℕ) → i < limit → CandidateWalk locations legs latest r cs orders masks i (w .last) (w .clock)
+    behind i h =
+        record {
+          of = candidate-of i (omega (arith, given .allowed));
+          walk = walk-from (w .last) (w .clock) (walked .known) (omega (arith, walked .early));
+          soon = omega (arith, walked .early);
+        }
+
+    -- A shorter one that is late is passed.
+    pub passed-late : (i : ℕ) → i < limit → w .kept ≡ true → false ≡ kept-behind i → ((x : ℕ) → x < i → gain x ≡ false) → (x : ℕ) → x < i + 1 → gain x ≡ false
+    passed-late i h k e before =
+        let l : i < length masks = omega (arith, given .allowed) in
+        below-more (λ x. gain x ≡ false) i before (not-kept i l (e ∙ sym (kept-is k i l)))
+
+    pub found : (s i : ℕ) → s ≡ standing → i < limit → w .kept ≡ true → chain J 9 (row rows i) < s → ((x : ℕ) → x < i → gain x ≡ false) → true ≡ kept-behind i →
+        FirstGain (problem locations legs latest depot) (pattern-rows (length cs) orders masks) (length cs) r cs limit i
+    found s i d h k l before e =
+        record { within = omega arith; passed = before; gains = λ m. shorter-kept i (omega (arith, given .allowed)) (rw d at l) (e ∙ sym (kept-is k i (omega (arith, given .allowed)))) }

@@ -1,2 +1,6 @@
 pub mod Candidate
+pub mod Parts
 pub mod Gain
+pub mod MiddleOnly
+pub mod DueGain
+pub mod FirstDue

@@ -1,8 +1,10 @@
 -- The inner step of the scan: on one cut set, the first pattern whose candidate improves.
 use mathlib.Core.Path.{_≡_}
-use mathlib.Core.Bool.{Bool, true, false}
+use mathlib.Core.Bool.{Bool, true, false, _&&_}
 use mathlib.Core.List.{List}
-use Prim.Native.Nat.{ℕ, _*_, _≤_, _<_}
+use Prim.Native.Nat.{ℕ, _+_, _-_, _*_, _^_, _≤_, _<_}
+use lib.Dec.{ltb}
+use lib.Seq.{slice}
 use lib.ListN.{length, getD, take}
 use Rattle.theory.specs.Moves.{Pattern}
 use Rattle.theory.specs.Scan.{improves}
@@ -11,7 +13,8 @@ use Rattle.theory.specs.Route.{Problem, reconnected, feasible}
 use Rattle.theory.specs.Costs.{forward, backward}
 use Rattle.theory.specs.Tables.{problem, Timed, CutSet, PatternRows, pattern-rows}
 use Rattle.costs.specs.RouteCosts.{leg, Sums}
-use Rattle.joints.specs.States.{row, StateRows}
+use Rattle.joints.specs.States.{row, standing-row, StateRows}
+use Rattle.dues.specs.Due.{in-time, DuesOf}
 use Rattle.joints.specs.JointTable.{chain, Padded, JointOf}
 
 -- What the step reads: tables, the route with its running sums, k cuts of it, and rows of patterns of which the first `limit` are still allowed.
@@ -45,43 +48,11 @@ pub record Gained (P : Problem) (ps : List Pattern) (k : ℕ) (route cuts : List
 
 -- ---- the parts of the step
 
--- The candidate of pattern i on the cut set.
-abbrev pub candidate : List ℕ → List ℕ → List ℕ → List ℕ → ℕ → List ℕ
-candidate route cuts orders masks i = reconnected (move-at (pattern-rows (length cuts) orders masks) cuts i) route
-
 -- Whether it improves the route.
 abbrev pub gains : ℕ → List ℕ → List ℕ → ℕ → List ℕ → List ℕ → List ℕ → List ℕ → ℕ → Bool
 gains locations legs latest depot route cuts orders masks i =
     improves (search-of (problem locations legs latest depot) (pattern-rows (length cuts) orders masks) (length cuts) (length route)) route
     (move-at (pattern-rows (length cuts) orders masks) cuts i)
-
--- The cut set and the pattern that make a candidate.
-pub record Candidate (route cuts orders masks : List ℕ) (i : ℕ) : Type 0 where
-  pub cut-set : CutSet (length cuts) (length route) cuts
-  pub patterns : PatternRows (length cuts) orders masks
-  pub listed : i < length masks
-
--- Places for it.
-pub record Buildable (route cuts orders masks : List ℕ) (i : ℕ) (out : List ℕ) : Type 0 where
-  pub of : Candidate route cuts orders masks i
-  pub room : length out ≡ length route
-
--- At the front of `spare` stands a route, as long as this one, whose deadlines can be checked.
-pub record TimedFront (locations : ℕ) (legs latest : List ℕ) (depot : ℕ) (route spare : List ℕ) : Type 0 where
-  pub room : length route ≤ length spare
-  pub timed : Timed locations legs latest depot (take (length route) spare)
-
--- A candidate that can be built and checked.
-pub record Checkable (locations : ℕ) (legs latest : List ℕ) (depot : ℕ) (route cuts orders masks : List ℕ) (i : ℕ) (spare : List ℕ) : Type 0 where
-  pub of : Candidate route cuts orders masks i
-  pub timed : Timed locations legs latest depot route
-  pub places : length spare ≡ 512
-
--- "A round keeps every deadline when none of its stops is late", of the candidate.
-pub record Judged (P : Problem) (route cuts orders masks : List ℕ) (i : ℕ) (kept : Bool) (spare : List ℕ) : Type 0 where
-  pub is : kept ≡ feasible P (candidate route cuts orders masks i)
-  pub built : take (length route) spare ≡ candidate route cuts orders masks i
-  pub places : length spare ≡ 512
 
 -- Rows of states up to `limit`, whose chains in the table can be added up.
 pub record Chains (table rows : List ℕ) (from limit : ℕ) : Type 0 where
@@ -99,17 +70,38 @@ pub record NextShorter (table rows : List ℕ) (standing from limit i : ℕ) : T
   pub shorter : i < limit → chain table 9 (row rows i) < standing
 
 -- The step once the joint table is filled.
-pub record Tabled (locations : ℕ) (legs latest : List ℕ) (depot : ℕ) (route cuts orders masks rows table spare : List ℕ) (limit : ℕ) : Type 0 where
+pub record Tabled (locations : ℕ) (legs latest : List ℕ) (depot : ℕ) (route cuts orders masks rows table : List ℕ) (limit : ℕ) : Type 0 where
   pub timed : Timed locations legs latest depot route
   pub cut-set : CutSet (length cuts) (length route) cuts
   pub patterns : PatternRows (length cuts) orders masks
   pub allowed : limit ≤ length masks
   pub state-rows : StateRows (length cuts) orders masks (length masks) rows
   pub joined : JointOf locations legs depot route cuts table
-  pub places : length spare ≡ 512
 
--- Its answer.
-pub record FirstKept (P : Problem) (ps : List Pattern) (k : ℕ) (route cuts : List ℕ) (limit i : ℕ) (spare : List ℕ) : Type 0 where
-  pub first : FirstGain P ps k route cuts limit i
-  pub built : i < limit → take (length route) spare ≡ reconnected (move-at ps cuts i) route
-  pub places : length spare ≡ 512
+-- ---- the step for a route that keeps every deadline, by the dues of the states
+
+-- Row x is below the standing one, and left in time.
+abbrev pub due-gain : List ℕ → List ℕ → List ℕ → ℕ → ℕ → ℕ → Bool
+due-gain table rows dues k clock x =
+    in-time table dues 9 clock (slice (4 * x) (4 * x + (k - 1)) rows) && ltb (chain table 9 (row rows x)) (chain table 9 (standing-row k))
+
+-- Rows of states, the joint table and the dues, and when the head is left.
+pub record DueRows (table rows dues : List ℕ) (k clock limit : ℕ) : Type 0 where
+  pub chains : Chains table rows 0 limit
+  pub least : 2 ≤ k
+  pub most : k ≤ 5
+  pub due-places : length dues ≡ 8
+  pub states : (i : ℕ) → i < limit → (c : ℕ) → 4 * i ≤ c → c < 4 * i + (k - 1) → getD rows c 0 < 8
+  pub early : clock ≤ 2 ^ 40
+
+-- The first such row, or `limit` where none is.
+pub record FirstDue (table rows dues : List ℕ) (k clock limit i : ℕ) : Type 0 where
+  pub within : i ≤ limit
+  pub passed : (x : ℕ) → x < i → due-gain table rows dues k clock x ≡ false
+  pub gains : i < limit → due-gain table rows dues k clock i ≡ true
+
+-- What the step reads where the route keeps every deadline: the dues of the states as well.
+pub record DueGainable (locations : ℕ) (legs latest : List ℕ) (depot : ℕ) (route forward-sums backward-sums cuts orders masks rows table spare dues : List ℕ) (limit : ℕ) : Type 0 where
+  pub gainable : Gainable locations legs latest depot route forward-sums backward-sums cuts orders masks rows table spare limit
+  pub dues-of : DuesOf (problem locations legs latest 0) cuts route dues
+  pub kept : feasible (problem locations legs latest depot) route ≡ true

@@ -1,1 +1,3 @@
+pub mod Candidate
+pub mod Parts
 pub mod Gain

@@ -1,0 +1,91 @@
+-- The due of a placed segment: the second before which it must be left.
+use mathlib.Core.Path.{_≡_}
+use mathlib.Core.Bool.{Bool, true, _&&_}
+use mathlib.Core.List.{List, [], _∷_, reverse}
+use Prim.Native.Nat.{ℕ, _+_, _-_, _*_, _^_, _≤_, _<_}
+use lib.Dec.{ltb}
+use lib.ListN.{length, getD}
+use lib.Seq.{slice}
+use Rattle.theory.specs.Route.{Problem, path}
+use Rattle.theory.specs.Costs.{backward}
+use Rattle.theory.specs.Tables.{LegTable, Stops, CutSet, problem}
+use Rattle.theory.proofs.Clock.{on-time}
+use Rattle.costs.specs.RouteCosts.{leg, Sums}
+use Rattle.joints.specs.States.{state-count, placed-in}
+use Rattle.joints.specs.JointTable.{Padded, cell}
+
+-- "A stop is late if the legs from the depot up to it exceed its latest": from wherever and at whatever second one sets out, no stop of the part is late
+-- exactly where its last one is reached before the due.
+pub record Due (P : Problem) (part : List ℕ) (due : ℕ) : Type 0 where
+  pub is : (a t : ℕ) → on-time P a t part ≡ ltb (t + path (P .leg) a part) due
+
+pub record OwnDue (latest : List ℕ) (stop : ℕ) : Type 0 where
+  pub known : stop < length latest
+  pub few : length latest ≤ 1024
+
+pub record OwnDueIs (latest : List ℕ) (stop due : ℕ) : Type 0 where
+  pub is : due ≡ getD latest stop 0 + 1
+  pub small : due ≤ 2 ^ 32
+
+-- A segment as it stands and reversed.
+pub record SegmentDues (P : Problem) (segment : List ℕ) (straight reversed : ℕ) : Type 0 where
+  pub as-it-stands : Due P segment straight
+  pub turned : Due P (reverse segment) reversed
+  pub small : straight ≤ 2 ^ 32
+  pub turned-small : reversed ≤ 2 ^ 32
+
+-- A segment of a route, not empty, with what its dues are read from.
+pub record Spannable (locations : ℕ) (legs latest route backward-sums : List ℕ) (start end : ℕ) : Type 0 where
+  pub table : LegTable locations legs
+  pub deadlines : length latest ≡ locations
+  pub stops : Stops locations route
+  pub backwards : Sums route (backward (leg locations legs) route) backward-sums
+  pub filled : start < end
+  pub within : end ≤ length route
+
+-- A segment whose dues are known, with a stop behind it.
+pub record Growable (locations : ℕ) (legs latest route backward-sums : List ℕ) (start end straight reversed : ℕ) : Type 0 where
+  pub of : Spannable locations legs latest route backward-sums start end
+  pub more : end < length route
+  pub dues : SegmentDues (problem locations legs latest 0) (slice start end route) straight reversed
+
+-- Places for the dues, and a middle segment.
+pub record Puttable (dues : List ℕ) (segment : ℕ) : Type 0 where
+  pub places : length dues ≡ 8
+  pub least : 1 ≤ segment
+  pub most : segment ≤ 4
+
+-- What the dues of the first `count` middle segments are read from, and the places for them.
+pub record DuesFillable (locations : ℕ) (legs latest route backward-sums cuts : List ℕ) (count : ℕ) (dues : List ℕ) : Type 0 where
+  pub table : LegTable locations legs
+  pub deadlines : length latest ≡ locations
+  pub stops : Stops locations route
+  pub backwards : Sums route (backward (leg locations legs) route) backward-sums
+  pub cut-set : CutSet (length cuts) (length route) cuts
+  pub fewer : count < length cuts
+  pub places : length dues ≡ 8
+
+-- The dues of the first `count` middle segments: segment i, between the cuts i - 1 and i, as state 2 i - 2 and reversed as the next.
+pub record SegmentsDue (P : Problem) (cuts route : List ℕ) (count : ℕ) (dues : List ℕ) : Type 0 where
+  pub places : length dues ≡ 8
+  pub each : (i : ℕ) → 1 ≤ i → i ≤ count → SegmentDues P (slice (getD cuts (i - 1) 0) (getD cuts i 0) route) (getD dues (2 * i - 2) 0) (getD dues (2 * i - 2 + 1) 0)
+
+-- Along the states listed, from state a left at second t: each is left before its due.
+unfoldable pub in-time : List ℕ → List ℕ → ℕ → ℕ → List ℕ → Bool
+in-time table dues a t [] = true
+in-time table dues a t (b ∷ bs) = ltb (t + cell table a b) (getD dues b 0) && in-time table dues b (t + cell table a b) bs
+
+-- A joint table, a row of at least m states, and the dues of the states.
+pub record RowTimed (table rows dues : List ℕ) (i m clock : ℕ) : Type 0 where
+  pub padded : Padded table
+  pub places : length rows ≡ 1532
+  pub due-places : length dues ≡ 8
+  pub within : i < 383
+  pub few : m ≤ 4
+  pub known : (c : ℕ) → 4 * i ≤ c → c < 4 * i + m → getD rows c 0 < 8
+  pub early : clock ≤ 2 ^ 40
+
+-- The due of each state of a cut set.
+pub record DuesOf (P : Problem) (cuts route dues : List ℕ) : Type 0 where
+  pub places : length dues ≡ 8
+  pub each : (s : ℕ) → s < state-count (length cuts) → Due P (placed-in cuts route s) (getD dues s 0)

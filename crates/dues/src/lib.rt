@@ -1,0 +1,161 @@
+// Deadlines of placed segments, shared by the candidates that have them: the second before which a segment must be left. No entry: for the inner search.
+ghost use mathlib.Core.Path.{_≡_};
+ghost use Prim.Native.Nat.{min, _+_, _-_, _*_};
+ghost use lib.ListN.{set};
+ghost use lib.Seq.{slice};
+ghost use Rattle.theory.specs.Tables.{problem};
+ghost use Rattle.dues.specs.Due.{in-time, OwnDue, OwnDueIs, Growable, Spannable, SegmentDues, Puttable, DuesFillable, SegmentsDue, RowTimed};
+
+// The dues of a segment as it stands and reversed.
+pub struct Dues {
+    pub straight: u64,
+    pub reversed: u64,
+}
+
+fn least(a: u64, b: u64) -> u64
+    ensures { λ r. ⌜ r ≡ min a b ⌝ }
+{
+    if a < b {
+        return a;
+    }
+    b
+}
+
+// The second behind the latest one of a stop.
+fn own_due(latest: &[u32], stop: u32) -> u64
+    requires { ⌜ OwnDue (now latest) stop ⌝ }
+    ensures { λ r. ⌜ OwnDueIs (now (latest .entry)) stop r ⌝ }
+{
+    let place = stop as usize;
+    latest[place] as u64 + 1
+}
+
+// The dues of route[start..end + 1] from those of route[start..end].
+pub fn take_in(
+    locations: usize,
+    legs: &[u32],
+    latest: &[u32],
+    route: &[u32],
+    backward: &[u64; 512],
+    start: usize,
+    end: usize,
+    straight: u64,
+    reversed: u64,
+) -> Dues
+    requires { ⌜ Growable locations (now legs) (now latest) (now route) (now backward) start end straight reversed ⌝ }
+    ensures { λ r. ⌜ SegmentDues (problem locations (now (legs .entry)) (now (latest .entry)) 0) (slice start (end + 1) (now (route .entry))) (r .straight) (r .reversed) ⌝ }
+{
+    let last = route[end - 1];
+    let stop = route[end];
+    let own = own_due(latest, stop);
+    let leg = costs::route_distance(locations, legs, last, stop);
+    let back = backward[end] - backward[start];
+    Dues {
+        straight: least(straight + leg, own),
+        reversed: least(reversed, own + back),
+    }
+}
+
+// The dues of route[start..end], not empty.
+pub fn segment_dues(
+    locations: usize,
+    legs: &[u32],
+    latest: &[u32],
+    route: &[u32],
+    backward: &[u64; 512],
+    start: usize,
+    end: usize,
+) -> Dues
+    requires { ⌜ Spannable locations (now legs) (now latest) (now route) (now backward) start end ⌝ }
+    ensures { λ r. ⌜ SegmentDues (problem locations (now (legs .entry)) (now (latest .entry)) 0) (slice start end (now (route .entry))) (r .straight) (r .reversed) ⌝ }
+{
+    let own = own_due(latest, route[start]);
+    let mut straight = own;
+    let mut reversed = own;
+    let mut upto = start + 1;
+    while upto < end {
+        let more = take_in(
+            locations,
+            legs,
+            latest,
+            route,
+            backward,
+            start,
+            upto,
+            straight,
+            reversed,
+        );
+        straight = more.straight;
+        reversed = more.reversed;
+        upto += 1;
+    }
+    Dues { straight, reversed }
+}
+
+// The dues of a middle segment into the places of its two states.
+pub fn put_dues(dues: &mut [u64; 8], segment: usize, straight: u64, reversed: u64)
+    requires { ⌜ Puttable (now dues) segment ⌝ }
+    ensures { λ _. ⌜ now (dues .exit) ≡ set (set (now (dues .entry)) (2 * segment - 2) straight) (2 * segment - 2 + 1) reversed ⌝ }
+{
+    let s = 2 * segment - 2;
+    dues[s] = straight;
+    dues[s + 1] = reversed;
+}
+
+// The dues of the first `count` middle segments; only the cuts up to that of number `count` are read, so those behind it share them.
+pub fn fill_dues(
+    locations: usize,
+    legs: &[u32],
+    latest: &[u32],
+    route: &[u32],
+    backward: &[u64; 512],
+    cuts: &[usize],
+    count: usize,
+    dues: &mut [u64; 8],
+)
+    requires { ⌜ DuesFillable locations (now legs) (now latest) (now route) (now backward) (now cuts) count (now dues) ⌝ }
+    ensures { λ _. ⌜ SegmentsDue (problem locations (now (legs .entry)) (now (latest .entry)) 0) (now (cuts .entry)) (now (route .entry)) count (now (dues .exit)) ⌝ }
+{
+    let mut i = 1;
+    while i <= count {
+        let start = cuts[i - 1];
+        let end = cuts[i];
+        let found = segment_dues(locations, legs, latest, route, backward, start, end);
+        put_dues(dues, i, found.straight, found.reversed);
+        i += 1;
+    }
+}
+
+fn wide(x: u8) -> usize
+    ensures { λ r. ⌜ r ≡ x ⌝ }
+{
+    x as usize
+}
+
+// Whether each of the first `m` states of row i is left before its due, when the head is left at second `clock`.
+pub fn row_in_time(
+    joint: &[u64; 160],
+    rows: &[u8; 1532],
+    dues: &[u64; 8],
+    i: usize,
+    m: usize,
+    clock: u64,
+) -> bool
+    requires { ⌜ RowTimed (now joint) (now rows) (now dues) i m clock ⌝ }
+    ensures { λ r. ⌜ r ≡ in-time (now (joint .entry)) (now (dues .entry)) 9 clock (slice (4 * i) (4 * i + m) (now (rows .entry))) ⌝ }
+{
+    let mut from = 9;
+    let mut now = clock;
+    let mut at = 4 * i;
+    let end = 4 * i + m;
+    while at < end {
+        let state = wide(rows[at]);
+        now += joint[16 * from + state];
+        if dues[state] <= now {
+            return false;
+        }
+        from = state;
+        at += 1;
+    }
+    true
+}
