@@ -1,4 +1,5 @@
-// Replays worked examples of the rulings on what document 01 leaves open, over the library's own entries: what was asked, and what came back.
+// Replays document 01's runs on the pair loop and on nearby cuts, and worked examples of the rulings on what it leaves open, over the library's own
+// entries, a line each: what was asked, and what came back.
 
 fn say(text: &[u8]) {
     let _ = io::write_all(1, text);
@@ -33,37 +34,14 @@ fn say_places(places: &[usize]) {
     }
 }
 
-// A run: what it answers, the numbers of its rounds, and their stops.
-fn show_run(
-    k: usize,
-    allowance: u64,
-    locations: usize,
-    legs: &[u32],
-    latest: &[u32],
-    stops: &mut [u32],
-    lengths: &[usize],
-    depots: &[u32],
-    pins: &[u8],
-    result: &mut [u64],
-) {
-    let refused = mittenschist::mittenschist_run_list_k_opt(
-        k,
-        allowance,
-        locations,
-        legs,
-        latest,
-        stops,
-        lengths,
-        depots,
-        pins,
-        result,
-    );
+// What a run answered, the numbers of its rounds, and their stops.
+fn show_run(refused: u32, result: &[u64], stops: &[u32]) {
     say(b"run ");
     say_number(refused as u64);
     say(b" result");
-    say_result(&result[..]);
+    say_result(result);
     say(b" stops");
-    say_route(&stops[..]);
+    say_route(stops);
     say(b"\n");
 }
 
@@ -96,20 +74,22 @@ fn show_pairs(k: usize, allowance: u64, pin: u8) {
         1,
         0,
     ];
+    let latest = [4294967295u32; 5];
     let mut stops = [1u32, 2, 3, 4];
     let mut result = [9u64; 5];
-    show_run(
+    let refused = mittenschist::mittenschist_run_list_k_opt(
         k,
         allowance,
         5,
         &legs,
-        &[4294967295u32; 5],
+        &latest,
         &mut stops,
         &[4],
         &[0],
         &[pin],
         &mut result,
     );
+    show_run(refused, &result, &stops);
 }
 
 // A listing of nearby sets: what it answers, the two numbers, and the buffer.
@@ -144,7 +124,7 @@ fn show_five(d: f64, neighbours: usize, sets: &mut [usize]) {
 fn show_rounds(allowance: u64) {
     let mut stops = [0u32; 10];
     let mut result = [9u64; 12];
-    show_run(
+    let refused = mittenschist::mittenschist_run_list_k_opt(
         3,
         allowance,
         1,
@@ -156,6 +136,7 @@ fn show_rounds(allowance: u64) {
         &[0, 0, 200],
         &mut result,
     );
+    show_run(refused, &result, &stops);
 }
 
 // Undone with the first n places of a journal.
@@ -207,6 +188,7 @@ fn show_move(round: usize, first: usize, second: usize) {
 }
 
 fn show_pair_allowances() {
+    show_pairs(2, 1000, 0);
     show_pairs(2, 18, 0);
     show_pairs(2, 17, 0);
     show_pairs(2, 0, 1);
@@ -226,7 +208,9 @@ fn show_moves() {
     show_move(0, 1, 5);
 }
 
-fn show_buffers() {
+fn show_listings() {
+    show_five(1.0, 4, &mut [99usize; 12]);
+    show_five(2.0, 4, &mut [99usize; 12]);
     show_five(2.0, 4, &mut [99usize; 13]);
     show_five(2.0, 4, &mut [99usize; 3]);
     show_five(2.0, 4, &mut [99usize; 2]);
@@ -238,5 +222,5 @@ fn main() {
     show_pair_allowances();
     show_round_allowances();
     show_moves();
-    show_buffers();
+    show_listings();
 }

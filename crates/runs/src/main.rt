@@ -1,4 +1,4 @@
-// Replays the runs of document 01 over the library's own entries, a line each: what was asked, and what came back.
+// Replays document 01's runs on patterns, cut sets and polishing over the library's own entries, a line each: what was asked, and what came back.
 use theory::CutStep;
 
 fn say(text: &[u8]) {
@@ -69,13 +69,6 @@ fn say_route(route: &[u32]) {
     }
 }
 
-fn say_places(places: &[usize]) {
-    for i in 0..places.len() {
-        say(b" ");
-        say_number(places[i] as u64);
-    }
-}
-
 fn show_polished(refused: u32, result: &[u64], route: &[u32]) {
     say(b"polish ");
     say_number(refused as u64);
@@ -138,113 +131,6 @@ fn show_patterns() {
     show_pattern(6, 0);
 }
 
-// A run: what it answers, the numbers of its rounds, and their stops.
-fn show_run(
-    k: usize,
-    allowance: u64,
-    locations: usize,
-    legs: &[u32],
-    latest: &[u32],
-    stops: &mut [u32],
-    lengths: &[usize],
-    depots: &[u32],
-    pins: &[u8],
-    result: &mut [u64],
-) {
-    let refused = mittenschist::mittenschist_run_list_k_opt(
-        k,
-        allowance,
-        locations,
-        legs,
-        latest,
-        stops,
-        lengths,
-        depots,
-        pins,
-        result,
-    );
-    say(b"run ");
-    say_number(refused as u64);
-    say(b" result");
-    say_result(&result[..]);
-    say(b" stops");
-    say_route(&stops[..]);
-    say(b"\n");
-}
-
-// The pair case of document 01 with an allowance: D, A, B, C, E are 0 to 4.
-fn show_pairs(k: usize, allowance: u64, pin: u8) {
-    let legs = [
-        0u32,
-        10,
-        1,
-        5,
-        1,
-        10,
-        0,
-        1,
-        1,
-        1,
-        1,
-        1,
-        0,
-        10,
-        10,
-        5,
-        1,
-        10,
-        0,
-        1,
-        1,
-        1,
-        10,
-        1,
-        0,
-    ];
-    let mut stops = [1u32, 2, 3, 4];
-    let mut result = [9u64; 5];
-    show_run(
-        k,
-        allowance,
-        5,
-        &legs,
-        &[4294967295u32; 5],
-        &mut stops,
-        &[4],
-        &[0],
-        &[pin],
-        &mut result,
-    );
-}
-
-// A listing of nearby sets: what it answers, the two numbers, and the buffer.
-fn show_nearby(n: usize, distances: &[f64], k: usize, neighbours: usize, sets: &mut [usize]) {
-    let mut result = [9u64; 2];
-    let refused = mittenschist::mittenschist_nearby_cuts(
-        n,
-        distances,
-        k,
-        1,
-        neighbours,
-        sets,
-        &mut result,
-    );
-    say(b"nearby ");
-    say_number(refused as u64);
-    say(b" result");
-    say_result(&result);
-    say(b" sets");
-    say_places(&sets[..]);
-    say(b"\n");
-}
-
-// The nearby cases of document 01, five positions and three cuts, and others on the same tables: d is the distance from 1 to 3.
-fn show_five(d: f64, neighbours: usize, sets: &mut [usize]) {
-    let mut distances = [2.0f64; 25];
-    distances[8] = d;
-    show_nearby(5, &distances, 3, neighbours, sets);
-}
-
 fn show_cut_set_counts() {
     show_cut_sets(3, &mut [0, 1, 2]);
     show_cut_sets(4, &mut [0, 1, 2, 3]);
@@ -273,20 +159,9 @@ fn show_bounds() {
     show_long(&mut [0u32; 513]);
 }
 
-fn show_runs() {
-    show_pairs(2, 1000, 0);
-}
-
-fn show_listings() {
-    show_five(1.0, 4, &mut [99usize; 12]);
-    show_five(2.0, 4, &mut [99usize; 12]);
-}
-
 fn main() {
     show_patterns();
     show_cut_set_counts();
     show_starred();
     show_bounds();
-    show_runs();
-    show_listings();
 }
