@@ -1,12 +1,10 @@
 -- No room: where the bounds of all classes lie above the standing cost, so does every row that holds P once. Assumes nothing.
 use mathlib.Core.Path.{_≡_, refl}
 use mathlib.Core.Logic.{_⊎_, inl, inr}
-use mathlib.Core.List.{List, [], _∷_, _++_}
-use Prim.Native.Nat.{ℕ, zero, suc, _+_, _*_, _≤_, _<_}
+use mathlib.Core.List.{List, [], _∷_}
+use Prim.Native.Nat.{ℕ, suc, _+_, _≤_, _<_}
 use native.Mathlib.Omega.{arith}
 use borrow.Author.Tests.{eq-eqb, ne-eqb}
-use lib.Dec.{eqb}
-use lib.ListN.{replicate}
 use Rattle.shared.specs.Bound.{chain-by, next-state, class}
 
 -- The states that are left at a stop which the last cut does not move: what may come before P is another state or the head; what comes to the tail, unless P

@@ -2,14 +2,14 @@
 use mathlib.Core.Path.{_≡_, refl, ap, _∙_}
 use mathlib.Core.Bool.{false}
 use mathlib.Core.List.{List, [], _∷_, map, List·Memᴰ, List·Memᴰ·head, List·Memᴰ·tail, Memᴰ·of-map}
-use Prim.Native.Nat.{ℕ, zero, suc, _+_, _-_, _≤_, _<_}
+use Prim.Native.Nat.{ℕ, suc, _+_, _-_, _≤_, _<_}
 use native.Mathlib.Omega.{arith}
-use borrow.Author.Tests.{ne-eqb, eq-eqb, le-ltb}
-use lib.Dec.{eqb, ltb}
-use lib.ListN.{length, getD}
+use borrow.Author.Tests.{ne-eqb, le-ltb}
+use lib.Dec.{ltb}
+use lib.ListN.{length}
 use Rattle.theory.specs.Moves.{upfrom, total}
 use Rattle.theory.specs.Route.{Problem, segments, placed, reconnected, tour-length}
-use Rattle.theory.specs.Costs.{last-of, first-of, inner, through}
+use Rattle.theory.specs.Costs.{last-of, through}
 use Rattle.theory.specs.Tables.{CutSet, ForK}
 use Rattle.theory.proofs.ForK.{for-k-shape}
 use Rattle.theory.proofs.Orders.{in-range}

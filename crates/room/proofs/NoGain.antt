@@ -1,11 +1,9 @@
 -- Where the tests of a last cut fail, no pattern gains there. Assumes nothing.
-use mathlib.Core.Path.{_≡_, refl, sym, ap, _∙_}
-use mathlib.Core.Bool.{false}
+use mathlib.Core.Path.{_≡_, ap, _∙_}
 use mathlib.Core.List.{List, [], _∷_, _++_, map}
-use Prim.Native.Nat.{ℕ, suc, _+_, _-_, _*_, _≤_, _<_}
+use Prim.Native.Nat.{ℕ, suc, _+_, _-_, _≤_}
 use native.Mathlib.Omega.{arith}
 use borrow.Author.Tests.{lt-ltb}
-use lib.Dec.{eqb, ltb}
 use lib.ListN.{length, getD, replicate, length-append}
 use Rattle.theory.specs.Moves.{upfrom}
 use Rattle.theory.specs.Costs.{first-of, inner}
@@ -13,7 +11,7 @@ use Rattle.theory.specs.Tables.{problem, legs-only, CutSet, ForK}
 use Rattle.costs.specs.RouteCosts.{leg, head-end, tail-start}
 use Rattle.costs.proofs.Orders.{middle-is}
 use Rattle.joints.specs.States.{state-of, states, standing-row, row, placed-in}
-use Rattle.shared.specs.Bound.{chain-by, class, exit-of, fixed-by, opened, last-state}
+use Rattle.shared.specs.Bound.{chain-by, class, exit-of, opened, last-state}
 use Rattle.shared.specs.Kept.{shared, Kept}
 use Rattle.room.specs.Room.{NoGain}
 use Rattle.room.proofs.Bound.{After, Once, NoRoom, row-costs}

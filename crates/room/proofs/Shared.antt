@@ -1,13 +1,12 @@
 -- What the cut sets with the same first cuts `pre` have in common, and what the last cut c adds. Assumes nothing.
 use mathlib.Core.Path.{_≡_, refl, sym, ap, ap₂, _∙_}
 use mathlib.Core.Bool.{Bool, true, false, cond}
-use mathlib.Core.Logic.{_⊎_, inl, inr}
+use mathlib.Core.Logic.{inl, inr}
 use mathlib.Core.List.{List, [], _∷_, _++_}
-use Prim.Native.Nat.{ℕ, zero, suc, _+_, _-_, _*_, _/_, _%_, _≤_, _<_}
+use Prim.Native.Nat.{ℕ, suc, _+_, _-_, _/_, _%_, _≤_, _<_}
 use native.Mathlib.Omega.{arith}
-use native.Mathlib.Nat.{add-zero}
 use borrow.Author.Tests.{eq-eqb, ne-eqb, lt-ltb, le-ltb}
-use lib.Dec.{eqb, ltb}
+use lib.Dec.{eqb}
 use lib.ListN.{length, getD, length-append, List·getD-append}
 use lib.Seq.{slice, slice-cons, slice-empty, getD-at}
 use Rattle.theory.specs.Moves.{Rising}
@@ -19,7 +18,7 @@ use Rattle.joints.specs.States.{placed-in}
 use Rattle.joints.proofs.States.{halves}
 use Rattle.joints.proofs.Ends.{part-slice, entry-at, exit-at}
 use Rattle.shared.specs.Bound.{exit-of, joint-by, fixed-by, opened, last-state}
-use Rattle.room.proofs.Bound.{Before, After, Still, Moving, before-still, after-still}
+use Rattle.room.proofs.Bound.{After, Still, Moving, before-still, after-still}
 
 -- ---- another last cut
 

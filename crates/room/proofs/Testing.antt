@@ -1,17 +1,16 @@
 -- The test of a last cut: what it reads is known, and where it fails no pattern gains. Assumes nothing.
-use mathlib.Core.Path.{_≡_, refl, sym, ap, ap₂, _∙_}
+use mathlib.Core.Path.{_≡_, refl, sym, ap, _∙_}
 use mathlib.Core.Bool.{Bool, true, false, cond}
 use mathlib.Core.Logic.{_⊎_, inl, inr}
 use mathlib.Core.List.{List, [], _∷_, _++_}
-use Prim.Native.Nat.{ℕ, zero, suc, _+_, _-_, _*_, _/_, _%_, _^_, _≤_, _<_}
+use Prim.Native.Nat.{ℕ, zero, suc, _+_, _-_, _*_, _^_, _≤_, _<_}
 use native.Mathlib.Omega.{arith}
 use native.Mathlib.Decide.{decLt}
-use borrow.Author.Tests.{eq-eqb, ne-eqb, lt-ltb, le-ltb, ltb-false}
-use lib.Dec.{eqb, ltb}
-use lib.ListN.{length, getD, take, replicate, length-append}
-use lib.Seq.{slice, getD-at}
-use Rattle.theory.specs.Route.{segments, reverse-if}
-use Rattle.theory.specs.Costs.{last-of, first-of, inner}
+use borrow.Author.Tests.{ne-eqb, lt-ltb, le-ltb, ltb-false}
+use lib.Dec.{ltb}
+use lib.ListN.{length, getD, replicate, length-append}
+use lib.Seq.{getD-at}
+use Rattle.theory.specs.Costs.{first-of, inner}
 use Rattle.theory.specs.Tables.{legs-only, CutSet}
 use Rattle.costs.specs.RouteCosts.{leg, Spanned, span, RouteCosts, head-end, tail-start}
 use Rattle.costs.proofs.Placing as Placing

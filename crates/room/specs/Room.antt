@@ -3,16 +3,12 @@ use mathlib.Core.Path.{_≡_}
 use mathlib.Core.Bool.{false}
 use mathlib.Core.Logic.{_⊎_}
 use mathlib.Core.List.{List, [], _∷_, _++_}
-use Prim.Native.Nat.{ℕ, suc, _+_, _-_, _*_, _^_, _≤_, _<_}
+use Prim.Native.Nat.{ℕ, suc, _+_, _-_, _≤_, _<_}
 use lib.Dec.{ltb}
-use lib.ListN.{length, getD, take}
+use lib.ListN.{length}
 use Rattle.theory.specs.Route.{reconnected, tour-length}
-use Rattle.theory.specs.Costs.{last-of, first-of, inner, forward, backward}
-use Rattle.theory.specs.Tables.{problem, legs-only, Measurable, CutSet, ForK}
-use Rattle.costs.specs.RouteCosts.{leg, Sums, head-end}
-use Rattle.joints.specs.States.{states, standing-row, row, placed-in}
-use Rattle.joints.specs.JointTable.{EndPlaces}
-use Rattle.shared.specs.Bound.{chain-by, class, fixed-by, opened, last-state}
+use Rattle.theory.specs.Tables.{problem, ForK}
+use Rattle.joints.specs.States.{states, row}
 use Rattle.shared.specs.Kept.{Cut, Kept, Places, RowsFit, Opened, first-cuts, last-cut}
 
 -- No pattern whose row is among the first `count` shortens the route with the cuts `pre` and the last cut c, whatever the deadlines.

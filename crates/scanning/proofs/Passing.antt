@@ -1,25 +1,25 @@
 -- Passing over cut sets without room: they are counted with all their patterns, and the allowance may end among them. Assumes nothing.
-use mathlib.Core.Path.{_≡_, refl, sym, ap, ap₂, _∙_}
+use mathlib.Core.Path.{_≡_, refl, sym, ap, _∙_}
 use mathlib.Core.Bool.{Bool, true, false, true≢false, _&&_}
 use mathlib.Core.Logic.{_⊎_, inl, inr}
 use mathlib.Core.Option.{Option, none, some}
 use mathlib.Core.List.{List, [], _∷_, _++_}
-use Prim.Native.Nat.{ℕ, zero, suc, _+_, _-_, _*_, _^_, _≤_, _<_}
+use Prim.Native.Nat.{ℕ, zero, suc, _+_, _-_, _*_, _≤_, _<_}
 use native.Mathlib.Omega.{arith}
 use native.Mathlib.Nat.{suc-mul, mul-pos}
 use native.Mathlib.Decide.{decLt}
 use lib.ListN.{length, getD, set, take, replicate}
 use lib.Seq.{set-at, getD-take}
 use Rattle.theory.specs.Scan.{improves}
-use Rattle.theory.specs.Moves.{upfrom, next-cuts}
-use Rattle.theory.specs.Route.{Problem, reconnected, tour-length, feasible}
+use Rattle.theory.specs.Moves.{next-cuts}
+use Rattle.theory.specs.Route.{reconnected, feasible}
 use Rattle.theory.specs.Polish.{search-of, polish-with, move-at}
-use Rattle.theory.specs.Tables.{problem, CutSet, ForK, PatternRows, pattern-rows}
+use Rattle.theory.specs.Tables.{problem, CutSet, ForK, pattern-rows}
 use Rattle.theory.proofs.Rows.{length-rows, listed-for-k}
-use Rattle.theory.proofs.Polishing.{Polishing, within, as-long, passed, finishes, is-spent}
+use Rattle.theory.proofs.Polishing.{within, as-long, passed, finishes, is-spent}
 use Rattle.cuts.specs.Step.{found, or-kept, Stepped}
 use Rattle.joints.specs.States.{row, states, pattern-row}
-use Rattle.shared.specs.Kept.{Kept, Places, Cut, RowsFit, Opened, first-cuts, last-cut}
+use Rattle.shared.specs.Kept.{Kept, Places, Opened, first-cuts, last-cut}
 use Rattle.shared.proofs.Keeping.{cuts-parted, first-many}
 use Rattle.room.specs.Room.{Passed, Passable}
 use Rattle.costs.specs.RouteCosts.{leg, Sums}

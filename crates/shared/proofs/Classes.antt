@@ -1,21 +1,18 @@
 -- The class of a row, state by state, and the least cost of each class, row by row. Assumes nothing.
-use mathlib.Core.Path.{_≡_, refl, sym, ap, _∙_}
+use mathlib.Core.Path.{_≡_, sym, _∙_}
 use mathlib.Core.Logic.{_≢_}
 use mathlib.Core.List.{List, [], _∷_}
 use Prim.Native.Nat.{ℕ, suc, _+_, _*_, _^_, _≤_, _<_}
 use native.Mathlib.Omega.{arith}
-use native.Mathlib.Numerals.{add-one}
 use borrow.Author.Tests.{eq-eqb, ne-eqb}
 use borrow.Author.Count.{below-more}
-use lib.Dec.{eqb}
 use lib.ListN.{length, getD, set, length-set, List·getD-eq-default}
-use lib.Seq.{slice, getD-set-same, getD-set-other}
+use lib.Seq.{getD-set-same, getD-set-other}
 use native.Mathlib.Decide.{ℕ-discrete, decLt}
 use Rattle.joints.specs.States.{row}
 use Rattle.joints.specs.JointTable.{chain, Chainable}
-use Rattle.joints.proofs.Rows.{set-small, row-read}
+use Rattle.joints.proofs.Rows.{row-read}
 use Rattle.shared.specs.Bound.{next-state, class}
-use Rattle.shared.specs.Kept.{RowsFit}
 use Rattle.shared.specs.Filling.{Lowered, FourStates, ClassIs, RowAt, Lowable, LowOf}
 
 class-hit : (p a b : ℕ) (bs : List ℕ) → b ≡ p → class p a (b ∷ bs) ≡ next-state bs

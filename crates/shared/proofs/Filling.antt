@@ -8,11 +8,11 @@ use native.Mathlib.Omega.{arith}
 use native.Mathlib.Decide.{ℕ-discrete, decLt}
 use borrow.Author.Tests.{eq-eqb, ne-eqb, lt-ltb, le-ltb}
 use borrow.Author.Count.{below-more}
-use lib.Dec.{eqb, ltb}
-use lib.ListN.{length, getD, set, length-set}
+use lib.Dec.{eqb}
+use lib.ListN.{getD, set, length-set}
 use lib.Seq.{getD-set-same, getD-set-other}
 use Rattle.costs.specs.RouteCosts.{leg}
-use Rattle.joints.specs.JointTable.{cell, Padded, Fillable}
+use Rattle.joints.specs.JointTable.{cell, Padded}
 use Rattle.joints.proofs.Rows.{set-small}
 use Rattle.shared.specs.Filling.{fixed-cell, FixedRowFits, FixedRow, Fixable, FixedRows, FixedTable}
 

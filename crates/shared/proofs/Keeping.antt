@@ -6,25 +6,25 @@ use mathlib.Core.List.{List, [], _∷_, _++_, map, List·Memᴰ, List·Memᴰ·h
 use Prim.Native.Nat.{ℕ, zero, suc, _+_, _-_, _*_, _^_, _≤_, _<_}
 use native.Mathlib.Omega.{arith}
 use native.Mathlib.Decide.{ℕ-discrete, decLt}
-use borrow.Author.Tests.{eq-eqb, ne-eqb, lt-ltb, le-ltb}
-use lib.Dec.{eqb, ltb}
+use borrow.Author.Tests.{eq-eqb, ne-eqb, lt-ltb}
+use lib.Dec.{eqb}
 use lib.ListN.{length, getD, set, take, drop, replicate, length-set, length-append, length-map, length-replicate, take-append-drop}
 use lib.Seq.{getD-set-same, getD-set-other, drop-cons, length-take-le, getD-take, drop-length}
 use Rattle.theory.specs.Moves.{upfrom}
 use Rattle.theory.specs.Route.{segments}
-use Rattle.theory.specs.Costs.{last-of, first-of, inner}
-use Rattle.theory.specs.Tables.{legs-only, CutSet}
+use Rattle.theory.specs.Costs.{last-of}
+use Rattle.theory.specs.Tables.{legs-only}
 use Rattle.theory.proofs.Moves.{length-upfrom, upfrom-range}
 use Rattle.costs.specs.RouteCosts.{leg, head-end}
 use Rattle.joints.specs.States.{state-count, state-of, standing-row, row, placed-in}
-use Rattle.joints.specs.JointTable.{cell, chain, Padded, Joinable, StateEnds, EndPlaces}
+use Rattle.joints.specs.JointTable.{cell, chain, Padded, Joinable, StateEnds}
 use Rattle.joints.proofs.States.{state-below}
 use Rattle.joints.proofs.Rows.{set-small, row-read}
 use Rattle.joints.proofs.Ends.{inside-is, inside-small, entry-known, exit-known, head-below}
 use Rattle.joints.proofs.Chain as Chain
-use Rattle.shared.specs.Bound.{chain-by, class, exit-of, fixed-by, opened, last-state}
-use Rattle.shared.specs.Kept.{shared, Kept, Places, RowsFit, Cut, Opened, first-cuts, last-cut}
-use Rattle.shared.specs.Filling.{fixed-cell, Fixable, FixedTable, LowOf, Lowable, Keepable, KeptNow}
+use Rattle.shared.specs.Bound.{chain-by, class, exit-of, fixed-by, opened}
+use Rattle.shared.specs.Kept.{Kept, Opened, first-cuts, last-cut}
+use Rattle.shared.specs.Filling.{fixed-cell, Fixable, FixedTable, LowOf, Keepable, KeptNow}
 use Rattle.shared.proofs.Padding as Padding
 
 -- ---- the first cuts and the last

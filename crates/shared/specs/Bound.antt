@@ -1,9 +1,8 @@
 -- What the cut sets with the same first k - 1 cuts share. P is the last middle segment, which the last cut ends: state p is P as it stands, p + 1 is P
 -- reversed. The other states, the head and the first stop of P do not move with the last cut.
-use mathlib.Core.Path.{_≡_}
 use mathlib.Core.Bool.{cond}
 use mathlib.Core.List.{List, [], _∷_, _++_}
-use Prim.Native.Nat.{ℕ, suc, _+_, _-_, _*_, _≤_, _<_}
+use Prim.Native.Nat.{ℕ, suc, _+_, _-_, _*_}
 use lib.Dec.{eqb, ltb}
 use lib.ListN.{length, getD}
 use Rattle.theory.specs.Costs.{last-of, first-of, inner}

@@ -1,16 +1,12 @@
 -- What is kept of the first cuts.
 use mathlib.Core.Path.{_≡_}
-use mathlib.Core.Bool.{false}
-use mathlib.Core.Logic.{_⊎_}
-use mathlib.Core.List.{List, [], _∷_, _++_}
-use Prim.Native.Nat.{ℕ, suc, _+_, _-_, _*_, _^_, _≤_, _<_}
-use lib.Dec.{ltb}
+use mathlib.Core.List.{List}
+use Prim.Native.Nat.{ℕ, suc, _-_, _*_, _^_, _≤_, _<_}
 use lib.ListN.{length, getD, take}
-use Rattle.theory.specs.Route.{reconnected, tour-length}
 use Rattle.theory.specs.Costs.{last-of, first-of, inner, forward, backward}
-use Rattle.theory.specs.Tables.{problem, legs-only, Measurable, CutSet, ForK}
+use Rattle.theory.specs.Tables.{legs-only, Measurable, CutSet}
 use Rattle.costs.specs.RouteCosts.{leg, Sums, head-end}
-use Rattle.joints.specs.States.{states, standing-row, row, placed-in}
+use Rattle.joints.specs.States.{standing-row, row, placed-in}
 use Rattle.joints.specs.JointTable.{EndPlaces}
 use Rattle.shared.specs.Bound.{chain-by, class, fixed-by, opened, last-state}
 

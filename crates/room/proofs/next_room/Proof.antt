@@ -1,5 +1,4 @@
 -- `room::next_room` meets its contract. The invariant: the same of the last cuts below c. Assumes nothing.
-use mathlib.Core.Path.{_≡_, refl}
 use Prim.Native.Nat.{_+_, _-_}
 use lib.ListN.{length}
 use Rattle.room.specs.Tests.{NextRoom}

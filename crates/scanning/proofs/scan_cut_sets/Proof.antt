@@ -1,7 +1,7 @@
 -- `scanning::scan_cut_sets` meets its contract. The invariant: what is left from here is the whole scan, and the sums are those of the route at hand. Assumes
 -- nothing.
-use mathlib.Core.Path.{_≡_, refl, sym, ap, _∙_}
-use mathlib.Core.Logic.{_⊎_, inl, inr}
+use mathlib.Core.Path.{_≡_, refl, sym, _∙_}
+use mathlib.Core.Logic.{_⊎_, inl}
 use Prim.Native.Nat.{_-_}
 use lib.ListN.{length, getD, take, drop, length-append, length-drop}
 use lib.Seq.{take-at}
@@ -11,7 +11,7 @@ use Rattle.theory.specs.Costs.{forward as forward-sum, backward as backward-sum
 use Rattle.theory.proofs.Polishing.{Polishing}
 use Rattle.costs.specs.RouteCosts.{leg, Sums}
 use Rattle.joints.specs.JointTable.{Padded}
-use Rattle.shared.specs.Kept.{Places, Kept, Opened, first-cuts, last-cut}
+use Rattle.shared.specs.Kept.{Places, Kept, Opened, first-cuts}
 use Rattle.scanning.proofs.Passing.{no-places, first-opened, last-is, passable, few-sets, ahead-so, overstepped, spends-now, moves-now, ends-now, some-passed, kept-next, kept-after}
 use Rattle.scanning.proofs.Scanning.{no-cells, starts, below, same-size, timed, own-cuts, own-rows, own-states, candidate-stops, gains, moves-on, ends, stops-here}
 use native.Mathlib.Omega.{arith}

@@ -1,6 +1,6 @@
 -- `shared::fill_fixed_row` meets its contract. The invariant: the cells below b are filled, and all other places are as they were. Assumes nothing.
 use mathlib.Core.Path.{_≡_}
-use Prim.Native.Nat.{_+_, _-_, _^_, _≤_}
+use Prim.Native.Nat.{_+_, _-_, _≤_}
 use lib.ListN.{getD}
 use Rattle.shared.specs.Filling.{FixedRow}
 use Rattle.shared.proofs.Filling.{none-filled, more-filled}

@@ -1,5 +1,4 @@
 -- `shared::fill_kept` meets its contract. Assumes nothing.
-use mathlib.Core.Path.{refl}
 use Rattle.joints.proofs.Ends.{ends-fillable}
 use Rattle.shared.proofs.Keeping.{joinable, few, fixable, keeps}
 use native.Mathlib.Omega.{arith}
