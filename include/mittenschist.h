@@ -70,13 +70,13 @@ uint32_t mittenschist_run_list_k_opt(size_t k, uint64_t allowance, size_t locati
     uint64_t *result, size_t result_len);
 
 /* Applies a pattern at k cuts of round number `round`, whose stops are `route`. A cut is a round number and a position.
- *   rounds    read     the round number of each cut
- *   positions read     the position of each cut
- *   route     written  at most 512 stops, any numbers
- *   journal   written  the old stops in its first n places
+ *   cut_rounds     read     the round number of each cut
+ *   cut_positions  read     the position of each cut
+ *   route          written  at most 512 stops, any numbers
+ *   journal        written  the old stops in its first n places
  * Refuses 1, 5, 6, 7 (also where the two lists are not equally long), 8, 21 (journal under n places). */
 uint32_t mittenschist_k_opt_do_move(size_t k, size_t pattern, size_t round,
-    const size_t *rounds, size_t rounds_len, const size_t *positions, size_t positions_len,
+    const size_t *cut_rounds, size_t cut_rounds_len, const size_t *cut_positions, size_t cut_positions_len,
     uint32_t *route, size_t route_len, uint32_t *journal, size_t journal_len);
 
 /* Puts the stops of a journal back. The journal must have n places: of a longer one, hand in the first n.
@@ -88,23 +88,23 @@ uint32_t mittenschist_k_opt_undo_move(uint32_t *route, size_t route_len, const u
 /* ---- The others ---- */
 
 /* Whether the cuts suit a round of n stops: k of them, none above n, rising. It passes unordered cuts if one names another round.
- *   rounds, positions  read     as for do_move; lists that are not equally long are answered with no
- *   result             written  1 place: 1 yes or 0 no
+ *   cut_rounds, cut_positions  read     as for do_move; lists that are not equally long are answered with no
+ *   result                     written  1 place: 1 yes or 0 no
  * Refuses 1, 5, 6, 21. */
 uint32_t mittenschist_k_opt_is_doable(size_t k, size_t pattern, size_t round, size_t n,
-    const size_t *rounds, size_t rounds_len, const size_t *positions, size_t positions_len,
+    const size_t *cut_rounds, size_t cut_rounds_len, const size_t *cut_positions, size_t cut_positions_len,
     uint64_t *result, size_t result_len);
 
 /* Lists cut sets by nearness, k places each, until no whole set fits any more.
- *   n                   positions, at most 512
- *   distances  read     n x n, row = from; infinities are numbers
- *   m                   stops in the shortest segment, 1 to 512
- *   neighbours          how many of the nearest positions are tried from a cut, 0 to 32
- *   sets       written  the sets, end to end
- *   result     written  2 places: sets written, then 0 ended or 1 more
+ *   n                        positions, at most 512
+ *   distances       read     n x n, row = from; infinities are numbers
+ *   min_segment_len          stops in the shortest segment, 1 to 512
+ *   max_nearby               how many of the nearest positions are tried from a cut, 0 to 32
+ *   sets            written  the sets, end to end
+ *   result          written  2 places: sets written, then 0 ended or 1 more
  * Refuses 1, 5, 9, 21 (sets under k places, also where there is no set; result under 2). */
-uint32_t mittenschist_nearby_cuts(size_t n, const double *distances, size_t distances_len, size_t k, size_t m, size_t neighbours,
-    size_t *sets, size_t sets_len, uint64_t *result, size_t result_len);
+uint32_t mittenschist_nearby_cuts(size_t n, const double *distances, size_t distances_len, size_t k,
+    size_t min_segment_len, size_t max_nearby, size_t *sets, size_t sets_len, uint64_t *result, size_t result_len);
 
 /* The pattern with an index.
  *   result  written  k + 2 places: k + 1 segment numbers in their order, then the mask, of which bit i reverses segment i

@@ -379,14 +379,14 @@ pub extern "C" fn mittenschist_k_opt_do_move(
     k: usize,
     pattern: usize,
     round: usize,
-    rounds: &[usize],
-    positions: &[usize],
+    cut_rounds: &[usize],
+    cut_positions: &[usize],
     route: &mut [u32],
     journal: &mut [u32],
 ) -> u32
-    ensures { λ r. ⌜ DoMoveReply k pattern round (now (rounds .entry)) (now (positions .entry)) (now (route .entry)) (now (journal .entry)) r (now (route .exit)) (now (journal .exit)) ⌝ }
+    ensures { λ r. ⌜ DoMoveReply k pattern round (now («cut_rounds» .entry)) (now («cut_positions» .entry)) (now (route .entry)) (now (journal .entry)) r (now (route .exit)) (now (journal .exit)) ⌝ }
 {
-    cut_moves::do_move_lists(k, pattern, round, rounds, positions, route, journal)
+    cut_moves::do_move_lists(k, pattern, round, cut_rounds, cut_positions, route, journal)
 }
 
 // Puts the stops of the journal back. Refuses 5, 22.
@@ -404,13 +404,13 @@ pub extern "C" fn mittenschist_k_opt_is_doable(
     pattern: usize,
     round: usize,
     n: usize,
-    rounds: &[usize],
-    positions: &[usize],
+    cut_rounds: &[usize],
+    cut_positions: &[usize],
     result: &mut [u64],
 ) -> u32
-    ensures { λ r. ⌜ Written (doable-rules k pattern n) 1 (doable-values k round n (now (rounds .entry)) (now (positions .entry))) (now (result .entry)) r (now (result .exit)) ⌝ }
+    ensures { λ r. ⌜ Written (doable-rules k pattern n) 1 (doable-values k round n (now («cut_rounds» .entry)) (now («cut_positions» .entry))) (now (result .entry)) r (now (result .exit)) ⌝ }
 {
-    match cut_moves::is_doable_lists(k, pattern, round, n, rounds, positions) {
+    match cut_moves::is_doable_lists(k, pattern, round, n, cut_rounds, cut_positions) {
         Doable::Refused(number) => number,
         Doable::No => give(0, result),
         Doable::Yes => give(1, result),
@@ -514,17 +514,17 @@ pub fn nearby_cuts(
     n: usize,
     distances: &[f64],
     k: usize,
-    m: usize,
-    neighbours: usize,
+    min_segment_len: usize,
+    max_nearby: usize,
     sets: &mut [usize],
 ) -> Listing
-    ensures { λ r. ⌜ NearbyReply n (now (distances .entry)) k m neighbours (now (sets .entry)) r (now (sets .exit)) ⌝ }
+    ensures { λ r. ⌜ NearbyReply n (now (distances .entry)) k «min_segment_len» «max_nearby» (now (sets .entry)) r (now (sets .exit)) ⌝ }
 {
-    let refused = nearby_refusal(n, distances, k, m, neighbours, sets.len());
+    let refused = nearby_refusal(n, distances, k, min_segment_len, max_nearby, sets.len());
     if refused != 0 {
         return Listing::Refused(refused);
     }
-    nearby::nearby_cuts(n, distances, k, m, neighbours, sets)
+    nearby::nearby_cuts(n, distances, k, min_segment_len, max_nearby, sets)
 }
 
 fn put_listing(count: usize, more: u64, result: &mut [u64]) -> u32
@@ -542,20 +542,20 @@ pub extern "C" fn mittenschist_nearby_cuts(
     n: usize,
     distances: &[f64],
     k: usize,
-    m: usize,
-    neighbours: usize,
+    min_segment_len: usize,
+    max_nearby: usize,
     sets: &mut [usize],
     result: &mut [u64],
 ) -> u32
-    ensures { λ r. ⌜ NearbyWritten n (now (distances .entry)) k m neighbours (now (sets .entry)) (now (result .entry)) r (now (sets .exit)) (now (result .exit)) ⌝ }
+    ensures { λ r. ⌜ NearbyWritten n (now (distances .entry)) k «min_segment_len» «max_nearby» (now (sets .entry)) (now (result .entry)) r (now (sets .exit)) (now (result .exit)) ⌝ }
 {
-    let bad_input = nearby_refusal(n, distances, k, m, neighbours, sets.len());
+    let bad_input = nearby_refusal(n, distances, k, min_segment_len, max_nearby, sets.len());
     let bad_room = refusals::check_room(2, result.len());
     let refused = refusals::first(bad_input, bad_room);
     if refused != 0 {
         return refused;
     }
-    match nearby::nearby_cuts(n, distances, k, m, neighbours, sets) {
+    match nearby::nearby_cuts(n, distances, k, min_segment_len, max_nearby, sets) {
         Listing::Refused(number) => number,
         Listing::Ended(count) => put_listing(count, 0, result),
         Listing::More(count) => put_listing(count, 1, result),

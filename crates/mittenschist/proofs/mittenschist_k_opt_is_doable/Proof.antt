@@ -32,7 +32,7 @@ unfolding early
 returns c =
     let a = c .before .before .before .is-doable-lists in
     let s = c .before .before .before .before .before .before .before in
-    passed-on (doable-rules (s .args .k) (s .args .pattern) (s .args .n)) refl (cond (doable (s .args .k) (s .args .round) (s .args .n) (s .args .rounds .now) (s .args .positions .now)) 1 0) (s .args .result .now) _ (rw (c .before .number .given .1) at (a .ensures .reply-is))
+    passed-on (doable-rules (s .args .k) (s .args .pattern) (s .args .n)) refl (cond (doable (s .args .k) (s .args .round) (s .args .n) (s .args .cut-rounds .now) (s .args .cut-positions .now)) 1 0) (s .args .result .now) _ (rw (c .before .number .given .1) at (a .ensures .reply-is))
 
 same-length : tie.Need-same-length
 same-length c = search needs
@@ -42,7 +42,7 @@ unfolding early
 returns-2 c =
     let a = c .before .before .before .before .before .before .is-doable-lists in
     let s = c .before .before .before .before .before .before .before .before .before .before in
-    handed-over (doable-rules (s .args .k) (s .args .pattern) (s .args .n)) refl (cond (doable (s .args .k) (s .args .round) (s .args .n) (s .args .rounds .now) (s .args .positions .now)) 1 0) (s .args .result .now) 0 _ _ (rw (c .before .before .before .before .enum-told .given .1) at (a .ensures .reply-is)) (c .before .before .give .ensures)
+    handed-over (doable-rules (s .args .k) (s .args .pattern) (s .args .n)) refl (cond (doable (s .args .k) (s .args .round) (s .args .n) (s .args .cut-rounds .now) (s .args .cut-positions .now)) 1 0) (s .args .result .now) 0 _ _ (rw (c .before .before .before .before .enum-told .given .1) at (a .ensures .reply-is)) (c .before .before .give .ensures)
 
 same-length-2 : tie.Need-same-length-2
 same-length-2 c = search needs
@@ -52,7 +52,7 @@ unfolding early
 returns-3 c =
     let a = c .before .before .before .before .before .before .is-doable-lists in
     let s = c .before .before .before .before .before .before .before .before .before .before in
-    handed-over (doable-rules (s .args .k) (s .args .pattern) (s .args .n)) refl (cond (doable (s .args .k) (s .args .round) (s .args .n) (s .args .rounds .now) (s .args .positions .now)) 1 0) (s .args .result .now) 1 _ _ (rw (c .before .before .before .before .enum-told2 .given .1) at (a .ensures .reply-is)) (c .before .before .give2 .ensures)
+    handed-over (doable-rules (s .args .k) (s .args .pattern) (s .args .n)) refl (cond (doable (s .args .k) (s .args .round) (s .args .n) (s .args .cut-rounds .now) (s .args .cut-positions .now)) 1 0) (s .args .result .now) 1 _ _ (rw (c .before .before .before .before .enum-told2 .given .1) at (a .ensures .reply-is)) (c .before .before .give2 .ensures)
 
 pub mittenschist-k-opt-is-doable-spec : {M : Type 1} → statement M
 mittenschist-k-opt-is-doable-spec =

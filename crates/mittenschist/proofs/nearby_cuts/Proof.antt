@@ -11,13 +11,13 @@ returns : tie.Need-returns
 returns c =
     let r = c .before .nearby-refusal in
     let s = c .before .before .before .before in
-    listing-refused (s .args .n) (s .args .distances .now) (s .args .k) (s .args .m) (s .args .neighbours) (s .args .sets .now) (r .result) (r .ensures) (c .if1 .taken)
+    listing-refused (s .args .n) (s .args .distances .now) (s .args .k) (s .args .min-segment-len) (s .args .max-nearby) (s .args .sets .now) (r .result) (r .ensures) (c .if1 .taken)
 
 nearby-cuts-requires : tie.Need-nearby-cuts-requires
 nearby-cuts-requires c κs =
     let r = c .before .before .nearby-refusal in
     let s = c .before .before .before .before .before in
-    listing-fine (s .args .n) (s .args .distances .now) (s .args .k) (s .args .m) (s .args .neighbours) (s .args .sets .now) (r .result) (r .ensures) (c .before .if1 .left)
+    listing-fine (s .args .n) (s .args .distances .now) (s .args .k) (s .args .min-segment-len) (s .args .max-nearby) (s .args .sets .now) (r .result) (r .ensures) (c .before .if1 .left)
 
 same-length : tie.Need-same-length
 same-length c = search needs
@@ -26,7 +26,7 @@ returns-2 : tie.Need-returns-2
 returns-2 c =
     let r = c .before .before .before .before .before .nearby-refusal in
     let s = c .before .before .before .before .before .before .before .before in
-    listed (s .args .n) (s .args .distances .now) (s .args .k) (s .args .m) (s .args .neighbours) (s .args .sets .now) (r .result) (r .ensures) (c .before .before .before .before .if1 .left) _ _ (c .before .before .nearby-cuts .ensures)
+    listed (s .args .n) (s .args .distances .now) (s .args .k) (s .args .min-segment-len) (s .args .max-nearby) (s .args .sets .now) (r .result) (r .ensures) (c .before .before .before .before .if1 .left) _ _ (c .before .before .nearby-cuts .ensures)
 
 pub nearby-cuts-spec : {M : Type 1} → statement M
 nearby-cuts-spec =
