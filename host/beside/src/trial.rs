@@ -148,9 +148,23 @@ fn parted(name: &str, wanted: &[u64], got: &[u64]) -> String {
     lines
 }
 
+/// A trial with the damages of the set of this index, and the number that it is then refused with, 0 for the empty set.
+pub fn damaged<C: Trial + 'static>(
+    mut case: C,
+    numbers: &[u32],
+    index: u64,
+    mut damage: impl FnMut(&mut C, u32),
+) -> Drawn {
+    let chosen = damages(numbers, index % (1 << numbers.len()));
+    for &number in &chosen {
+        damage(&mut case, number);
+    }
+    (Box::new(case), Some(chosen.last().copied().unwrap_or(0)))
+}
+
 /// The trial made for a set of damages: bit i of the set stands for number i of a list from the highest to the lowest, so that a
 /// later damage never mends an earlier one of lower number.
-pub fn damages(numbers: &[u32], set: u64) -> Vec<u32> {
+fn damages(numbers: &[u32], set: u64) -> Vec<u32> {
     let chosen = |&(bit, _): &(usize, &u32)| (set >> bit) & 1 == 1;
     let pairs = numbers.iter().enumerate().filter(chosen);
     pairs.map(|(_, &number)| number).collect()

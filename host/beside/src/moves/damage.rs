@@ -6,7 +6,7 @@ use super::generate::random_apply;
 use crate::damage;
 use crate::random::Random;
 use crate::rules::MOST_STOPS;
-use crate::trial::{damages, Drawn};
+use crate::trial::{damaged, Drawn};
 
 /// The refusal numbers of apply, highest first.
 const APPLY: [u32; 6] = [21, 8, 7, 6, 5, 1];
@@ -17,38 +17,30 @@ const DOABLE: [u32; 4] = [21, 6, 5, 1];
 pub const DOABLE_SETS: u64 = 1 << DOABLE.len();
 
 pub fn draw_apply(random: &mut Random, index: u64) -> Drawn {
-    let mut apply = random_apply(random);
-    let numbers = damages(&APPLY, index % APPLY_SETS);
-    for &number in &numbers {
-        match number {
-            21 => apply.room = random.index(apply.route.len()),
-            5 => {
-                let longer = MOST_STOPS + random.pick([1, 2, 88, 512]);
-                apply.route.resize(longer, 5);
-            }
-            _ => damage(random, &mut apply.cutting, apply.route.len(), number),
+    let apply = random_apply(random);
+    damaged(apply, &APPLY, index, |apply, number| match number {
+        21 => apply.room = random.index(apply.route.len()),
+        5 => {
+            let longer = MOST_STOPS + random.pick([1, 2, 88, 512]);
+            apply.route.resize(longer, 5);
         }
-    }
-    (Box::new(apply), Some(numbers.last().copied().unwrap_or(0)))
+        _ => damage(random, &mut apply.cutting, apply.route.len(), number),
+    })
 }
 
 pub fn draw_doable(random: &mut Random, index: u64) -> Drawn {
     let apply = random_apply(random);
     let (cutting, n) = (apply.cutting, apply.route.len());
-    let mut doable = Doable {
+    let doable = Doable {
         cutting,
         n,
         room: 1,
     };
-    let numbers = damages(&DOABLE, index % DOABLE_SETS);
-    for &number in &numbers {
-        match number {
-            21 => doable.room = 0,
-            5 => doable.n = random.pick([MOST_STOPS + 1, 1 << 32, usize::MAX]),
-            _ => damage(random, &mut doable.cutting, n, number),
-        }
-    }
-    (Box::new(doable), Some(numbers.last().copied().unwrap_or(0)))
+    damaged(doable, &DOABLE, index, |doable, number| match number {
+        21 => doable.room = 0,
+        5 => doable.n = random.pick([MOST_STOPS + 1, 1 << 32, usize::MAX]),
+        _ => damage(random, &mut doable.cutting, n, number),
+    })
 }
 
 fn damage(random: &mut Random, cutting: &mut Cutting, n: usize, number: u32) {

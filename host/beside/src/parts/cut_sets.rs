@@ -7,7 +7,7 @@ use crate::oracle::seen;
 use crate::random::Random;
 use crate::rules::{bad_cuts, bad_k, lowest, too_many_stops, MOST_STOPS};
 use crate::tables::listed;
-use crate::trial::{damages, put, Drawn, Reply, Trial, Visit, NO_ANSWER};
+use crate::trial::{damaged, put, Drawn, Reply, Trial, Visit, NO_ANSWER};
 use crate::{draw, ffi};
 use std::fmt::{Display, Formatter, Result as Written};
 
@@ -158,17 +158,13 @@ const NUMBERS: [u32; 4] = [21, 7, 5, 1];
 pub const SETS: u64 = 1 << NUMBERS.len();
 
 pub fn draw_damaged(random: &mut Random, index: u64) -> Drawn {
-    let mut step = random_step(random);
-    let numbers = damages(&NUMBERS, index % SETS);
-    for &number in &numbers {
-        match number {
-            1 => step.k = wrong_k(random),
-            5 => step.n = random.pick([MOST_STOPS + 1, 1 << 32, usize::MAX]),
-            7 => damage_cuts(random, &mut step.cuts, step.n),
-            _ => step.room = 0,
-        }
-    }
-    (Box::new(step), Some(numbers.last().copied().unwrap_or(0)))
+    let step = random_step(random);
+    damaged(step, &NUMBERS, index, |step, number| match number {
+        1 => step.k = wrong_k(random),
+        5 => step.n = random.pick([MOST_STOPS + 1, 1 << 32, usize::MAX]),
+        7 => damage_cuts(random, &mut step.cuts, step.n),
+        _ => step.room = 0,
+    })
 }
 
 /// One too few or too many, one beyond the route, two alike, or two in the wrong order.

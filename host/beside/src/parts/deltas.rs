@@ -12,7 +12,7 @@ use crate::oracle::{moves, seen};
 use crate::random::Random;
 use crate::rules::{bad_cuts, bad_k, bad_pattern, lowest, pattern_count};
 use crate::tables::{listed, Tables};
-use crate::trial::{damages, Drawn, Reply, Trial, Visit, NO_ANSWER};
+use crate::trial::{damaged, Drawn, Reply, Trial, Visit, NO_ANSWER};
 use std::fmt::{Display, Formatter, Result as Written};
 
 struct Delta {
@@ -216,17 +216,13 @@ pub const SETS: u64 = 1 << NUMBERS.len();
 
 pub fn draw_damaged(random: &mut Random, index: u64) -> Drawn {
     let route = random_route(random);
-    let mut delta = on_route(random, route);
-    let numbers = damages(&NUMBERS, index % SETS);
-    for &number in &numbers {
-        match number {
-            1 => delta.k = wrong_k(random),
-            2 => legs_size(random, &mut delta.route.tables),
-            6 => delta.pattern = wrong_pattern(random, delta.k),
-            7 => damage_cuts(random, &mut delta.cuts, delta.route.stops.len()),
-            21 => delta.room = 0,
-            _ => damage_route(random, &mut delta.route, number),
-        }
-    }
-    (Box::new(delta), Some(numbers.last().copied().unwrap_or(0)))
+    let delta = on_route(random, route);
+    damaged(delta, &NUMBERS, index, |delta, number| match number {
+        1 => delta.k = wrong_k(random),
+        2 => legs_size(random, &mut delta.route.tables),
+        6 => delta.pattern = wrong_pattern(random, delta.k),
+        7 => damage_cuts(random, &mut delta.cuts, delta.route.stops.len()),
+        21 => delta.room = 0,
+        _ => damage_route(random, &mut delta.route, number),
+    })
 }

@@ -7,7 +7,7 @@ use crate::lent::{filled, Lent};
 use crate::random::Random;
 use crate::rules::{lowest, LONGEST_LEG, MOST_STOPS};
 use crate::tables::Tables;
-use crate::trial::{damages, put, Drawn, Reply, Trial, Visit};
+use crate::trial::{damaged, put, Drawn, Reply, Trial, Visit};
 use std::fmt::{Display, Formatter, Result as Written};
 
 struct Feasible {
@@ -127,14 +127,10 @@ const NUMBERS: [u32; 5] = [21, 5, 4, 3, 2];
 pub const SETS: u64 = 1 << NUMBERS.len();
 
 pub fn draw_damaged(random: &mut Random, index: u64) -> Drawn {
-    let mut check = random_check(random);
-    let numbers = damages(&NUMBERS, index % SETS);
-    for &number in &numbers {
-        match number {
-            2 => sizes(random, &mut check.route.tables),
-            21 => check.room = 0,
-            _ => damage_route(random, &mut check.route, number),
-        }
-    }
-    (Box::new(check), Some(numbers.last().copied().unwrap_or(0)))
+    let check = random_check(random);
+    damaged(check, &NUMBERS, index, |check, number| match number {
+        2 => sizes(random, &mut check.route.tables),
+        21 => check.room = 0,
+        _ => damage_route(random, &mut check.route, number),
+    })
 }

@@ -6,7 +6,7 @@ use crate::ffi;
 use crate::lent::{filled, Lent};
 use crate::random::Random;
 use crate::rules::lowest;
-use crate::trial::{damages, put, Drawn, Reply, Trial};
+use crate::trial::{damaged, put, Drawn, Reply, Trial};
 use std::fmt::{Display, Formatter, Result as Written};
 
 struct Length {
@@ -76,14 +76,10 @@ const NUMBERS: [u32; 5] = [21, 5, 4, 3, 2];
 pub const SETS: u64 = 1 << NUMBERS.len();
 
 pub fn draw_damaged(random: &mut Random, index: u64) -> Drawn {
-    let mut length = random_length(random);
-    let numbers = damages(&NUMBERS, index % SETS);
-    for &number in &numbers {
-        match number {
-            2 => legs_size(random, &mut length.route.tables),
-            21 => length.room = 0,
-            _ => damage_route(random, &mut length.route, number),
-        }
-    }
-    (Box::new(length), Some(numbers.last().copied().unwrap_or(0)))
+    let length = random_length(random);
+    damaged(length, &NUMBERS, index, |length, number| match number {
+        2 => legs_size(random, &mut length.route.tables),
+        21 => length.room = 0,
+        _ => damage_route(random, &mut length.route, number),
+    })
 }

@@ -11,7 +11,7 @@ use crate::rules::{
     bad_cuts, bad_k, bad_pattern, lowest, pattern_count, too_many_stops, MOST_STOPS,
 };
 use crate::tables::listed;
-use crate::trial::{damages, Drawn, Reply, Trial, Visit, NO_ANSWER};
+use crate::trial::{damaged, Drawn, Reply, Trial, Visit, NO_ANSWER};
 use std::fmt::{Display, Formatter, Result as Written};
 
 struct Rejoin {
@@ -143,16 +143,12 @@ const NUMBERS: [u32; 5] = [21, 7, 6, 5, 1];
 pub const SETS: u64 = 1 << NUMBERS.len();
 
 pub fn draw_damaged(random: &mut Random, index: u64) -> Drawn {
-    let mut rejoin = random_rejoin(random);
-    let numbers = damages(&NUMBERS, index % SETS);
-    for &number in &numbers {
-        match number {
-            1 => rejoin.k = wrong_k(random),
-            5 => rejoin.route.resize(MOST_STOPS + random.within(1, 90), 5),
-            6 => rejoin.pattern = wrong_pattern(random, rejoin.k),
-            7 => damage_cuts(random, &mut rejoin.cuts, rejoin.route.len()),
-            _ => rejoin.room = random.index(rejoin.route.len()),
-        }
-    }
-    (Box::new(rejoin), Some(numbers.last().copied().unwrap_or(0)))
+    let rejoin = random_rejoin(random);
+    damaged(rejoin, &NUMBERS, index, |rejoin, number| match number {
+        1 => rejoin.k = wrong_k(random),
+        5 => rejoin.route.resize(MOST_STOPS + random.within(1, 90), 5),
+        6 => rejoin.pattern = wrong_pattern(random, rejoin.k),
+        7 => damage_cuts(random, &mut rejoin.cuts, rejoin.route.len()),
+        _ => rejoin.room = random.index(rejoin.route.len()),
+    })
 }

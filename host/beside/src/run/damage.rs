@@ -5,7 +5,7 @@ use super::generate::random_run;
 use crate::damage;
 use crate::random::Random;
 use crate::rules::{MOST_ROUNDS, MOST_STOPS};
-use crate::trial::{damages, Drawn};
+use crate::trial::{damaged, Drawn};
 
 /// The refusal numbers of the run, highest first.
 const NUMBERS: [u32; 6] = [21, 5, 4, 3, 2, 1];
@@ -17,11 +17,9 @@ pub fn draw(random: &mut Random, index: u64) -> Drawn {
     if case.lengths.is_empty() {
         add_round(&mut case, 2);
     }
-    let numbers = damages(&NUMBERS, index % SETS);
-    for &number in &numbers {
-        damage(random, &mut case, number);
-    }
-    (Box::new(case), Some(numbers.last().copied().unwrap_or(0)))
+    damaged(case, &NUMBERS, index, |case, number| {
+        damage(random, case, number)
+    })
 }
 
 fn add_round(case: &mut Case, stops: usize) {
