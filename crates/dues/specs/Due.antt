@@ -1,7 +1,8 @@
 -- The due of a placed segment: the second before which it must be left.
 use mathlib.Core.Path.{_≡_}
 use mathlib.Core.Bool.{Bool, true, _&&_}
-use mathlib.Core.List.{List, [], _∷_, reverse}
+use mathlib.Core.Logic.{_⊎_}
+use mathlib.Core.List.{List, [], _∷_, _++_, reverse}
 use Prim.Native.Nat.{ℕ, _+_, _-_, _*_, _^_, _≤_, _<_}
 use lib.Dec.{ltb}
 use lib.ListN.{length, getD}
@@ -51,7 +52,7 @@ pub record Growable (locations : ℕ) (legs latest route backward-sums : List �
 
 -- Places for the dues, and a middle segment.
 pub record Puttable (dues : List ℕ) (segment : ℕ) : Type 0 where
-  pub places : length dues ≡ 8
+  pub places : length dues ≡ 9
   pub least : 1 ≤ segment
   pub most : segment ≤ 4
 
@@ -63,11 +64,11 @@ pub record DuesFillable (locations : ℕ) (legs latest route backward-sums cuts 
   pub backwards : Sums route (backward (leg locations legs) route) backward-sums
   pub cut-set : CutSet (length cuts) (length route) cuts
   pub fewer : count < length cuts
-  pub places : length dues ≡ 8
+  pub places : length dues ≡ 9
 
 -- The dues of the first `count` middle segments: segment i, between the cuts i - 1 and i, as state 2 i - 2 and reversed as the next.
 pub record SegmentsDue (P : Problem) (cuts route : List ℕ) (count : ℕ) (dues : List ℕ) : Type 0 where
-  pub places : length dues ≡ 8
+  pub places : length dues ≡ 9
   pub each : (i : ℕ) → 1 ≤ i → i ≤ count → SegmentDues P (slice (getD cuts (i - 1) 0) (getD cuts i 0) route) (getD dues (2 * i - 2) 0) (getD dues (2 * i - 2 + 1) 0)
 
 -- Along the states listed, from state a left at second t: each is left before its due.
@@ -79,7 +80,7 @@ in-time table dues a t (b ∷ bs) = ltb (t + cell table a b) (getD dues b 0) && 
 pub record RowTimed (table rows dues : List ℕ) (i m clock : ℕ) : Type 0 where
   pub padded : Padded table
   pub places : length rows ≡ 1532
-  pub due-places : length dues ≡ 8
+  pub due-places : length dues ≡ 9
   pub within : i < 383
   pub few : m ≤ 4
   pub known : (c : ℕ) → 4 * i ≤ c → c < 4 * i + m → getD rows c 0 < 8
@@ -87,5 +88,16 @@ pub record RowTimed (table rows dues : List ℕ) (i m clock : ℕ) : Type 0 wher
 
 -- The due of each state of a cut set.
 pub record DuesOf (P : Problem) (cuts route dues : List ℕ) : Type 0 where
-  pub places : length dues ≡ 8
+  pub places : length dues ≡ 9
   pub each : (s : ℕ) → s < state-count (length cuts) → Due P (placed-in cuts route s) (getD dues s 0)
+
+-- The dues of the middle segments of the cuts `pre` and the last cut `end`.
+pub record DuesReach (P : Problem) (route pre dues : List ℕ) (end : ℕ) : Type 0 where
+  pub least : getD pre (length pre - 1) 0 < end
+  pub most : end ≤ length route
+  pub due : SegmentsDue P (pre ++ (end ∷ [])) route (length pre) dues
+
+-- What the cut sets with the first cuts `pre` share: place 8 holds the last cut that the dues of the last middle segment reach, or 0 where no dues are held.
+pub record DuesHeld (P : Problem) (route pre dues : List ℕ) : Type 0 where
+  pub places : length dues ≡ 9
+  pub held : (getD dues 8 0 ≡ 0) ⊎ DuesReach P route pre dues (getD dues 8 0)

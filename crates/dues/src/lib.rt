@@ -93,7 +93,7 @@ pub fn segment_dues(
 }
 
 // The dues of a middle segment into the places of its two states.
-pub fn put_dues(dues: &mut [u64; 8], segment: usize, straight: u64, reversed: u64)
+pub fn put_dues(dues: &mut [u64; 9], segment: usize, straight: u64, reversed: u64)
     requires { ⌜ Puttable (now dues) segment ⌝ }
     ensures { λ _. ⌜ now (dues .exit) ≡ set (set (now (dues .entry)) (2 * segment - 2) straight) (2 * segment - 2 + 1) reversed ⌝ }
 {
@@ -111,7 +111,7 @@ pub fn fill_dues(
     backward: &[u64; 512],
     cuts: &[usize],
     count: usize,
-    dues: &mut [u64; 8],
+    dues: &mut [u64; 9],
 )
     requires { ⌜ DuesFillable locations (now legs) (now latest) (now route) (now backward) (now cuts) count (now dues) ⌝ }
     ensures { λ _. ⌜ SegmentsDue (problem locations (now (legs .entry)) (now (latest .entry)) 0) (now (cuts .entry)) (now (route .entry)) count (now (dues .exit)) ⌝ }
@@ -136,7 +136,7 @@ fn wide(x: u8) -> usize
 pub fn row_in_time(
     joint: &[u64; 160],
     rows: &[u8; 1532],
-    dues: &[u64; 8],
+    dues: &[u64; 9],
     i: usize,
     m: usize,
     clock: u64,

@@ -14,7 +14,7 @@ use Rattle.theory.specs.Costs.{forward, backward}
 use Rattle.theory.specs.Tables.{problem, Timed, CutSet, PatternRows, pattern-rows}
 use Rattle.costs.specs.RouteCosts.{leg, Sums}
 use Rattle.joints.specs.States.{row, standing-row, StateRows}
-use Rattle.dues.specs.Due.{in-time, DuesOf}
+use Rattle.dues.specs.Due.{in-time, DuesOf, DuesHeld}
 use Rattle.joints.specs.JointTable.{chain, Padded, JointOf}
 
 -- What the step reads: tables, the route with its running sums, k cuts of it, and rows of patterns of which the first `limit` are still allowed.
@@ -45,6 +45,19 @@ pub record Gained (P : Problem) (ps : List Pattern) (k : ℕ) (route cuts : List
   pub built : i < limit → take (length route) spare ≡ reconnected (move-at ps cuts i) route
   pub padded : Padded table
   pub places : length spare ≡ 512
+
+-- With what is known of the deadlines: whether the route keeps every one, and what is held of the dues for the first cuts.
+pub record Findable (locations : ℕ) (legs latest : List ℕ) (depot : ℕ) (route forward-sums backward-sums cuts orders masks rows : List ℕ) (kept : Bool) (table spare dues : List ℕ) (limit : ℕ) : Type 0 where
+  pub gainable : Gainable locations legs latest depot route forward-sums backward-sums cuts orders masks rows table spare limit
+  pub in-time : kept ≡ true → feasible (problem locations legs latest depot) route ≡ true
+  pub held : DuesHeld (problem locations legs latest 0) route (take (length cuts - 1) cuts) dues
+  pub behind : getD dues 8 0 ≤ getD cuts (length cuts - 1) 0
+
+-- The answer, with what is then held.
+pub record Found (locations : ℕ) (legs latest : List ℕ) (depot : ℕ) (route cuts orders masks : List ℕ) (limit i : ℕ) (table spare dues : List ℕ) : Type 0 where
+  pub gained : Gained (problem locations legs latest depot) (pattern-rows (length cuts) orders masks) (length cuts) route cuts limit i table spare
+  pub held : DuesHeld (problem locations legs latest 0) route (take (length cuts - 1) cuts) dues
+  pub behind : getD dues 8 0 ≤ getD cuts (length cuts - 1) 0
 
 -- ---- the parts of the step
 
@@ -90,7 +103,7 @@ pub record DueRows (table rows dues : List ℕ) (k clock limit : ℕ) : Type 0 w
   pub chains : Chains table rows 0 limit
   pub least : 2 ≤ k
   pub most : k ≤ 5
-  pub due-places : length dues ≡ 8
+  pub due-places : length dues ≡ 9
   pub states : (i : ℕ) → i < limit → (c : ℕ) → 4 * i ≤ c → c < 4 * i + (k - 1) → getD rows c 0 < 8
   pub early : clock ≤ 2 ^ 40
 

@@ -10,7 +10,7 @@ ghost use Rattle.theory.proofs.Clock.{on-time};
 ghost use Rattle.deadlines.specs.Walk.{WalkedPart};
 ghost use Rattle.search.specs.Candidate.{candidate, Buildable, BuildableFront, BuiltFront};
 ghost use Rattle.search.specs.Parts.{head, middle, tail, after-head, WalkFrom, SegmentWalk, MiddleWalk, WalkedMiddle, CandidateWalk, HeadTimed, HeadClock};
-ghost use Rattle.search.specs.Gain.{Chains, NextShorter, Tabled, FirstGain, Gainable, Gained, DueRows, FirstDue, DueGainable};
+ghost use Rattle.search.specs.Gain.{Chains, NextShorter, Tabled, FirstGain, Gained, Findable, Found, DueRows, FirstDue, DueGainable};
 
 // The candidate of pattern i.
 fn build_candidate(
@@ -280,7 +280,7 @@ fn first_kept(
 fn first_due(
     joint: &[u64; 160],
     rows: &[u8; 1532],
-    dues: &[u64; 8],
+    dues: &[u64; 9],
     k: usize,
     clock: u64,
     limit: usize,
@@ -313,12 +313,14 @@ pub fn first_gain(
     orders: &[u8],
     masks: &[u8],
     rows: &[u8; 1532],
+    kept: bool,
     joint: &mut [u64; 160],
     spare: &mut [u32; 512],
+    dues: &mut [u64; 9],
     limit: usize,
 ) -> usize
-    requires { ⌜ Gainable locations (now legs) (now latest) depot (now route) (now forward) (now backward) (now cuts) (now orders) (now masks) (now rows) (now joint) (now spare) limit ⌝ }
-    ensures { λ r. ⌜ Gained (problem locations (now (legs .entry)) (now (latest .entry)) depot) (pattern-rows (length (now (cuts .entry))) (now (orders .entry)) (now (masks .entry))) (length (now (cuts .entry))) (now (route .entry)) (now (cuts .entry)) limit r (now (joint .exit)) (now (spare .exit)) ⌝ }
+    requires { ⌜ Findable locations (now legs) (now latest) depot (now route) (now forward) (now backward) (now cuts) (now orders) (now masks) (now rows) kept (now joint) (now spare) (now dues) limit ⌝ }
+    ensures { λ r. ⌜ Found locations (now (legs .entry)) (now (latest .entry)) depot (now (route .entry)) (now (cuts .entry)) (now (orders .entry)) (now (masks .entry)) limit r (now (joint .exit)) (now (spare .exit)) (now (dues .exit)) ⌝ }
 {
     joints::fill_joint(
         locations,
@@ -385,7 +387,7 @@ pub fn first_gain_due(
     rows: &[u8; 1532],
     joint: &mut [u64; 160],
     spare: &mut [u32; 512],
-    dues: &[u64; 8],
+    dues: &[u64; 9],
     limit: usize,
 ) -> usize
     requires { ⌜ DueGainable locations (now legs) (now latest) depot (now route) (now forward) (now backward) (now cuts) (now orders) (now masks) (now rows) (now joint) (now spare) (now dues) limit ⌝ }

@@ -3,6 +3,7 @@ use mathlib.Core.Path.{_≡_}
 use Prim.Native.Nat.{ℕ, _≤_, _<_}
 use native.Mathlib.Omega.{arith}
 use borrow.Author.Needs.{needs}
+use Rattle.search.proofs.DueGain.{tabled}
 use Rattle.search.proofs.first_gain.Statement.{statement}
 use Rattle.search.proofs.first_gain.Tie as tie
 
@@ -19,13 +20,18 @@ returns : tie.Need-returns
 returns c =
     let s = c .before .before .before .before .before .before .before .before .before .before .before in
     let first = rw (c .if1 .taken) at (c .before .first-kept .ensures) in
-    record { first = first; built = λ m. absurd (omega (arith, m)); padded = c .before .before .before .fill-joint .ensures .padded; places = s .pre .places }
+    record {
+      gained = record { first = first; built = λ m. absurd (omega (arith, m)); padded = c .before .before .before .fill-joint .ensures .padded; places = s .pre .gainable .places };
+      held = s .pre .held;
+      behind = s .pre .behind;
+    }
 
 build-front-requires : tie.Need-build-front-requires
 build-front-requires c κs =
     let s = c .before .before .before .before .before .before .before .before .before .before .before .before in
+    let g = s .pre .gainable in
     let i : c .before .before .first-kept .result < s .args .limit = below (c .before .before .first-kept .ensures .within) (c .before .if1 .left) in
-    record { of = record { cut-set = s .pre .searchable .cut-set; patterns = s .pre .searchable .rows; listed = omega (arith, i, s .pre .searchable .allowed) }; places = s .pre .places }
+    record { of = record { cut-set = g .searchable .cut-set; patterns = g .searchable .rows; listed = omega (arith, i, g .searchable .allowed) }; places = g .places }
 
 returns-2 : tie.Need-returns-2
 returns-2 c = search needs
