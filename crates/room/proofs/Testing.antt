@@ -3,7 +3,7 @@ use mathlib.Core.Path.{_≡_, refl, sym, ap, _∙_}
 use mathlib.Core.Bool.{Bool, true, false, cond}
 use mathlib.Core.Logic.{_⊎_, inl, inr}
 use mathlib.Core.List.{List, [], _∷_, _++_}
-use Prim.Native.Nat.{ℕ, zero, suc, _+_, _-_, _*_, _^_, _≤_, _<_}
+use Prim.Native.Nat.{ℕ, suc, _+_, _-_, _*_, _^_, _≤_, _<_}
 use native.Mathlib.Omega.{arith}
 use native.Mathlib.Decide.{decLt}
 use borrow.Author.Tests.{ne-eqb, lt-ltb, le-ltb, ltb-false}
@@ -19,10 +19,9 @@ use Rattle.joints.specs.States.{placed-in}
 use Rattle.joints.specs.JointTable.{Joinable}
 use Rattle.joints.proofs.Ends.{inside-is, inside-small, entry-known, exit-known, head-below}
 use Rattle.shared.specs.Bound.{exit-of, opened, last-state}
-use Rattle.shared.specs.Kept.{Cut, Kept, Opened, first-cuts, last-cut}
-use Rattle.room.specs.Room.{NoGain, Passable, PassedOver}
+use Rattle.shared.specs.Kept.{Cut, Kept, first-cuts, last-cut}
+use Rattle.room.specs.Room.{NoGain}
 use Rattle.room.specs.Tests.{LeastInto, LeastOut, IntoFits, OutFits, Testable, Tested, Nextable, NextRoom}
-use Rattle.shared.specs.Filling.{Keepable, KeptNow}
 use Rattle.room.proofs.Bound.{Before, After, NoRoom}
 use Rattle.room.proofs.Shared.{other-cut, last-two, same-head, P-is, back-exit, first-set}
 use Rattle.room.proofs.NoGain.{no-gain}
@@ -227,8 +226,8 @@ module _ {locations : ℕ} {legs : List ℕ} {depot : ℕ} {r forwards backwards
 
 -- ---- from last cut to last cut
 
-module _ {locations : ℕ} {legs : List ℕ} {depot : ℕ} {r forwards backwards cuts entries exits inside low : List ℕ}
-    (given : Nextable locations legs depot r forwards backwards cuts entries exits inside low) where
+module _ {locations : ℕ} {legs : List ℕ} {depot : ℕ} {r forwards backwards cuts entries exits inside low zeros : List ℕ}
+    (given : Nextable locations legs depot r forwards backwards cuts entries exits inside low zeros) where
   pub none-passed : NextRoom locations legs depot r cuts entries exits inside low (last-cut cuts)
   none-passed = record { least = omega arith; most = omega (arith, two-last (given .cut) .1); idle = λ c h k. absurd (omega arith) }
 
@@ -246,48 +245,8 @@ module _ {locations : ℕ} {legs : List ℕ} {depot : ℕ} {r forwards backwards
       by x h k rows count kept (yes m) = w .idle x h m rows count kept
       by x h k rows count kept (no m) = let q : x ≡ c = omega arith in rw q (t e rows count kept)
 
-zero-at : (n c : ℕ) → _≡_ {A = ℕ} (getD (replicate n 0) c 0) 0
-zero-at zero c = refl
-zero-at (suc n) zero = refl
-zero-at (suc n) (suc c) = zero-at n c
-
-pub testable : {locations : ℕ} {legs : List ℕ} {depot : ℕ} {r forwards backwards cuts entries exits inside low : List ℕ} {head c : ℕ} →
-    Nextable locations legs depot r forwards backwards cuts entries exits inside low → head ≡ head-end (legs-only locations legs depot) r cuts → last-cut cuts ≤ c → c ≤ length r →
-    Testable locations legs depot r forwards backwards cuts head entries exits inside low (replicate 21 0) c
+pub testable : {locations : ℕ} {legs : List ℕ} {depot : ℕ} {r forwards backwards cuts entries exits inside low zeros : List ℕ} {head c : ℕ} →
+    Nextable locations legs depot r forwards backwards cuts entries exits inside low zeros → head ≡ head-end (legs-only locations legs depot) r cuts → last-cut cuts ≤ c → c ≤ length r →
+    Testable locations legs depot r forwards backwards cuts head entries exits inside low zeros c
 testable g e h l =
-    record { cut = g .cut; head-is = e; places = g .places; kept = g .kept; zero-places = refl; zero-is = zero-at 21; least = h; most = l }
-
--- ---- kept or filled anew
-
-module _ {locations : ℕ} {legs : List ℕ} {depot : ℕ} {r forwards backwards cuts rows : List ℕ} {count : ℕ} {entries exits inside low : List ℕ}
-    (given : Passable locations legs depot r forwards backwards cuts rows count entries exits inside low) where
-  pub start-small : getD cuts (length cuts - 2) 0 ≤ 512
-  start-small = omega (arith, start-known (given .cut) .0, given .cut .cut-set .short)
-
-  pub still-kept : (last-cut cuts ≡ getD cuts (length cuts - 2) 0 + 1 → ⊥) → KeptNow locations legs depot r cuts rows count entries exits inside low
-  still-kept n = record { places = given .places; kept = by (given .kept) }
-    where
-      by : Opened cuts ⊎ Kept locations legs depot r (first-cuts cuts) rows count entries exits inside low → Kept locations legs depot r (first-cuts cuts) rows count entries exits inside low
-      by (inl o) = absurd (n (omega (arith, o)))
-      by (inr k) = k
-
-  pub fills : last-cut cuts ≡ getD cuts (length cuts - 2) 0 + 1 → Keepable locations legs depot r forwards backwards cuts rows count entries exits inside low
-  fills e = record { cut = given .cut; rows-fit = given .rows-fit; places = given .places; first = omega (arith, e) }
-
-  module _ {entries′ exits′ inside′ low′ : List ℕ} (now-kept : KeptNow locations legs depot r cuts rows count entries′ exits′ inside′ low′) where
-    pub nextable : Nextable locations legs depot r forwards backwards cuts entries′ exits′ inside′ low′
-    nextable =
-        let k = now-kept .kept in
-        record {
-          cut = given .cut;
-          places = now-kept .places;
-          kept = record { entry = k .entry; exit = k .exit; within = k .within; standing = k .standing; least = λ i h. absurd (omega arith) };
-        }
-
-    pub passes-over : {c : ℕ} → NextRoom locations legs depot r cuts entries′ exits′ inside′ low′ c → PassedOver locations legs depot r cuts rows count c entries′ exits′ inside′ low′
-    passes-over w =
-        record {
-          passed = record { least = w .least; most = w .most; idle = λ c h l. w .idle c h l rows count (now-kept .kept) };
-          places = now-kept .places;
-          kept = now-kept .kept;
-        }
+    record { cut = g .cut; head-is = e; places = g .places; kept = g .kept; zero-places = g .zero-places; zero-is = g .zero-is; least = h; most = l }

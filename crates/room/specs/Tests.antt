@@ -58,10 +58,12 @@ Tested locations legs depot route cuts entries exits inside low c r =
     r ≡ false → (rows : List ℕ) (count : ℕ) → Kept locations legs depot route (first-cuts cuts) rows count entries exits inside low → NoGain locations legs depot route (first-cuts cuts) rows count c
 
 -- What is read to pass over last cuts.
-pub record Nextable (locations : ℕ) (legs : List ℕ) (depot : ℕ) (route forward-sums backward-sums cuts entries exits inside low : List ℕ) : Type 0 where
+pub record Nextable (locations : ℕ) (legs : List ℕ) (depot : ℕ) (route forward-sums backward-sums cuts entries exits inside low zero : List ℕ) : Type 0 where
   pub cut : Cut locations legs depot route forward-sums backward-sums cuts
   pub places : Places entries exits inside low
   pub kept : Kept locations legs depot route (first-cuts cuts) [] 0 entries exits inside low
+  pub zero-places : length zero ≡ 21
+  pub zero-is : (x : ℕ) → getD zero x 0 ≡ 0
 
 -- From the last cut on, the first with room: none before it gains, whichever rows the least costs are of.
 pub record NextRoom (locations : ℕ) (legs : List ℕ) (depot : ℕ) (route cuts entries exits inside low : List ℕ) (r : ℕ) : Type 0 where

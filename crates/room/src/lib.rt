@@ -1,12 +1,10 @@
-// The cut sets that leave no room for a gain, passed over without a look at their patterns. No entry: crate polishing calls it.
+// The cut sets that leave no room for a gain, passed over without a look at their patterns. No entry: crate stretches calls it.
 ghost use mathlib.Core.Path.{_≡_};
 ghost use mathlib.Core.Bool.{cond};
 ghost use Prim.Native.Nat.{_≤_};
 ghost use lib.Dec.{ltb};
 ghost use lib.ListN.{length, getD};
-ghost use Rattle.shared.specs.Filling.{KeptNow};
 ghost use Rattle.room.specs.Tests.{IntoFits, LeastInto, OutFits, LeastOut, Testable, Tested, Nextable, NextRoom};
-ghost use Rattle.room.specs.Room.{Passable, PassedOver};
 
 // The lesser of two.
 fn least(a: u64, b: u64) -> u64
@@ -114,8 +112,8 @@ fn has_room(
     turned + tail + costs::inner(backward, start, c) < here + on
 }
 
-// From the last cut on, with the same first cuts, the first last cut that has room, or one beyond the route.
-fn next_room(
+// From the last cut on, with the same first cuts, the first last cut that has room, or one beyond the route. `zero` holds nothing: who calls again and again keeps it.
+pub fn next_room(
     locations: usize,
     legs: &[u32],
     depot: u32,
@@ -127,11 +125,11 @@ fn next_room(
     exits: &[u32; 8],
     inside: &[u64; 8],
     low: &[u64; 21],
+    zero: &[u64; 21],
 ) -> usize
-    requires { ⌜ Nextable locations (now legs) depot (now route) (now forward) (now backward) (now cuts) (now entries) (now exits) (now inside) (now low) ⌝ }
+    requires { ⌜ Nextable locations (now legs) depot (now route) (now forward) (now backward) (now cuts) (now entries) (now exits) (now inside) (now low) (now zero) ⌝ }
     ensures { λ r. ⌜ NextRoom locations (now (legs .entry)) depot (now (route .entry)) (now (cuts .entry)) (now (entries .entry)) (now (exits .entry)) (now (inside .entry)) (now (low .entry)) r ⌝ }
 {
-    let zero = [0u64; 21];
     let head = costs::head_end(depot, route, cuts);
     let mut c = cuts[cuts.len() - 1];
     while c <= route.len() {
@@ -148,7 +146,7 @@ fn next_room(
             exits,
             inside,
             low,
-            &zero,
+            zero,
             c,
         ) {
             return c;
@@ -156,93 +154,4 @@ fn next_room(
         c += 1;
     }
     c
-}
-
-// Fills what is kept anew at the first cut set with its first cuts.
-fn renew(
-    locations: usize,
-    legs: &[u32],
-    depot: u32,
-    route: &[u32],
-    forward: &[u64; 512],
-    backward: &[u64; 512],
-    cuts: &[usize],
-    rows: &[u8; 1532],
-    count: usize,
-    entries: &mut [u32; 8],
-    exits: &mut [u32; 8],
-    inside: &mut [u64; 8],
-    low: &mut [u64; 21],
-)
-    requires { ⌜ Passable locations (now legs) depot (now route) (now forward) (now backward) (now cuts) (now rows) count (now entries) (now exits) (now inside) (now low) ⌝ }
-    ensures { λ _. ⌜ KeptNow locations (now (legs .entry)) depot (now (route .entry)) (now (cuts .entry)) (now (rows .entry)) count (now (entries .exit)) (now (exits .exit)) (now (inside .exit)) (now (low .exit)) ⌝ }
-{
-    let k = cuts.len();
-    if cuts[k - 1] != cuts[k - 2] + 1 {
-        return;
-    }
-    shared::fill_kept(
-        locations,
-        legs,
-        depot,
-        route,
-        forward,
-        backward,
-        cuts,
-        rows,
-        count,
-        entries,
-        exits,
-        inside,
-        low,
-    );
-}
-
-// Passes over last cuts without room, the first cuts being the same: the first last cut that has room, or one beyond the route.
-pub fn pass_over(
-    locations: usize,
-    legs: &[u32],
-    depot: u32,
-    route: &[u32],
-    forward: &[u64; 512],
-    backward: &[u64; 512],
-    cuts: &[usize],
-    rows: &[u8; 1532],
-    count: usize,
-    entries: &mut [u32; 8],
-    exits: &mut [u32; 8],
-    inside: &mut [u64; 8],
-    low: &mut [u64; 21],
-) -> usize
-    requires { ⌜ Passable locations (now legs) depot (now route) (now forward) (now backward) (now cuts) (now rows) count (now entries) (now exits) (now inside) (now low) ⌝ }
-    ensures { λ r. ⌜ PassedOver locations (now (legs .entry)) depot (now (route .entry)) (now (cuts .entry)) (now (rows .entry)) count r (now (entries .exit)) (now (exits .exit)) (now (inside .exit)) (now (low .exit)) ⌝ }
-{
-    renew(
-        locations,
-        legs,
-        depot,
-        route,
-        forward,
-        backward,
-        cuts,
-        rows,
-        count,
-        entries,
-        exits,
-        inside,
-        low,
-    );
-    next_room(
-        locations,
-        legs,
-        depot,
-        route,
-        forward,
-        backward,
-        cuts,
-        entries,
-        exits,
-        inside,
-        low,
-    )
 }

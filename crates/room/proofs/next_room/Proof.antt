@@ -31,20 +31,20 @@ loop-holds c = none-passed (c .before .before .before .before .before .pre)
 
 has-room-requires : tie.Need-has-room-requires Inv-loop μ-loop
 has-room-requires c κs =
-    let l = c .before .before .loop in
-    testable (c .before .before .before .before .before .before .before .before .pre) (c .before .before .before .before .head-end .ensures) (l .inv .least) (omega (arith, c .before .loop-test .taken))
+    let l = c .before .loop in
+    testable (c .before .before .before .before .before .before .before .pre) (c .before .before .before .head-end .ensures) (l .inv .least) (omega (arith, c .loop-test .taken))
 
 returns : tie.Need-returns Inv-loop μ-loop
-returns c = c .before .before .before .before .loop .inv
+returns c = c .before .before .before .loop .inv
 
 add-c : tie.Need-add-c Inv-loop μ-loop
-add-c c = omega (arith, c .before .before .before .before .loop .inv .most, c .before .before .before .before .before .before .before .before .before .before .pre .cut .cut-set .short)
+add-c c = omega (arith, c .before .before .before .loop .inv .most, c .before .before .before .before .before .before .before .before .before .pre .cut .cut-set .short)
 
 loop-less : tie.Need-loop-less Inv-loop μ-loop
-loop-less c = omega (arith, c .before .before .before .loop-test .taken)
+loop-less c = omega (arith, c .before .before .loop-test .taken)
 
 loop-again : tie.Need-loop-again Inv-loop μ-loop
-loop-again c = one-passed (c .before .before .before .before .before .before .before .before .before .before .pre) (omega (arith, c .before .before .before .loop-test .taken)) (c .before .before .before .before .loop .inv) (c .before .has-room .ensures) (c .if1 .left)
+loop-again c = one-passed (c .before .before .before .before .before .before .before .before .before .pre) (omega (arith, c .before .before .loop-test .taken)) (c .before .before .before .loop .inv) (c .before .has-room .ensures) (c .if1 .left)
 
 returns-2 : tie.Need-returns-2 Inv-loop μ-loop
 returns-2 c = c .before .loop .inv

@@ -1,0 +1,402 @@
+-- A stretch, over plain lists: what holds at each turn, and what each end of a turn gives. Assumes nothing.
+use mathlib.Core.Path.{_≡_, refl, sym, ap, _∙_}
+use mathlib.Core.Bool.{Bool, true, false, true≢false, _&&_}
+use mathlib.Core.Logic.{inl}
+use mathlib.Core.List.{List, [], _∷_, _++_}
+use Prim.Native.Nat.{ℕ, zero, suc, min, _+_, _-_, _*_, _≤_, _<_}
+use native.Mathlib.Omega.{arith}
+use native.Mathlib.Nat.{zero-mul, suc-mul, add-mul, mul-le-mul-right}
+use native.Mathlib.Decide.{decLt}
+use lib.ListN.{length, getD, set, take, replicate, length-append}
+use lib.Seq.{set-at}
+use Rattle.theory.specs.Route.{reconnected, feasible}
+use Rattle.theory.specs.Polish.{move-at}
+use Rattle.theory.specs.Tables.{problem, CutSet, ForK, pattern-rows}
+use Rattle.theory.proofs.Rows.{length-rows, listed-for-k}
+use Rattle.joints.specs.JointTable.{Padded}
+use Rattle.joints.specs.States.{row, states, pattern-row}
+use Rattle.shared.specs.Kept.{Cut, Kept, Places, first-cuts, last-cut}
+use Rattle.shared.specs.Filling.{Keepable, KeptNow}
+use Rattle.shared.proofs.Keeping.{cuts-parted, first-many}
+use Rattle.room.specs.Tests.{Nextable, NextRoom}
+use Rattle.room.proofs.Shared.{other-cut, last-two}
+use Rattle.room.proofs.NextCuts.{first-of-cuts, last-of-cuts}
+use Rattle.dues.specs.Due.{DuesHeld}
+use Rattle.search.specs.Gain.{Findable, Found}
+use Rattle.stretches.specs.declared.Stretch.{Stretch}
+use Rattle.stretches.specs.Stretch.{Stretchable, Stretched, GainAt, improves-at}
+
+-- At the last cut of `cuts`: the candidates before it are examined, and none improves the route.
+pub record Going (locations : ℕ) (legs latest : List ℕ) (depot : ℕ) (orders masks r cuts₀ : List ℕ) (left : ℕ) (cuts table spare dues : List ℕ) (examined : ℕ) : Type 0 where
+  pub cut-set : CutSet (length cuts) (length r) cuts
+  pub many : length cuts ≡ length cuts₀
+  pub first : first-cuts cuts ≡ first-cuts cuts₀
+  pub from : last-cut cuts₀ ≤ last-cut cuts
+  pub count : examined ≡ (last-cut cuts - last-cut cuts₀) * length masks
+  pub within : examined ≤ left
+  pub idle : (t x : ℕ) → last-cut cuts₀ ≤ t → t < last-cut cuts → x < length masks → improves-at (problem locations legs latest depot) (pattern-rows (length cuts₀) orders masks) r cuts₀ t x ≡ false
+  pub padded : Padded table
+  pub places : length spare ≡ 512
+  pub held : DuesHeld (problem locations legs latest 0) r (first-cuts cuts₀) dues
+  pub behind : getD dues 8 0 ≤ last-cut cuts
+
+zero-at : (n c : ℕ) → _≡_ {A = ℕ} (getD (replicate n 0) c 0) 0
+zero-at zero c = refl
+zero-at (suc n) zero = refl
+zero-at (suc n) (suc c) = zero-at n c
+
+and-false : (b : Bool) → (b && false) ≡ false
+and-false true = refl
+and-false false = refl
+
+-- ---- the last cut as the array has it
+
+last-stored : (l : List ℕ) (v : ℕ) → 1 ≤ length l → set l (length l - 1) v ≡ first-cuts l ++ (v ∷ [])
+last-stored l v h = ap (λ z. set z (length l - 1) v) (cuts-parted l h) ∙ set-at (first-cuts l) (last-cut l) [] v (length l - 1) (first-many l)
+
+-- ---- numbers of candidates, m to a cut set, from the last cut a on
+
+-- The cut sets before the last cut c, and those from c to d.
+count-to : (a c d m : ℕ) → a ≤ c → c ≤ d → (c - a) * m + (d - c) * m ≡ (d - a) * m
+count-to a c d m h k =
+    let e : c - a + (d - c) ≡ d - a = omega arith in
+    sym (add-mul (c - a) (d - c) m) ∙ ap (λ n. n * m) e
+
+-- One cut set more.
+count-next : (a c m : ℕ) → a ≤ c → (c - a) * m + m ≡ (c + 1 - a) * m
+count-next a c m h =
+    let e : c + 1 - a ≡ suc (c - a) = omega arith in
+    sym (ap (λ n. n * m) e ∙ suc-mul (c - a) m)
+
+count-least : (a c d m : ℕ) → c ≤ d → (c - a) * m ≤ (d - a) * m
+count-least a c d m h = let l : c - a ≤ d - a = omega arith in mul-le-mul-right m l
+
+-- A candidate numbered below the first i at the last cut c stands before c, or is one of them.
+module _ (a c m i : ℕ) (h : a ≤ c) (few : i ≤ m) (B : ℕ → ℕ → Bool)
+    (before : (t x : ℕ) → a ≤ t → t < c → x < m → B t x ≡ false) (here : (x : ℕ) → x < i → B c x ≡ false) where
+  up-to : (t x : ℕ) → a ≤ t → x < m → (t - a) * m + x < (c - a) * m + i → B t x ≡ false
+  up-to t x l y n = by (decLt t c) (decLt c t)
+    where
+      by : Dec (t < c) → Dec (c < t) → B t x ≡ false
+      by (yes p) q = before t x l p y
+      by (no p) (yes q) = absurd (omega (arith, n, few, count-next a c m h, count-least a (c + 1) t m (omega arith)))
+      by (no p) (no q) =
+          let e : t ≡ c = omega arith in
+          let s : x < i = omega (arith, rw e at n) in
+          rw e (here x s)
+
+module _ {locations : ℕ} {legs latest : List ℕ} {depot : ℕ} {orders masks rows r forwards backwards : List ℕ} {kept : Bool} {cuts₀ table₀ spare₀ : List ℕ}
+    (given : Stretchable locations legs latest depot orders masks rows r forwards backwards kept cuts₀ table₀ spare₀) where
+  as-many : length (pattern-rows (length cuts₀) orders masks) ≡ length masks
+  as-many = length-rows (length cuts₀) orders masks
+
+  two : 2 ≤ length cuts₀
+  two = given .gainable .searchable .cut-set .least
+
+  some : 1 ≤ length (first-cuts cuts₀)
+  some = omega (arith, first-many cuts₀, two)
+
+  own : CutSet (length (first-cuts cuts₀ ++ (last-cut cuts₀ ∷ []))) (length r) (first-cuts cuts₀ ++ (last-cut cuts₀ ∷ []))
+  own = rw (← (cuts-parted cuts₀ (omega (arith, two)))) (given .gainable .searchable .cut-set)
+
+  first-below : (getD (first-cuts cuts₀) (length (first-cuts cuts₀) - 1) 0 < last-cut cuts₀) × (last-cut cuts₀ ≤ length r)
+  first-below = last-two (length r) 0 (first-cuts cuts₀) (last-cut cuts₀) some (own .rising)
+
+  long : (v : ℕ) → length (first-cuts cuts₀ ++ (v ∷ [])) ≡ length cuts₀
+  long v = simp length-append (omega (arith, first-many cuts₀, two))
+
+  at-cut : (v : ℕ) → last-cut cuts₀ ≤ v → v ≤ length r → CutSet (length (first-cuts cuts₀ ++ (v ∷ []))) (length r) (first-cuts cuts₀ ++ (v ∷ []))
+  at-cut v h l = other-cut (length r) (first-cuts cuts₀) (last-cut cuts₀) v some own (omega (arith, first-below .0)) l
+
+  cut-of : (cuts : List ℕ) → CutSet (length cuts) (length r) cuts → Cut locations legs depot r forwards backwards cuts
+  cut-of cuts s = let g = given .gainable .searchable in record { measurable = g .timed .measurable; forwards = g .forwards; backwards = g .backwards; cut-set = s }
+
+  -- The answer, from facts that count by the masks.
+  answered : {left e : ℕ} {g w : Bool} {cuts′ table spare : List ℕ} →
+      ((t x : ℕ) → last-cut cuts₀ ≤ t → x < length masks → (t - last-cut cuts₀) * length masks + x < e → improves-at (problem locations legs latest depot) (pattern-rows (length cuts₀) orders masks) r cuts₀ t x ≡ false) →
+      e ≤ left → (g ≡ true → (e < left) × GainAt (problem locations legs latest depot) (pattern-rows (length cuts₀) orders masks) r cuts₀ e spare) →
+      (w ≡ true → (e ≡ (length r + 1 - last-cut cuts₀) * length masks) × (cuts′ ≡ first-cuts cuts₀ ++ (length r ∷ []))) →
+      (g ≡ false → w ≡ false → (e ≡ left) × (left < (length r + 1 - last-cut cuts₀) * length masks)) → Padded table → length spare ≡ 512 →
+      Stretched (problem locations legs latest depot) (pattern-rows (length cuts₀) orders masks) r cuts₀ left (record { examined = e; gains = g; through = w }) cuts′ table spare
+  answered idle allowed gain over spent padded places =
+      record {
+        idle = λ t x h l i n. idle t x h (rw as-many at i) (rw as-many at n);
+        allowed = allowed;
+        gain = gain;
+        over = λ e. rw as-many (over e);
+        spent = λ a b. rw as-many (spent a b);
+        padded = padded;
+        places = places;
+      }
+
+  -- ---- the start
+
+  pub keepable : Keepable locations legs depot r forwards backwards cuts₀ rows (length masks) (replicate 8 0) (replicate 8 0) (replicate 8 0) (replicate 21 0)
+  keepable =
+      let g = given .gainable in
+      record {
+        cut = cut-of cuts₀ (g .searchable .cut-set);
+        rows-fit = record { places = g .state-rows .places; few = g .searchable .rows .few; known = g .state-rows .small };
+        places = record { ends = record { entry-places = refl; exit-places = refl; inside-places = refl }; low-places = refl; low-small = λ c. rw (zero-at 21 c) (omega arith) };
+        first = given .first;
+      }
+
+  pub starts : (left : ℕ) → Going locations legs latest depot orders masks r cuts₀ left cuts₀ table₀ spare₀ (replicate 9 0) 0
+  starts left =
+      let z : last-cut cuts₀ - last-cut cuts₀ ≡ 0 = omega arith in
+      record {
+        cut-set = given .gainable .searchable .cut-set;
+        many = refl;
+        first = refl;
+        from = omega arith;
+        count = sym (ap (λ n. n * length masks) z ∙ zero-mul (length masks));
+        within = omega arith;
+        idle = λ t x h l i. absurd (omega arith);
+        padded = given .gainable .padded;
+        places = given .gainable .places;
+        held = record { places = refl; held = inl refl };
+        behind = rw (zero-at 9 8) (omega arith);
+      }
+
+  -- ---- the last cut at hand
+
+  module _ {left : ℕ} {cuts table spare dues : List ℕ} {examined : ℕ} (going : Going locations legs latest depot orders masks r cuts₀ left cuts table spare dues examined) where
+    stored : (v : ℕ) → set cuts (length cuts₀ - 1) v ≡ first-cuts cuts₀ ++ (v ∷ [])
+    stored v =
+        ap (λ n. set cuts (n - 1) v) (sym (going .many))
+        ∙ last-stored cuts v (omega (arith, going .many, two))
+        ∙ ap (λ l. l ++ (v ∷ [])) (going .first)
+
+    pub last-read : getD cuts (length cuts₀ - 1) 0 ≡ last-cut cuts
+    last-read = ap (λ n. getD cuts (n - 1) 0) (sym (going .many))
+
+    pub last-within : length cuts₀ - 1 < length cuts
+    last-within = omega (arith, going .many, two)
+
+    pub last-set : (v : ℕ) → last-cut (set cuts (length cuts₀ - 1) v) ≡ v
+    last-set v = ap last-cut (stored v) ∙ last-of-cuts (first-cuts cuts₀) v
+
+    pub last-most : last-cut cuts ≤ length r
+    last-most =
+        let s : CutSet (length (first-cuts cuts ++ (last-cut cuts ∷ []))) (length r) (first-cuts cuts ++ (last-cut cuts ∷ [])) =
+        rw (← (cuts-parted cuts (omega (arith, going .many, two)))) (going .cut-set) in
+        last-two (length r) 0 (first-cuts cuts) (last-cut cuts) (rw (going .first) some) (s .rising) .1
+
+  module _ {left : ℕ} {cuts table spare dues : List ℕ} {examined : ℕ} {entries exits inside low : List ℕ}
+      (going : Going locations legs latest depot orders masks r cuts₀ left cuts table spare dues examined)
+      (now-kept : KeptNow locations legs depot r cuts₀ rows (length masks) entries exits inside low) where
+    pub nextable : Nextable locations legs depot r forwards backwards cuts entries exits inside low (replicate 21 0)
+    nextable =
+        let k = now-kept .kept in
+        record {
+          cut = cut-of cuts (going .cut-set);
+          places = now-kept .places;
+          kept = rw (going .first) (record { entry = k .entry; exit = k .exit; within = k .within; standing = k .standing; least = λ i h. absurd (omega arith) });
+          zero-places = refl;
+          zero-is = zero-at 21;
+        }
+
+    -- ---- up to the first last cut that has room
+
+    module _ {hit : ℕ} (next : NextRoom locations legs depot r cuts entries exits inside low hit) where
+      behind-hit : last-cut cuts₀ ≤ hit
+      behind-hit = omega (arith, going .from, next .least)
+
+      no-gain : (t x : ℕ) → last-cut cuts ≤ t → t < hit → x < length masks → improves-at (problem locations legs latest depot) (pattern-rows (length cuts₀) orders masks) r cuts₀ t x ≡ false
+      no-gain t x h l i =
+          let p = pattern-row (length cuts₀) orders masks x in
+          let n : suc (length (first-cuts cuts₀)) ≡ length cuts₀ = omega (arith, first-many cuts₀, two) in
+          let f : ForK (suc (length (first-cuts cuts₀))) (p .order) (p .mask) = rw n (listed-for-k (length cuts₀) orders masks (given .gainable .searchable .rows) x _ i) in
+          let w : row rows x ≡ states (suc (length (first-cuts cuts₀))) (p .order) (p .mask) = rw n (given .gainable .state-rows .each x i) in
+          let q = rw (going .first) at (next .idle t h l) in
+          ap (λ b. feasible (problem locations legs latest depot) (reconnected (move-at (pattern-rows (length cuts₀) orders masks) (first-cuts cuts₀ ++ (t ∷ [])) x) r) && b)
+          (q rows (length masks) (now-kept .kept) latest (p .order) (p .mask) x i f w)
+          ∙ and-false (feasible (problem locations legs latest depot) (reconnected (move-at (pattern-rows (length cuts₀) orders masks) (first-cuts cuts₀ ++ (t ∷ [])) x) r))
+
+      passed : (t x : ℕ) → last-cut cuts₀ ≤ t → t < hit → x < length masks → improves-at (problem locations legs latest depot) (pattern-rows (length cuts₀) orders masks) r cuts₀ t x ≡ false
+      passed t x h l i = by (decLt t (last-cut cuts))
+        where
+          by : Dec (t < last-cut cuts) → improves-at (problem locations legs latest depot) (pattern-rows (length cuts₀) orders masks) r cuts₀ t x ≡ false
+          by (yes p) = going .idle t x h p i
+          by (no p) = no-gain t x (omega arith) l i
+
+      pub few-sets : (hit - last-cut cuts ≤ 513) × (length masks ≤ 383)
+      few-sets = (omega (arith, next .most, given .gainable .searchable .cut-set .short), given .gainable .searchable .rows .few)
+
+      module _ {over : ℕ} (over-is : over ≡ (hit - last-cut cuts) * length masks) where
+        reaches : examined + over ≡ (hit - last-cut cuts₀) * length masks
+        reaches = ap (λ n. examined + n) over-is ∙ ap (λ n. n + (hit - last-cut cuts) * length masks) (going .count) ∙ count-to (last-cut cuts₀) (last-cut cuts) hit (length masks) (going .from) (next .least)
+
+        idle-below : (t x : ℕ) → last-cut cuts₀ ≤ t → x < length masks → (t - last-cut cuts₀) * length masks + x < examined + over →
+            improves-at (problem locations legs latest depot) (pattern-rows (length cuts₀) orders masks) r cuts₀ t x ≡ false
+        idle-below t x h i n =
+            up-to (last-cut cuts₀) hit (length masks) 0 behind-hit (omega arith) (improves-at (problem locations legs latest depot) (pattern-rows (length cuts₀) orders masks) r cuts₀) passed
+            (λ y l. absurd (omega arith)) t x h i (omega (arith, n, reaches))
+
+        -- The allowance ends among them.
+        pub spent-over : left - examined < over →
+            Stretched (problem locations legs latest depot) (pattern-rows (length cuts₀) orders masks) r cuts₀ left (record { examined = left; gains = false; through = false }) cuts table spare
+        spent-over b =
+            answered
+            (λ t x h i n. idle-below t x h i (omega (arith, n, b, going .within)))
+            (omega arith)
+            (λ e. absurd (true≢false (sym e)))
+            (λ e. absurd (true≢false (sym e)))
+            (λ _ _. (refl, omega (arith, b, reaches, count-least (last-cut cuts₀) hit (length r + 1) (length masks) (next .most))))
+            (going .padded)
+            (going .places)
+
+        module _ (room : over ≤ left - examined) where
+          -- No last cut is left.
+          pub through-over : length r < hit →
+              Stretched (problem locations legs latest depot) (pattern-rows (length cuts₀) orders masks) r cuts₀ left (record { examined = examined + over; gains = false; through = true })
+              (set cuts (length cuts₀ - 1) (length r)) table spare
+          through-over b =
+              let e : hit ≡ length r + 1 = omega (arith, next .most) in
+              answered
+              (λ t x h i n. idle-below t x h i n)
+              (omega (arith, room, going .within))
+              (λ e. absurd (true≢false (sym e)))
+              (λ _. (reaches ∙ ap (λ n. (n - last-cut cuts₀) * length masks) e, stored going (length r)))
+              (λ _ e. absurd (true≢false e))
+              (going .padded)
+              (going .places)
+
+          -- At a last cut that has room.
+          pub at-hit : hit ≤ length r → Going locations legs latest depot orders masks r cuts₀ left (set cuts (length cuts₀ - 1) hit) table spare dues (examined + over)
+          at-hit l =
+              let f = first-of-cuts (first-cuts cuts₀) hit in
+              let e = last-of-cuts (first-cuts cuts₀) hit in
+              rw (stored going hit)
+              (record {
+                cut-set = at-cut hit behind-hit l;
+                many = long hit;
+                first = f;
+                from = rw e behind-hit;
+                count = reaches ∙ ap (λ c. (c - last-cut cuts₀) * length masks) (sym e);
+                within = omega (arith, room, going .within);
+                idle = λ t x h b i. passed t x h (rw e at b) i;
+                padded = going .padded;
+                places = going .places;
+                held = going .held;
+                behind = rw e (omega (arith, going .behind, next .least));
+              })
+
+  -- ---- at a last cut that has room
+
+  module _ {left : ℕ} {cuts table spare dues : List ℕ} {examined : ℕ} (going : Going locations legs latest depot orders masks r cuts₀ left cuts table spare dues examined) where
+    cuts-are : cuts ≡ first-cuts cuts₀ ++ (last-cut cuts ∷ [])
+    cuts-are = cuts-parted cuts (omega (arith, going .many, two)) ∙ ap (λ l. l ++ (last-cut cuts ∷ [])) (going .first)
+
+    pub findable : {limit : ℕ} → limit ≡ min (length masks) (left - examined) → Findable locations legs latest depot r forwards backwards cuts orders masks rows kept table spare dues limit
+    findable e =
+        let g = given .gainable in
+        record {
+          gainable = record {
+            searchable = record {
+              timed = g .searchable .timed;
+              forwards = g .searchable .forwards;
+              backwards = g .searchable .backwards;
+              cut-set = going .cut-set;
+              rows = rw (going .many) (g .searchable .rows);
+              allowed = omega arith;
+            };
+            state-rows = rw (going .many) (g .state-rows);
+            padded = going .padded;
+            places = going .places;
+          };
+          in-time = given .in-time;
+          held = rw (going .first) (going .held);
+          behind = going .behind;
+        }
+
+    module _ {limit i : ℕ} {table′ spare′ dues′ : List ℕ} (limit-is : limit ≡ min (length masks) (left - examined))
+        (found : Found locations legs latest depot r cuts orders masks limit i table′ spare′ dues′) where
+      few : i ≤ limit
+      few = found .gained .first .within
+
+      here : (x : ℕ) → x < i → improves-at (problem locations legs latest depot) (pattern-rows (length cuts₀) orders masks) r cuts₀ (last-cut cuts) x ≡ false
+      here x h = rw (going .many, cuts-are) at (found .gained .first .passed x h)
+
+      idle-now : (t x : ℕ) → last-cut cuts₀ ≤ t → x < length masks → (t - last-cut cuts₀) * length masks + x < examined + i →
+          improves-at (problem locations legs latest depot) (pattern-rows (length cuts₀) orders masks) r cuts₀ t x ≡ false
+      idle-now t x h l n =
+          up-to (last-cut cuts₀) (last-cut cuts) (length masks) i (going .from) (omega (arith, few)) (improves-at (problem locations legs latest depot) (pattern-rows (length cuts₀) orders masks) r cuts₀)
+          (going .idle) here t x h l (omega (arith, n, going .count))
+
+      pub room-left : examined + i ≤ left
+      room-left = omega (arith, few, going .within)
+
+      pub gains : i < limit →
+          Stretched (problem locations legs latest depot) (pattern-rows (length cuts₀) orders masks) r cuts₀ left (record { examined = examined + i; gains = true; through = false }) cuts table′ spare′
+      gains h =
+          answered idle-now room-left
+          (λ _. (omega arith, record {
+            last = last-cut cuts;
+            pattern = i;
+            least = going .from;
+            most = last-most going;
+            listed = rw as-many (omega arith);
+            is = rw as-many (ap (λ n. n + i) (going .count));
+            improves = rw (going .many, cuts-are) at (found .gained .first .gains h);
+            built = rw (going .many, cuts-are) at (found .gained .built h);
+          }))
+          (λ e. absurd (true≢false (sym e)))
+          (λ e. absurd (true≢false e))
+          (found .gained .padded)
+          (found .gained .places)
+
+      module _ (all : limit ≤ i) where
+        reached : i ≡ limit
+        reached = omega (arith, few)
+
+        -- The allowance ends on this cut set.
+        pub spent-here : limit < length masks →
+            Stretched (problem locations legs latest depot) (pattern-rows (length cuts₀) orders masks) r cuts₀ left (record { examined = examined + i; gains = false; through = false }) cuts table′ spare′
+        spent-here h =
+            answered idle-now room-left
+            (λ e. absurd (true≢false (sym e)))
+            (λ e. absurd (true≢false (sym e)))
+            (λ _ _. (omega (arith, reached, going .within),
+              omega (arith, going .within, going .count, count-next (last-cut cuts₀) (last-cut cuts) (length masks) (going .from), count-least (last-cut cuts₀) (last-cut cuts + 1) (length r + 1) (length masks) (omega (arith, last-most going)))))
+            (found .gained .padded)
+            (found .gained .places)
+
+        module _ (whole : length masks ≤ limit) {v : ℕ} (is-last : last-cut cuts ≡ v) where
+          counted : examined + i ≡ (last-cut cuts + 1 - last-cut cuts₀) * length masks
+          counted = omega (arith, reached, going .count, count-next (last-cut cuts₀) (last-cut cuts) (length masks) (going .from))
+
+          -- It was the last one.
+          pub ends : v ≡ length r →
+              Stretched (problem locations legs latest depot) (pattern-rows (length cuts₀) orders masks) r cuts₀ left (record { examined = examined + i; gains = false; through = true }) cuts table′ spare′
+          ends e =
+              answered idle-now room-left
+              (λ e. absurd (true≢false (sym e)))
+              (λ _. (counted ∙ ap (λ c. (c + 1 - last-cut cuts₀) * length masks) (is-last ∙ e), cuts-are ∙ ap (λ c. first-cuts cuts₀ ++ (c ∷ [])) (is-last ∙ e)))
+              (λ _ e. absurd (true≢false e))
+              (found .gained .padded)
+              (found .gained .places)
+
+          pub goes-on : (v ≡ length r → ⊥) → Going locations legs latest depot orders masks r cuts₀ left (set cuts (length cuts₀ - 1) (v + 1)) table′ spare′ dues′ (examined + i)
+          goes-on n =
+              let f = first-of-cuts (first-cuts cuts₀) (v + 1) in
+              let e = last-of-cuts (first-cuts cuts₀) (v + 1) in
+              rw (stored going (v + 1))
+              (record {
+                cut-set = at-cut (v + 1) (omega (arith, going .from, is-last)) (omega (arith, last-most going, is-last, n));
+                many = long (v + 1);
+                first = f;
+                from = rw e (omega (arith, going .from, is-last));
+                count = counted ∙ ap (λ c. (c + 1 - last-cut cuts₀) * length masks) is-last ∙ ap (λ c. (c - last-cut cuts₀) * length masks) (sym e);
+                within = room-left;
+                idle = λ t x h b i. by t x h (omega (arith, rw e at b, is-last)) i (decLt t (last-cut cuts));
+                padded = found .gained .padded;
+                places = found .gained .places;
+                held = rw (going .first) at (found .held);
+                behind = rw e (omega (arith, found .behind, is-last));
+              })
+            where
+              by : (t x : ℕ) → last-cut cuts₀ ≤ t → t < last-cut cuts + 1 → x < length masks → Dec (t < last-cut cuts) →
+                  improves-at (problem locations legs latest depot) (pattern-rows (length cuts₀) orders masks) r cuts₀ t x ≡ false
+              by t x h b y (yes l) = going .idle t x h l y
+              by t x h b y (no l) = let q : t ≡ last-cut cuts = omega arith in rw q (here x (omega (arith, reached)))

@@ -1,0 +1,54 @@
+-- A stretch of the scan: the cut sets with the same first cuts, from the first of them on. Its candidates are numbered in the scan's order, pattern by pattern.
+use mathlib.Core.Path.{_≡_}
+use mathlib.Core.Bool.{Bool, true, false}
+use mathlib.Core.List.{List, [], _∷_, _++_}
+use Prim.Native.Nat.{ℕ, _+_, _-_, _*_, _≤_, _<_}
+use lib.ListN.{length, take}
+use Rattle.theory.specs.Moves.{Pattern, Move}
+use Rattle.theory.specs.Scan.{improves}
+use Rattle.theory.specs.Route.{Problem, reconnected, feasible}
+use Rattle.theory.specs.Polish.{search-of, move-at}
+use Rattle.theory.specs.Tables.{problem}
+use Rattle.joints.specs.JointTable.{Padded}
+use Rattle.shared.specs.Kept.{Opened, first-cuts, last-cut}
+use Rattle.search.specs.Gain.{Gainable}
+use Rattle.stretches.specs.declared.Stretch.{Stretch}
+
+-- What a stretch is scanned from: its first cut set, and what the inner step reads; where `kept` is set, a route that keeps every deadline.
+pub record Stretchable (locations : ℕ) (legs latest : List ℕ) (depot : ℕ) (orders masks rows route forward-sums backward-sums : List ℕ) (kept : Bool) (cuts table spare : List ℕ) : Type 0 where
+  pub gainable : Gainable locations legs latest depot route forward-sums backward-sums cuts orders masks rows table spare 0
+  pub first : Opened cuts
+  pub in-time : kept ≡ true → feasible (problem locations legs latest depot) route ≡ true
+
+-- Whether pattern x at the last cut t, behind the first cuts, improves the route.
+abbrev pub improves-at : Problem → List Pattern → List ℕ → List ℕ → ℕ → ℕ → Bool
+improves-at P ps route cuts t x = improves (search-of P ps (length cuts) (length route)) route (move-at ps (first-cuts cuts ++ (t ∷ [])) x)
+
+-- The number of that candidate in the stretch.
+abbrev pub number : List Pattern → List ℕ → ℕ → ℕ → ℕ
+number ps cuts t x = (t - last-cut cuts) * length ps + x
+
+-- How many candidates the stretch has.
+abbrev pub candidates : List Pattern → List ℕ → List ℕ → ℕ
+candidates ps route cuts = (length route + 1 - last-cut cuts) * length ps
+
+-- The improving candidate of a number, built in the first places of `spare`.
+pub record GainAt (P : Problem) (ps : List Pattern) (route cuts : List ℕ) (examined : ℕ) (spare : List ℕ) : Type 0 where
+  pub last : ℕ
+  pub pattern : ℕ
+  pub least : last-cut cuts ≤ last
+  pub most : last ≤ length route
+  pub listed : pattern < length ps
+  pub is : examined ≡ number ps cuts last pattern
+  pub improves : improves-at P ps route cuts last pattern ≡ true
+  pub built : take (length route) spare ≡ reconnected (move-at ps (first-cuts cuts ++ (last ∷ [])) pattern) route
+
+-- The candidates examined do not improve the route. Then one does and is allowed; or the stretch is over, its last cut set at hand; or no more are allowed.
+pub record Stretched (P : Problem) (ps : List Pattern) (route cuts : List ℕ) (left : ℕ) (answer : Stretch) (cuts′ table spare : List ℕ) : Type 0 where
+  pub idle : (t x : ℕ) → last-cut cuts ≤ t → t ≤ length route → x < length ps → number ps cuts t x < answer .examined → improves-at P ps route cuts t x ≡ false
+  pub allowed : answer .examined ≤ left
+  pub gain : answer .gains ≡ true → (answer .examined < left) × GainAt P ps route cuts (answer .examined) spare
+  pub over : answer .through ≡ true → (answer .examined ≡ candidates ps route cuts) × (cuts′ ≡ first-cuts cuts ++ (length route ∷ []))
+  pub spent : answer .gains ≡ false → answer .through ≡ false → (answer .examined ≡ left) × (left < candidates ps route cuts)
+  pub padded : Padded table
+  pub places : length spare ≡ 512

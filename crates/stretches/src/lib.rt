@@ -1,0 +1,153 @@
+// A stretch of the scan: the cut sets with the same first cuts, in their order. Those that leave no room for a gain are passed over and counted. No entry: crate scanning calls it.
+ghost use mathlib.Core.Path.{_≡_};
+ghost use Prim.Native.Nat.{min, _*_, _≤_};
+ghost use lib.ListN.{length};
+ghost use Rattle.theory.specs.Tables.{problem, pattern-rows};
+ghost use Rattle.stretches.specs.Stretch.{Stretchable, Stretched};
+
+// How a stretch ended: at an improving candidate, or through it, or else with the candidates allowed. Those before were examined.
+pub struct Stretch {
+    pub examined: u64,
+    pub gains: bool,
+    pub through: bool,
+}
+
+// The patterns of a cut set that are still allowed.
+fn still_allowed(patterns: usize, left: u64) -> usize
+    ensures { λ r. ⌜ r ≡ min patterns left ⌝ }
+{
+    if (patterns as u64) < left {
+        return patterns;
+    }
+    left as usize
+}
+
+// How many patterns the cut sets passed over have.
+fn passed_patterns(sets: usize, patterns: usize) -> u64
+    requires { ⌜ (sets ≤ 513) × (patterns ≤ 383) ⌝ }
+    ensures { λ r. ⌜ r ≡ sets * patterns ⌝ }
+{
+    (sets * patterns) as u64
+}
+
+// From the first cut set with its first cuts on, the first of the `left` candidates still allowed that improves the route; its candidate is in `spare`.
+pub fn scan_stretch(
+    locations: usize,
+    legs: &[u32],
+    latest: &[u32],
+    depot: u32,
+    orders: &[u8],
+    masks: &[u8],
+    rows: &[u8; 1532],
+    route: &[u32],
+    forward: &[u64; 512],
+    backward: &[u64; 512],
+    kept: bool,
+    cuts: &mut [usize],
+    joint: &mut [u64; 160],
+    spare: &mut [u32; 512],
+    left: u64,
+) -> Stretch
+    requires { ⌜ Stretchable locations (now legs) (now latest) depot (now orders) (now masks) (now rows) (now route) (now forward) (now backward) kept (now cuts) (now joint) (now spare) ⌝ }
+    ensures { λ r. ⌜ Stretched (problem locations (now (legs .entry)) (now (latest .entry)) depot) (pattern-rows (length (now (cuts .entry))) (now (orders .entry)) (now (masks .entry))) (now (route .entry)) (now (cuts .entry)) left r (now (cuts .exit)) (now (joint .exit)) (now (spare .exit)) ⌝ }
+{
+    let mut entries = [0u32; 8];
+    let mut exits = [0u32; 8];
+    let mut inside = [0u64; 8];
+    let mut low = [0u64; 21];
+    let mut dues = [0u64; 9];
+    let zero = [0u64; 21];
+    shared::fill_kept(
+        locations,
+        legs,
+        depot,
+        route,
+        forward,
+        backward,
+        &cuts[..],
+        rows,
+        masks.len(),
+        &mut entries,
+        &mut exits,
+        &mut inside,
+        &mut low,
+    );
+    let last = cuts.len() - 1;
+    let mut examined = 0u64;
+    loop {
+        let hit = room::next_room(
+            locations,
+            legs,
+            depot,
+            route,
+            forward,
+            backward,
+            &cuts[..],
+            &entries,
+            &exits,
+            &inside,
+            &low,
+            &zero,
+        );
+        let over = passed_patterns(hit - cuts[last], masks.len());
+        if left - examined < over {
+            return Stretch {
+                examined: left,
+                gains: false,
+                through: false,
+            };
+        }
+        examined += over;
+        if route.len() < hit {
+            cuts[last] = route.len();
+            return Stretch {
+                examined,
+                gains: false,
+                through: true,
+            };
+        }
+        cuts[last] = hit;
+        let limit = still_allowed(masks.len(), left - examined);
+        let found = search::first_gain(
+            locations,
+            legs,
+            latest,
+            depot,
+            route,
+            forward,
+            backward,
+            &cuts[..],
+            orders,
+            masks,
+            rows,
+            kept,
+            joint,
+            spare,
+            &mut dues,
+            limit,
+        );
+        examined += found as u64;
+        if found < limit {
+            return Stretch {
+                examined,
+                gains: true,
+                through: false,
+            };
+        }
+        if limit < masks.len() {
+            return Stretch {
+                examined,
+                gains: false,
+                through: false,
+            };
+        }
+        if hit == route.len() {
+            return Stretch {
+                examined,
+                gains: false,
+                through: true,
+            };
+        }
+        cuts[last] = hit + 1;
+    }
+}
