@@ -88,9 +88,6 @@ stuck-fresh n (a ∷ pre) c cs h e = step (next-cuts n (pre ++ (c ∷ []))) (λ 
         let t = f cs₁ w in
         (a ∷ t .0, omega arith, sym (some-same _ _ q) ∙ ap (λ l. a ∷ l) (t .2) ∙ opened-cons a (t .0) (t .1))
 
-pub next-shape : (n : ℕ) (pre : List ℕ) (c : ℕ) (cs : List ℕ) → 1 ≤ length pre → next-cuts n (pre ++ (c ∷ [])) ≡ some cs → Opened cs ⊎ (first-cuts cs ≡ pre)
-next-shape n pre c cs h e = by (decLt n (suc c))
-  where
-    by : Dec (n < suc c) → Opened cs ⊎ (first-cuts cs ≡ pre)
-    by (yes l) = let t = stuck-fresh n pre c cs l e in inl (rw (t .2) (opened-so (t .0) (t .1)))
-    by (no l) = inr (ap first-cuts (some-same _ _ (sym e ∙ next-last n pre c (omega arith))) ∙ first-of-cuts pre (suc c))
+-- Where the last cut can move no more, the next cut set is the first with its first cuts.
+pub next-opened : (n : ℕ) (pre : List ℕ) (c : ℕ) (cs : List ℕ) → n < suc c → next-cuts n (pre ++ (c ∷ [])) ≡ some cs → Opened cs
+next-opened n pre c cs l e = let t = stuck-fresh n pre c cs l e in rw (t .2) (opened-so (t .0) (t .1))

@@ -7,8 +7,7 @@ use Rattle.theory.specs.Moves.{Pattern}
 use Rattle.theory.specs.Route.{Problem}
 use Rattle.theory.specs.Costs.{forward, backward}
 use Rattle.theory.specs.Polish.{polish-with}
-use Rattle.theory.specs.Tables.{LegTable, Stops, Timed, CutSet, PatternRows}
-use Rattle.shared.specs.Kept.{last-cut}
+use Rattle.theory.specs.Tables.{LegTable, Stops, Timed, PatternRows}
 use Rattle.costs.specs.RouteCosts.{leg, Sums}
 use Rattle.joints.specs.States.{StateRows}
 use Rattle.scanning.specs.declared.Scanned.{Scanned}
@@ -26,12 +25,6 @@ pub record Taken (locations : ℕ) (legs spare route route′ forward-sums backw
   pub route-is : route′ ≡ take (length route) spare
   pub forwards : Sums route′ (forward (leg locations legs) route′) forward-sums
   pub backwards : Sums route′ (backward (leg locations legs) route′) backward-sums
-
--- Cuts of a route of n stops, and a later last cut before `hit`, the first cuts being the same.
-pub record Overstepped (n : ℕ) (cuts : List ℕ) (hit : ℕ) : Type 0 where
-  pub cut-set : CutSet (length cuts) n cuts
-  pub least : last-cut cuts < hit
-  pub most : hit ≤ n + 1
 
 -- A route that has a cut set of k cuts, and rows of patterns.
 pub record Scannable (k locations : ℕ) (legs latest : List ℕ) (depot : ℕ) (orders masks rows route : List ℕ) : Type 0 where

@@ -1,45 +1,12 @@
-// The scan of document 01 in steps of one cut set, with those passed over that leave no room for a gain. No entry: crate polishing calls it.
-ghost use mathlib.Core.Path.{_≡_};
-ghost use mathlib.Core.List.{[], _∷_, _++_};
-ghost use Prim.Native.Nat.{min, _-_, _*_, _≤_};
+// The scan of document 01, stretch by stretch: the cut sets with the same first cuts are one. No entry: crate polishing calls it.
 ghost use Rattle.theory.specs.Tables.{problem, pattern-rows};
-ghost use Rattle.cuts.specs.Step.{Stepped};
-ghost use Rattle.shared.specs.Kept.{first-cuts};
-ghost use Rattle.scanning.specs.Loop.{Overstepped, Built, Taken, Scannable, Scans};
+ghost use Rattle.scanning.specs.Loop.{Built, Taken, Scannable, Scans};
 
 // What the scan counted when it ended.
 pub struct Scanned {
     pub finished: bool,
     pub examined: u64,
     pub accepted: u64,
-}
-
-// The patterns of a cut set that are still allowed.
-fn still_allowed(patterns: usize, left: u64) -> usize
-    ensures { λ r. ⌜ r ≡ min patterns left ⌝ }
-{
-    if (patterns as u64) < left {
-        return patterns;
-    }
-    left as usize
-}
-
-// How many patterns the cut sets passed over have.
-fn passed_patterns(sets: usize, patterns: usize) -> u64
-    requires { ⌜ (sets ≤ 513) × (patterns ≤ 383) ⌝ }
-    ensures { λ r. ⌜ r ≡ sets * patterns ⌝ }
-{
-    (sets * patterns) as u64
-}
-
-// The cut set after the one whose last cut lies before `hit`, the first cuts being the same; after the last set it answers no.
-fn step_over(cuts: &mut [usize], hit: usize, n: usize) -> bool
-    requires { ⌜ Overstepped n (now cuts) hit ⌝ }
-    ensures { λ r. ⌜ Stepped n (first-cuts (now (cuts .entry)) ++ ((hit - 1) ∷ [])) r (now (cuts .exit)) ⌝ }
-{
-    let k = cuts.len();
-    cuts[k - 1] = hit - 1;
-    cuts::next_cut_set(cuts, n)
 }
 
 // The accepted candidate as the route, with its sums: the old ones say nothing of it.
@@ -60,7 +27,7 @@ fn take_gain(
     costs::backward_sums(locations, legs, &route[..], backward);
 }
 
-// The scan, cut set by cut set: the first improving pattern is taken and the scan begins again, or the patterns allowed are passed.
+// The scan: the first improving candidate of a stretch is taken and the scan begins again, or the stretch is passed.
 pub fn scan_cut_sets(
     k: usize,
     allowance: u64,
@@ -80,76 +47,39 @@ pub fn scan_cut_sets(
     let mut backward = [0u64; 512];
     let mut joint = [0u64; 160];
     let mut spare = [0u32; 512];
-    let mut entries = [0u32; 8];
-    let mut exits = [0u32; 8];
-    let mut inside = [0u64; 8];
-    let mut low = [0u64; 21];
     costs::forward_sums(locations, legs, &route[..], &mut forward);
     costs::backward_sums(locations, legs, &route[..], &mut backward);
+    let mut kept = deadlines::is_feasible(locations, legs, latest, depot, &route[..]);
     let mut cut = [0usize, 1, 2, 3, 4];
     let mut examined = 0u64;
     let mut accepted = 0u64;
     loop {
-        let hit = room::pass_over(
-            locations,
-            legs,
-            depot,
-            &route[..],
-            &forward,
-            &backward,
-            &cut[..k],
-            rows,
-            masks.len(),
-            &mut entries,
-            &mut exits,
-            &mut inside,
-            &mut low,
-        );
-        let last = cut[k - 1];
-        if last < hit {
-            let over = passed_patterns(hit - last, masks.len());
-            if allowance - examined < over {
-                return Scanned {
-                    finished: false,
-                    examined: allowance,
-                    accepted,
-                };
-            }
-            examined += over;
-            if !step_over(&mut cut[..k], hit, route.len()) {
-                return Scanned {
-                    finished: true,
-                    examined,
-                    accepted,
-                };
-            }
-            continue;
-        }
-        let limit = still_allowed(masks.len(), allowance - examined);
-        let found = search::first_gain(
+        let stretch = stretches::scan_stretch(
             locations,
             legs,
             latest,
             depot,
-            &route[..],
-            &forward,
-            &backward,
-            &cut[..k],
             orders,
             masks,
             rows,
+            &route[..],
+            &forward,
+            &backward,
+            kept,
+            &mut cut[..k],
             &mut joint,
             &mut spare,
-            limit,
+            allowance - examined,
         );
-        if found < limit {
+        examined += stretch.examined;
+        if stretch.gains {
             take_gain(locations, legs, &spare, route, &mut forward, &mut backward);
+            kept = true;
             cut = [0, 1, 2, 3, 4];
-            examined += found as u64 + 1;
+            examined += 1;
             accepted += 1;
         } else {
-            examined += limit as u64;
-            if limit < masks.len() {
+            if !stretch.through {
                 return Scanned {
                     finished: false,
                     examined,

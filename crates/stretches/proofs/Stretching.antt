@@ -331,16 +331,19 @@ module _ {locations : ℕ} {legs latest : List ℕ} {depot : ℕ} {orders masks 
           Stretched (problem locations legs latest depot) (pattern-rows (length cuts₀) orders masks) r cuts₀ left (record { examined = examined + i; gains = true; through = false }) cuts table′ spare′
       gains h =
           answered idle-now room-left
-          (λ _. (omega arith, record {
-            last = last-cut cuts;
-            pattern = i;
-            least = going .from;
-            most = last-most going;
-            listed = rw as-many (omega arith);
-            is = rw as-many (ap (λ n. n + i) (going .count));
-            improves = rw (going .many, cuts-are) at (found .gained .first .gains h);
-            built = rw (going .many, cuts-are) at (found .gained .built h);
-          }))
+          (λ _. (
+            omega arith,
+            record {
+              last = last-cut cuts;
+              pattern = i;
+              least = going .from;
+              most = last-most going;
+              listed = rw as-many (omega arith);
+              is = rw as-many (ap (λ n. n + i) (going .count));
+              improves = rw (going .many, cuts-are) at (found .gained .first .gains h);
+              built = rw (going .many, cuts-are) at (found .gained .built h);
+            },
+          ))
           (λ e. absurd (true≢false (sym e)))
           (λ e. absurd (true≢false e))
           (found .gained .padded)
@@ -357,8 +360,10 @@ module _ {locations : ℕ} {legs latest : List ℕ} {depot : ℕ} {orders masks 
             answered idle-now room-left
             (λ e. absurd (true≢false (sym e)))
             (λ e. absurd (true≢false (sym e)))
-            (λ _ _. (omega (arith, reached, going .within),
-              omega (arith, going .within, going .count, count-next (last-cut cuts₀) (last-cut cuts) (length masks) (going .from), count-least (last-cut cuts₀) (last-cut cuts + 1) (length r + 1) (length masks) (omega (arith, last-most going)))))
+            (λ _ _. (
+              omega (arith, reached, going .within),
+              omega (arith, going .within, going .count, count-next (last-cut cuts₀) (last-cut cuts) (length masks) (going .from), count-least (last-cut cuts₀) (last-cut cuts + 1) (length r + 1) (length masks) (omega (arith, last-most going))),
+            ))
             (found .gained .padded)
             (found .gained .places)
 
