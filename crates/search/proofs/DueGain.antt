@@ -24,9 +24,9 @@ use Rattle.joints.specs.JointTable.{chain, JointOf}
 use Rattle.joints.proofs.Chain.{shorter}
 use Rattle.dues.specs.Due.{in-time, DuesOf}
 use Rattle.dues.proofs.InTime.{row-kept, row-known, path-in}
-use Rattle.search.specs.Parts.{head, middle, HeadTimed, HeadClock}
-use Rattle.search.specs.Gain.{gains, due-gain, Gainable, Tabled, FirstGain, DueRows, FirstDue}
-use Rattle.search.proofs.Parts.{head-lent}
+use Rattle.walking.specs.Parts.{head, middle}
+use Rattle.search.specs.Gain.{gains, due-gain, Gainable, Tabled, FirstGain, DueRows, FirstDue, HeadTimed, HeadClock}
+use Rattle.walking.proofs.Parts.{head-lent}
 use Rattle.search.proofs.MiddleOnly.{middle-only}
 
 and-true : (b : Bool) → (b && true) ≡ b

@@ -19,11 +19,11 @@ use Rattle.joints.specs.JointTable.{chain}
 use Rattle.joints.proofs.Chain.{shorter}
 use Rattle.deadlines.specs.declared.Walked.{Walked}
 use Rattle.deadlines.specs.Walk.{WalkedPart}
-use Rattle.search.specs.Candidate.{candidate, Candidate}
-use Rattle.search.specs.Parts.{head, after-head, WalkFrom, CandidateWalk}
+use Rattle.search.specs.Candidate.{candidate}
+use Rattle.walking.specs.Parts.{head, after-head, WalkFrom, Candidate, CandidateWalk}
 use Rattle.search.specs.Gain.{gains, Chains, NextShorter, Tabled, FirstGain}
-use Rattle.search.proofs.Candidate.{for-k}
-use Rattle.search.proofs.Parts.{behind-head, head-late}
+use Rattle.walking.proofs.Candidate.{for-k}
+use Rattle.walking.proofs.Parts.{behind-head, head-late}
 
 and-false : (b : Bool) → (b && false) ≡ false
 and-false true = refl

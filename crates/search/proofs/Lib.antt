@@ -1,5 +1,4 @@
 pub mod Candidate
-pub mod Parts
 pub mod Gain
 pub mod MiddleOnly
 pub mod DueGain

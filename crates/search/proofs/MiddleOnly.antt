@@ -18,8 +18,8 @@ use Rattle.theory.proofs.Costs.{path-append}
 use Rattle.theory.proofs.Delta.{changes-nothing}
 use Rattle.theory.proofs.Route.{flatten-segments, length-segments}
 use Rattle.deadlines.proofs.Walking.{on-time-append}
-use Rattle.search.specs.Parts.{head, middle, tail, after-head}
-use Rattle.search.proofs.Parts.{candidate-parts}
+use Rattle.walking.specs.Parts.{head, middle, tail, after-head}
+use Rattle.walking.proofs.Parts.{candidate-parts}
 
 -- ---- sooner is on time
 

@@ -1,18 +1,15 @@
 -- A candidate part by part, as its deadlines are walked: the head, the middle segments as the pattern places them, the tail.
 use mathlib.Core.Path.{_≡_}
-use mathlib.Core.Bool.{Bool}
 use mathlib.Core.List.{List, [], _++_, flatten}
 use Prim.Native.Nat.{ℕ, _*_, _≤_, _<_}
 use lib.ListN.{length, getD}
 use lib.Seq.{slice}
 use Rattle.theory.specs.Moves.{Pattern}
-use Rattle.theory.specs.Route.{Problem, path, segments, placed}
-use Rattle.theory.specs.Costs.{forward}
-use Rattle.theory.specs.Tables.{LegTable, Stops, Measurable, CutSet}
-use Rattle.costs.specs.RouteCosts.{Middle, Sums, leg}
+use Rattle.theory.specs.Route.{Problem, segments, placed}
+use Rattle.theory.specs.Tables.{LegTable, Stops, CutSet, PatternRows}
+use Rattle.costs.specs.RouteCosts.{Middle}
 use Rattle.deadlines.specs.Walk.{Walks}
 use Rattle.deadlines.specs.declared.Walked.{Walked}
-use Rattle.search.specs.Candidate.{Candidate}
 
 abbrev pub head : List ℕ → List ℕ → List ℕ
 head route cuts = getD (segments 0 cuts route) 0 []
@@ -53,19 +50,14 @@ pub record WalkedMiddle (locations : ℕ) (P : Problem) (from clock : ℕ) (part
   pub known : r .last < locations
   pub early : r .clock ≤ 5 * 512 * 1000000
 
+-- The cut set and the pattern that make a candidate.
+pub record Candidate (route cuts orders masks : List ℕ) (i : ℕ) : Type 0 where
+  pub cut-set : CutSet (length cuts) (length route) cuts
+  pub patterns : PatternRows (length cuts) orders masks
+  pub listed : i < length masks
+
 -- A pattern's candidate, walked from the head's end.
 pub record CandidateWalk (locations : ℕ) (legs latest route cuts orders masks : List ℕ) (i from clock : ℕ) : Type 0 where
   pub of : Candidate route cuts orders masks i
   pub walk : WalkFrom locations legs latest route cuts from clock
   pub soon : clock ≤ 512 * 1000000
-
--- A route with its forward sums, and a cut set of it.
-pub record HeadTimed (locations : ℕ) (legs : List ℕ) (depot : ℕ) (route forward-sums cuts : List ℕ) : Type 0 where
-  pub measurable : Measurable locations legs depot route
-  pub forwards : Sums route (forward (leg locations legs) route) forward-sums
-  pub cut-set : CutSet (length cuts) (length route) cuts
-
--- When the head is left.
-pub record HeadClock (locations : ℕ) (legs : List ℕ) (depot : ℕ) (route cuts : List ℕ) (clock : ℕ) : Type 0 where
-  pub is : clock ≡ path (leg locations legs) depot (head route cuts)
-  pub early : clock ≤ 513 * 1000000

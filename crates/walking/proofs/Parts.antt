@@ -19,7 +19,7 @@ use Rattle.costs.proofs.Segments.{segment-is}
 use Rattle.deadlines.specs.declared.Walked.{Walked}
 use Rattle.deadlines.specs.Walk.{Walks}
 use Rattle.deadlines.proofs.Walking.{Going, set-out, part-walked, part-late, any-depot}
-use Rattle.search.specs.Parts.{head, middle, tail, after-head}
+use Rattle.walking.specs.Parts.{head, middle, tail, after-head}
 
 -- ---- where the parts lie
 
