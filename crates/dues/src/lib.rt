@@ -200,12 +200,14 @@ pub fn reach_dues(
     ensures { λ _. ⌜ DuesReached (problem locations (now (legs .entry)) (now (latest .entry)) 0) (now (route .entry)) (now (cuts .entry)) (now (dues .exit)) ⌝ }
 {
     let last = cuts.len() - 1;
-    if dues[8] == 0 {
+    let reach = cuts[last] as u64;
+    let held = dues[8];
+    if held == 0 {
         fill_dues(locations, legs, latest, route, backward, cuts, last, dues);
     } else {
         stretch_dues(locations, legs, latest, route, backward, cuts, dues);
     }
-    dues[8] = cuts[last] as u64;
+    dues[8] = reach;
 }
 
 fn wide(x: u8) -> usize
