@@ -1,5 +1,4 @@
 -- `search::build_front` meets its contract: what stands at the front of `spare` is the candidate. Assumes nothing.
-use native.Mathlib.Omega.{arith}
 use mathlib.Core.Path.{sym}
 use borrow.Author.Needs.{needs}
 use Rattle.search.proofs.Candidate.{room, built-front}

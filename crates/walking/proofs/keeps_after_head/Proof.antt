@@ -5,7 +5,7 @@ use native.Mathlib.Omega.{arith}
 use lib.ListN.{length}
 use borrow.Author.Needs.{needs}
 use borrow.Author.Tests.{not-true, not-false}
-use Rattle.theory.proofs.Rows.{lent-row, lent-within}
+use Rattle.theory.proofs.Rows.{lent-within}
 use Rattle.walking.proofs.Candidate.{lent-middle, kept-behind, late-behind}
 use Rattle.walking.proofs.keeps_after_head.Statement.{statement}
 use Rattle.walking.proofs.keeps_after_head.Tie as tie

@@ -1,6 +1,6 @@
 -- `walking::walk_middle` meets its contract. The invariant: the segments to come decide, from the stop before and the second of the clock. Assumes nothing.
 use mathlib.Core.Path.{refl}
-use Prim.Native.Nat.{ℕ, _+_, _-_, _*_, _≤_, _<_}
+use Prim.Native.Nat.{_-_, _*_, _≤_, _<_}
 use native.Mathlib.Omega.{arith}
 use lib.ListN.{length}
 use Rattle.theory.specs.Tables.{problem}
