@@ -64,7 +64,14 @@ build-front-requires c κs =
     record { of = record { cut-set = g .searchable .cut-set; patterns = g .searchable .rows; listed = omega (arith, i, g .searchable .allowed) }; places = g .places }
 
 returns-3 : tie.Need-returns-3
-returns-3 c = search needs
+returns-3 c =
+    let f = c .before .before .before .first-improving .ensures in
+    let b = c .build-front .ensures in
+    record {
+      gained = record { first = f .first; built = λ m. b .is; padded = c .before .before .before .before .before .before .before .before .before .before .before .fill-joint .ensures .padded; places = b .places };
+      held = f .held;
+      behind = f .behind;
+    }
 
 pub first-gain-spec : {M : Type 1} → statement M
 first-gain-spec =

@@ -8,10 +8,10 @@ use Rattle.search.proofs.first_improving.Statement.{statement}
 use Rattle.search.proofs.first_improving.Tie as tie
 
 first-kept-requires : tie.Need-first-kept-requires
-first-kept-requires c κs = search needs
+first-kept-requires c κs = c .before .before .before .before .before .before .before .pre .shortened
 
 returns : tie.Need-returns
-returns c = search needs
+returns c = let s = c .before .before .before .before .before .before .before .before in record { first = c .first-kept .ensures; held = s .pre .held; behind = s .pre .behind }
 
 reach-dues-requires : tie.Need-reach-dues-requires
 reach-dues-requires c κs =
@@ -28,7 +28,10 @@ reach-dues-requires c κs =
     }
 
 head-clock-requires : tie.Need-head-clock-requires
-head-clock-requires c κs = search needs
+head-clock-requires c κs =
+    let s = c .before .before .before .before .before .before .before .before .before in
+    let t = s .pre .shortened .tabled in
+    record { measurable = t .timed .measurable; forwards = s .pre .forwards; cut-set = t .cut-set }
 
 sub-m : tie.Need-sub-m
 sub-m c = search needs
