@@ -7,9 +7,9 @@ ghost use Rattle.theory.specs.Tables.{problem};
 ghost use Rattle.dues.specs.Due.{in-time, OwnDue, OwnDueIs, Growable, GrowableTo, Spannable, SegmentDues, Puttable, DuesFillable, SegmentsDue, DuesReachable, DuesReached, RowTimed};
 
 // The dues of a segment as it stands and reversed.
-pub struct Dues {
-    pub straight: u64,
-    pub reversed: u64,
+struct Dues {
+    straight: u64,
+    reversed: u64,
 }
 
 fn least(a: u64, b: u64) -> u64
