@@ -2,31 +2,28 @@
 use mathlib.Core.Path.{_≡_, refl, sym, ap, _∙_}
 use mathlib.Core.Bool.{Bool, true, false, _&&_}
 use mathlib.Core.List.{List}
-use Prim.Native.Nat.{ℕ, suc, _+_, _-_, _*_, _^_, _≤_, _<_}
+use Prim.Native.Nat.{ℕ, _+_, _-_, _*_, _^_, _≤_, _<_}
 use native.Mathlib.Decide.{decLt}
 use native.Mathlib.Omega.{arith}
 use lib.Dec.{ltb}
-use lib.ListN.{length, getD, take}
-use lib.Seq.{slice, length-take-le}
+use lib.ListN.{length}
+use lib.Seq.{slice}
 use borrow.Author.Tests.{lt-ltb, le-ltb, ltb-true}
 use Rattle.theory.specs.Moves.{Pattern}
-use Rattle.theory.specs.Route.{Problem, path, reverse-if, tour-length, reconnected, feasible}
-use Rattle.theory.specs.Costs.{last-of, first-of, inner, forward}
+use Rattle.theory.specs.Route.{Problem, path, tour-length, reconnected, feasible}
+use Rattle.theory.specs.Costs.{last-of}
 use Rattle.theory.specs.Polish.{move-at}
 use Rattle.theory.specs.Tables.{problem, pattern-rows, ForK}
 use Rattle.theory.proofs.Rows.{listed-for-k}
-use Rattle.costs.specs.RouteCosts.{leg, Leg}
-use Rattle.costs.proofs.Segments.{cut-below, first-placed}
 use Rattle.deadlines.proofs.Walking.{any-depot}
 use Rattle.joints.specs.States.{row, standing-row}
 use Rattle.joints.specs.JointTable.{chain}
 use Rattle.joints.proofs.Chain.{shorter}
 use Rattle.dues.specs.Due.{in-time, DuesOf}
-use Rattle.dues.proofs.InTime.{row-kept, row-known, path-in}
+use Rattle.dues.proofs.InTime.{row-kept, row-known}
 use Rattle.walking.specs.Parts.{head, middle}
-use Rattle.search.specs.Gain.{gains, due-gain, Tabled, FirstGain, NextShorter, DueRows, FirstDue, HeadTimed, HeadClock}
-use Rattle.walking.proofs.Parts.{head-lent}
 use Rattle.walking.proofs.MiddleOnly.{middle-only}
+use Rattle.search.specs.Gain.{gains, due-gain, Tabled, FirstGain, NextShorter, DueRows, FirstDue}
 use Rattle.search.proofs.Gain.{and-false, not-shorter, chains}
 
 and-true : (b : Bool) → (b && true) ≡ b
@@ -97,31 +94,4 @@ module _ {locations : ℕ} {legs latest : List ℕ} {depot : ℕ} {r cs orders m
             row-known (length cs) (pattern i .order) rows (pattern i .mask) i (given .cut-set .least) (given .cut-set .most) (listed-for-k (length cs) orders masks (given .patterns) i _ k) (given .state-rows .each i k) c l m;
         early = e;
         first = next;
-      }
-
--- ---- the head
-
-module _ {locations : ℕ} {legs : List ℕ} {depot : ℕ} {r sums cs : List ℕ} (given : HeadTimed locations legs depot r sums cs) where
-  pub first-within : getD cs 0 0 ≤ length r
-  first-within = cut-below cs r (given .cut-set) 0 (omega (arith, given .cut-set .least))
-
-  whole-head : take (getD cs 0 0) r ≡ head r cs
-  whole-head = let e : getD cs 0 0 - 0 ≡ getD cs 0 0 = omega arith in ap (λ n. take n r) (sym e) ∙ head-lent cs r (given .cut-set)
-
-  pub no-head : getD cs 0 0 ≡ 0 → HeadClock locations legs depot r cs 0
-  unfolding path
-  no-head e = record { is = rw (← whole-head, e); early = omega arith }
-
-  pub some-head : (first v : ℕ) → first ≡ getD cs 0 0 → (first ≡ 0 → ⊥) → Leg locations legs depot (getD r 0 0) v → HeadClock locations legs depot r cs (v + getD sums (first - 1) 0)
-  unfolding forward reverse-if
-  some-head first v e n l =
-      let h : 0 < getD cs 0 0 = omega (arith, e, n) in
-      let c : suc (first - 1) ≡ getD cs 0 0 = omega arith in
-      let i : first - 1 < length r = omega (arith, first-within) in
-      let inside : getD sums (first - 1) 0 ≡ inner (leg locations legs) (take (getD cs 0 0) r) = given .forwards .each (first - 1) i ∙ ap (λ m. inner (leg locations legs) (take m r)) c in
-      let way = path-in (leg locations legs) depot (take (getD cs 0 0) r) (omega (arith, length-take-le (getD cs 0 0) r first-within)) in
-      let start : first-of (take (getD cs 0 0) r) 0 ≡ getD r 0 0 = first-placed r 0 (getD cs 0 0) h first-within false 0 in
-      record {
-        is = rw (← whole-head) (omega (arith, way, inside, l .is, ap (leg locations legs depot) start));
-        early = omega (arith, l .small, given .forwards .small (first - 1) i, given .cut-set .short, first-within);
       }

@@ -9,14 +9,13 @@ use lib.ListN.{length, getD, take}
 use Rattle.theory.specs.Moves.{Pattern}
 use Rattle.theory.specs.Scan.{improves}
 use Rattle.theory.specs.Polish.{search-of, move-at}
-use Rattle.theory.specs.Route.{Problem, path, reconnected, feasible}
+use Rattle.theory.specs.Route.{Problem, reconnected, feasible}
 use Rattle.theory.specs.Costs.{forward, backward}
-use Rattle.theory.specs.Tables.{problem, Timed, Measurable, CutSet, PatternRows, pattern-rows}
+use Rattle.theory.specs.Tables.{problem, Timed, CutSet, PatternRows, pattern-rows}
 use Rattle.costs.specs.RouteCosts.{leg, Sums}
 use Rattle.joints.specs.States.{row, standing-row, StateRows}
 use Rattle.dues.specs.Due.{in-time, DuesHeld}
 use Rattle.joints.specs.JointTable.{chain, Padded, JointOf}
-use Rattle.walking.specs.Parts.{head}
 
 -- What the step reads: tables, the route with its running sums, k cuts of it, and rows of patterns of which the first `limit` are still allowed.
 pub record Searchable (locations : ℕ) (legs latest : List ℕ) (depot : ℕ) (route forward-sums backward-sums cuts orders masks : List ℕ) (limit : ℕ) : Type 0 where
@@ -114,17 +113,6 @@ pub record Improving (locations : ℕ) (legs latest : List ℕ) (depot : ℕ) (r
   pub behind : getD dues 8 0 ≤ getD cuts (length cuts - 1) 0
 
 -- ---- for a route that keeps every deadline, by the dues of the states
-
--- A route with its forward sums, and a cut set of it.
-pub record HeadTimed (locations : ℕ) (legs : List ℕ) (depot : ℕ) (route forward-sums cuts : List ℕ) : Type 0 where
-  pub measurable : Measurable locations legs depot route
-  pub forwards : Sums route (forward (leg locations legs) route) forward-sums
-  pub cut-set : CutSet (length cuts) (length route) cuts
-
--- When the head is left.
-pub record HeadClock (locations : ℕ) (legs : List ℕ) (depot : ℕ) (route cuts : List ℕ) (clock : ℕ) : Type 0 where
-  pub is : clock ≡ path (leg locations legs) depot (head route cuts)
-  pub early : clock ≤ 513 * 1000000
 
 -- Row x costs less than `below`, and its first `m` states are left in time.
 abbrev pub due-gain : List ℕ → List ℕ → List ℕ → ℕ → ℕ → ℕ → ℕ → Bool

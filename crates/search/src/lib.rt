@@ -3,7 +3,7 @@ ghost use mathlib.Core.Path.{_≡_};
 ghost use lib.ListN.{length};
 ghost use Rattle.theory.specs.Tables.{problem, pattern-rows};
 ghost use Rattle.search.specs.Candidate.{candidate, Buildable, BuildableFront, BuiltFront};
-ghost use Rattle.search.specs.Gain.{FirstGain, Findable, Found, Chains, NextShorter, Shortened, Improvable, Improving, HeadTimed, HeadClock, DueRows, FirstDue};
+ghost use Rattle.search.specs.Gain.{FirstGain, Findable, Found, Chains, NextShorter, Shortened, Improvable, Improving, DueRows, FirstDue};
 
 // The candidate of pattern i.
 fn build_candidate(
@@ -106,26 +106,6 @@ fn first_kept(
     i
 }
 
-// When the head is left.
-fn head_clock(
-    locations: usize,
-    legs: &[u32],
-    depot: u32,
-    route: &[u32],
-    forward: &[u64; 512],
-    cuts: &[usize],
-) -> u64
-    requires { ⌜ HeadTimed locations (now legs) depot (now route) (now forward) (now cuts) ⌝ }
-    ensures { λ r. ⌜ HeadClock locations (now (legs .entry)) depot (now (route .entry)) (now (cuts .entry)) r ⌝ }
-{
-    let first = cuts[0];
-    if first == 0 {
-        return 0;
-    }
-    let inside = forward[first - 1];
-    costs::route_distance(locations, legs, depot, route[0]) + inside
-}
-
 // The first row from `shorter` on that costs less than `below` and is left in time, or `limit`.
 fn first_due(
     joint: &[u64; 160],
@@ -191,7 +171,7 @@ fn first_improving(
         );
     }
     dues::reach_dues(locations, legs, latest, route, backward, cuts, dues);
-    let clock = head_clock(locations, legs, depot, route, forward, cuts);
+    let clock = walking::head_clock(locations, legs, depot, route, forward, cuts);
     let m = cuts.len() - 1;
     first_due(joint, rows, dues, m, clock, standing, shorter, limit)
 }

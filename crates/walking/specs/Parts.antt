@@ -5,9 +5,10 @@ use Prim.Native.Nat.{ℕ, _*_, _≤_, _<_}
 use lib.ListN.{length, getD}
 use lib.Seq.{slice}
 use Rattle.theory.specs.Moves.{Pattern}
-use Rattle.theory.specs.Route.{Problem, segments, placed}
-use Rattle.theory.specs.Tables.{LegTable, Stops, CutSet, PatternRows}
-use Rattle.costs.specs.RouteCosts.{Middle}
+use Rattle.theory.specs.Route.{Problem, path, segments, placed}
+use Rattle.theory.specs.Costs.{forward}
+use Rattle.theory.specs.Tables.{LegTable, Stops, Measurable, CutSet, PatternRows}
+use Rattle.costs.specs.RouteCosts.{Middle, Sums, leg}
 use Rattle.deadlines.specs.Walk.{Walks}
 use Rattle.deadlines.specs.declared.Walked.{Walked}
 
@@ -61,3 +62,14 @@ pub record CandidateWalk (locations : ℕ) (legs latest route cuts orders masks 
   pub of : Candidate route cuts orders masks i
   pub walk : WalkFrom locations legs latest route cuts from clock
   pub soon : clock ≤ 512 * 1000000
+
+-- A route with its forward sums, and a cut set of it.
+pub record HeadTimed (locations : ℕ) (legs : List ℕ) (depot : ℕ) (route forward-sums cuts : List ℕ) : Type 0 where
+  pub measurable : Measurable locations legs depot route
+  pub forwards : Sums route (forward (leg locations legs) route) forward-sums
+  pub cut-set : CutSet (length cuts) (length route) cuts
+
+-- When the head is left.
+pub record HeadClock (locations : ℕ) (legs : List ℕ) (depot : ℕ) (route cuts : List ℕ) (clock : ℕ) : Type 0 where
+  pub is : clock ≡ path (leg locations legs) depot (head route cuts)
+  pub early : clock ≤ 513 * 1000000

@@ -8,7 +8,7 @@ ghost use Rattle.theory.specs.Polish.{move-at};
 ghost use Rattle.theory.specs.Tables.{problem, pattern-rows};
 ghost use Rattle.theory.proofs.Clock.{on-time};
 ghost use Rattle.deadlines.specs.Walk.{WalkedPart};
-ghost use Rattle.walking.specs.Parts.{head, middle, tail, after-head, WalkFrom, SegmentWalk, MiddleWalk, WalkedMiddle, CandidateWalk};
+ghost use Rattle.walking.specs.Parts.{head, middle, tail, after-head, WalkFrom, SegmentWalk, MiddleWalk, WalkedMiddle, CandidateWalk, HeadTimed, HeadClock};
 
 // Along the middle segment of a number, as the mask places it.
 fn walk_segment(
@@ -169,4 +169,24 @@ pub fn walk_head(
 {
     let end = cuts[0];
     deadlines::walk(locations, legs, latest, &route[0..end], false, depot, 0)
+}
+
+// When the head is left, where it is not to be walked: from the running sums.
+pub fn head_clock(
+    locations: usize,
+    legs: &[u32],
+    depot: u32,
+    route: &[u32],
+    forward: &[u64; 512],
+    cuts: &[usize],
+) -> u64
+    requires { ⌜ HeadTimed locations (now legs) depot (now route) (now forward) (now cuts) ⌝ }
+    ensures { λ r. ⌜ HeadClock locations (now (legs .entry)) depot (now (route .entry)) (now (cuts .entry)) r ⌝ }
+{
+    let first = cuts[0];
+    if first == 0 {
+        return 0;
+    }
+    let inside = forward[first - 1];
+    costs::route_distance(locations, legs, depot, route[0]) + inside
 }

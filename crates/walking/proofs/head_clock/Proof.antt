@@ -1,11 +1,11 @@
--- `search::head_clock` meets its contract: the leg to the first stop, and the running sum at the head's last. Assumes nothing.
+-- `walking::head_clock` meets its contract: the leg to the first stop, and the running sum at the head's last. Assumes nothing.
 use mathlib.Core.Path.{_≡_, refl}
 use Prim.Native.Nat.{ℕ, _<_}
 use lib.ListN.{length}
-use Rattle.search.proofs.DueGain.{first-within, no-head, some-head}
+use Rattle.walking.proofs.Head.{first-within, no-head, some-head}
 use native.Mathlib.Omega.{arith}
-use Rattle.search.proofs.head_clock.Statement.{statement}
-use Rattle.search.proofs.head_clock.Tie as tie
+use Rattle.walking.proofs.head_clock.Statement.{statement}
+use Rattle.walking.proofs.head_clock.Tie as tie
 
 positive : {n : ℕ} → (n ≡ 0 → ⊥) → 0 < n
 positive h = omega arith
