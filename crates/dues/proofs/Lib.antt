@@ -1,3 +1,4 @@
 pub mod Growth
 pub mod InTime
 pub mod Filling
+pub mod Held

@@ -5,7 +5,7 @@ use mathlib.Core.Logic.{_⊎_}
 use mathlib.Core.List.{List, [], _∷_, _++_, reverse}
 use Prim.Native.Nat.{ℕ, _+_, _-_, _*_, _^_, _≤_, _<_}
 use lib.Dec.{ltb}
-use lib.ListN.{length, getD}
+use lib.ListN.{length, getD, take}
 use lib.Seq.{slice}
 use Rattle.theory.specs.Route.{Problem, path}
 use Rattle.theory.specs.Costs.{backward}
@@ -48,6 +48,13 @@ pub record Spannable (locations : ℕ) (legs latest route backward-sums : List �
 pub record Growable (locations : ℕ) (legs latest route backward-sums : List ℕ) (start end straight reversed : ℕ) : Type 0 where
   pub of : Spannable locations legs latest route backward-sums start end
   pub more : end < length route
+  pub dues : SegmentDues (problem locations legs latest 0) (slice start end route) straight reversed
+
+-- A segment whose dues are known, with the stops up to `to` behind it.
+pub record GrowableTo (locations : ℕ) (legs latest route backward-sums : List ℕ) (start end to straight reversed : ℕ) : Type 0 where
+  pub of : Spannable locations legs latest route backward-sums start end
+  pub least : end ≤ to
+  pub most : to ≤ length route
   pub dues : SegmentDues (problem locations legs latest 0) (slice start end route) straight reversed
 
 -- Places for the dues, and a middle segment.
@@ -101,3 +108,19 @@ pub record DuesReach (P : Problem) (route pre dues : List ℕ) (end : ℕ) : Typ
 pub record DuesHeld (P : Problem) (route pre dues : List ℕ) : Type 0 where
   pub places : length dues ≡ 9
   pub held : (getD dues 8 0 ≡ 0) ⊎ DuesReach P route pre dues (getD dues 8 0)
+
+-- A cut set whose last cut lies no earlier than the one that the held dues reach, and what its dues are read from.
+pub record DuesReachable (locations : ℕ) (legs latest route backward-sums cuts dues : List ℕ) : Type 0 where
+  pub table : LegTable locations legs
+  pub deadlines : length latest ≡ locations
+  pub stops : Stops locations route
+  pub backwards : Sums route (backward (leg locations legs) route) backward-sums
+  pub cut-set : CutSet (length cuts) (length route) cuts
+  pub held : DuesHeld (problem locations legs latest 0) route (take (length cuts - 1) cuts) dues
+  pub behind : getD dues 8 0 ≤ getD cuts (length cuts - 1) 0
+
+-- The dues of every middle segment of a cut set, and in place 8 its last cut.
+pub record DuesReached (P : Problem) (route cuts dues : List ℕ) : Type 0 where
+  pub places : length dues ≡ 9
+  pub reach : getD dues 8 0 ≡ getD cuts (length cuts - 1) 0
+  pub due : SegmentsDue P cuts route (length cuts - 1) dues

@@ -1,15 +1,15 @@
 // Deadlines of placed segments, shared by the candidates that have them: the second before which a segment must be left. No entry: for the inner search.
 ghost use mathlib.Core.Path.{_≡_};
-ghost use Prim.Native.Nat.{min, _+_, _-_, _*_};
-ghost use lib.ListN.{set};
+ghost use Prim.Native.Nat.{min, _+_, _-_, _*_, _<_};
+ghost use lib.ListN.{length, getD, set};
 ghost use lib.Seq.{slice};
 ghost use Rattle.theory.specs.Tables.{problem};
-ghost use Rattle.dues.specs.Due.{in-time, OwnDue, OwnDueIs, Growable, Spannable, SegmentDues, Puttable, DuesFillable, SegmentsDue, RowTimed};
+ghost use Rattle.dues.specs.Due.{in-time, OwnDue, OwnDueIs, Growable, GrowableTo, Spannable, SegmentDues, Puttable, DuesFillable, SegmentsDue, DuesReachable, DuesReached, RowTimed};
 
 // The dues of a segment as it stands and reversed.
-pub struct Dues {
-    pub straight: u64,
-    pub reversed: u64,
+struct Dues {
+    straight: u64,
+    reversed: u64,
 }
 
 fn least(a: u64, b: u64) -> u64
@@ -31,7 +31,7 @@ fn own_due(latest: &[u32], stop: u32) -> u64
 }
 
 // The dues of route[start..end + 1] from those of route[start..end].
-pub fn take_in(
+fn take_in(
     locations: usize,
     legs: &[u32],
     latest: &[u32],
@@ -56,8 +56,43 @@ pub fn take_in(
     }
 }
 
+// The dues of route[start..to] from those of route[start..from].
+fn grow_dues(
+    locations: usize,
+    legs: &[u32],
+    latest: &[u32],
+    route: &[u32],
+    backward: &[u64; 512],
+    start: usize,
+    from: usize,
+    to: usize,
+    straight: u64,
+    reversed: u64,
+) -> Dues
+    requires { ⌜ GrowableTo locations (now legs) (now latest) (now route) (now backward) start from to straight reversed ⌝ }
+    ensures { λ r. ⌜ SegmentDues (problem locations (now (legs .entry)) (now (latest .entry)) 0) (slice start to (now (route .entry))) (r .straight) (r .reversed) ⌝ }
+{
+    let mut dues = Dues { straight, reversed };
+    let mut upto = from;
+    while upto < to {
+        dues = take_in(
+            locations,
+            legs,
+            latest,
+            route,
+            backward,
+            start,
+            upto,
+            dues.straight,
+            dues.reversed,
+        );
+        upto += 1;
+    }
+    dues
+}
+
 // The dues of route[start..end], not empty.
-pub fn segment_dues(
+fn segment_dues(
     locations: usize,
     legs: &[u32],
     latest: &[u32],
@@ -70,30 +105,22 @@ pub fn segment_dues(
     ensures { λ r. ⌜ SegmentDues (problem locations (now (legs .entry)) (now (latest .entry)) 0) (slice start end (now (route .entry))) (r .straight) (r .reversed) ⌝ }
 {
     let own = own_due(latest, route[start]);
-    let mut straight = own;
-    let mut reversed = own;
-    let mut upto = start + 1;
-    while upto < end {
-        let more = take_in(
-            locations,
-            legs,
-            latest,
-            route,
-            backward,
-            start,
-            upto,
-            straight,
-            reversed,
-        );
-        straight = more.straight;
-        reversed = more.reversed;
-        upto += 1;
-    }
-    Dues { straight, reversed }
+    grow_dues(
+        locations,
+        legs,
+        latest,
+        route,
+        backward,
+        start,
+        start + 1,
+        end,
+        own,
+        own,
+    )
 }
 
 // The dues of a middle segment into the places of its two states.
-pub fn put_dues(dues: &mut [u64; 9], segment: usize, straight: u64, reversed: u64)
+fn put_dues(dues: &mut [u64; 9], segment: usize, straight: u64, reversed: u64)
     requires { ⌜ Puttable (now dues) segment ⌝ }
     ensures { λ _. ⌜ now (dues .exit) ≡ set (set (now (dues .entry)) (2 * segment - 2) straight) (2 * segment - 2 + 1) reversed ⌝ }
 {
@@ -103,7 +130,7 @@ pub fn put_dues(dues: &mut [u64; 9], segment: usize, straight: u64, reversed: u6
 }
 
 // The dues of the first `count` middle segments; only the cuts up to that of number `count` are read, so those behind it share them.
-pub fn fill_dues(
+fn fill_dues(
     locations: usize,
     legs: &[u32],
     latest: &[u32],
@@ -124,6 +151,63 @@ pub fn fill_dues(
         put_dues(dues, i, found.straight, found.reversed);
         i += 1;
     }
+}
+
+// The dues held of the last middle segment, brought from the cut in place 8 up to the last cut.
+fn stretch_dues(
+    locations: usize,
+    legs: &[u32],
+    latest: &[u32],
+    route: &[u32],
+    backward: &[u64; 512],
+    cuts: &[usize],
+    dues: &mut [u64; 9],
+)
+    requires { ⌜ DuesReachable locations (now legs) (now latest) (now route) (now backward) (now cuts) (now dues) × (0 < getD (now dues) 8 0) ⌝ }
+    ensures { λ _. ⌜ SegmentsDue (problem locations (now (legs .entry)) (now (latest .entry)) 0) (now (cuts .entry)) (now (route .entry)) (length (now (cuts .entry)) - 1) (now (dues .exit)) ⌝ }
+{
+    let segment = cuts.len() - 1;
+    let start = cuts[segment - 1];
+    let end = cuts[segment];
+    let from = dues[8] as usize;
+    let s = 2 * segment - 2;
+    let more = grow_dues(
+        locations,
+        legs,
+        latest,
+        route,
+        backward,
+        start,
+        from,
+        end,
+        dues[s],
+        dues[s + 1],
+    );
+    put_dues(dues, segment, more.straight, more.reversed);
+}
+
+// The dues of every middle segment, from those held of the cut sets before with the same first cuts.
+pub fn reach_dues(
+    locations: usize,
+    legs: &[u32],
+    latest: &[u32],
+    route: &[u32],
+    backward: &[u64; 512],
+    cuts: &[usize],
+    dues: &mut [u64; 9],
+)
+    requires { ⌜ DuesReachable locations (now legs) (now latest) (now route) (now backward) (now cuts) (now dues) ⌝ }
+    ensures { λ _. ⌜ DuesReached (problem locations (now (legs .entry)) (now (latest .entry)) 0) (now (route .entry)) (now (cuts .entry)) (now (dues .exit)) ⌝ }
+{
+    let last = cuts.len() - 1;
+    let reach = cuts[last] as u64;
+    let held = dues[8];
+    if held == 0 {
+        fill_dues(locations, legs, latest, route, backward, cuts, last, dues);
+    } else {
+        stretch_dues(locations, legs, latest, route, backward, cuts, dues);
+    }
+    dues[8] = reach;
 }
 
 fn wide(x: u8) -> usize

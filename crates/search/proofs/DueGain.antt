@@ -2,40 +2,33 @@
 use mathlib.Core.Path.{_≡_, refl, sym, ap, _∙_}
 use mathlib.Core.Bool.{Bool, true, false, _&&_}
 use mathlib.Core.List.{List}
-use Prim.Native.Nat.{ℕ, suc, _+_, _-_, _*_, _^_, _≤_, _<_}
+use Prim.Native.Nat.{ℕ, _+_, _-_, _*_, _^_, _≤_, _<_}
 use native.Mathlib.Decide.{decLt}
 use native.Mathlib.Omega.{arith}
 use lib.Dec.{ltb}
-use lib.ListN.{length, getD, take}
-use lib.Seq.{slice, length-take-le}
+use lib.ListN.{length}
+use lib.Seq.{slice}
 use borrow.Author.Tests.{lt-ltb, le-ltb, ltb-true}
 use Rattle.theory.specs.Moves.{Pattern}
-use Rattle.theory.specs.Route.{Problem, path, reverse-if, tour-length, reconnected, feasible}
-use Rattle.theory.specs.Costs.{last-of, first-of, inner, forward}
+use Rattle.theory.specs.Route.{Problem, path, tour-length, reconnected, feasible}
+use Rattle.theory.specs.Costs.{last-of}
 use Rattle.theory.specs.Polish.{move-at}
 use Rattle.theory.specs.Tables.{problem, pattern-rows, ForK}
-use Rattle.theory.proofs.Clock.{on-time}
 use Rattle.theory.proofs.Rows.{listed-for-k}
-use Rattle.costs.specs.RouteCosts.{leg, Leg}
-use Rattle.costs.proofs.Segments.{cut-below, first-placed}
 use Rattle.deadlines.proofs.Walking.{any-depot}
 use Rattle.joints.specs.States.{row, standing-row}
-use Rattle.joints.specs.JointTable.{chain, JointOf}
+use Rattle.joints.specs.JointTable.{chain}
 use Rattle.joints.proofs.Chain.{shorter}
 use Rattle.dues.specs.Due.{in-time, DuesOf}
-use Rattle.dues.proofs.InTime.{row-kept, row-known, path-in}
-use Rattle.search.specs.Parts.{head, middle, HeadTimed, HeadClock}
-use Rattle.search.specs.Gain.{gains, due-gain, Gainable, Tabled, FirstGain, DueRows, FirstDue}
-use Rattle.search.proofs.Parts.{head-lent}
-use Rattle.search.proofs.MiddleOnly.{middle-only}
+use Rattle.dues.proofs.InTime.{row-kept, row-known}
+use Rattle.walking.specs.Parts.{head, middle}
+use Rattle.walking.proofs.MiddleOnly.{middle-only}
+use Rattle.search.specs.Gain.{gains, due-gain, Tabled, FirstGain, NextShorter, DueRows, FirstDue}
+use Rattle.search.proofs.Gain.{and-false, not-shorter, chains}
 
 and-true : (b : Bool) → (b && true) ≡ b
 and-true true = refl
 and-true false = refl
-
-and-false : (b : Bool) → (b && false) ≡ false
-and-false true = refl
-and-false false = refl
 
 module _ {locations : ℕ} {legs latest : List ℕ} {depot : ℕ} {r cs orders masks rows J : List ℕ} {limit : ℕ} (D : List ℕ)
     (given : Tabled locations legs latest depot r cs orders masks rows J limit) (dues : DuesOf (problem locations legs latest 0) cs r D)
@@ -50,13 +43,16 @@ module _ {locations : ℕ} {legs latest : List ℕ} {depot : ℕ} {r cs orders m
   abbrev clock : ℕ
   clock = path (P .leg) depot (head r cs)
 
-  pub shorter-gains : (i : ℕ) → i < limit → chain J 9 (row rows i) < chain J 9 (standing-row (length cs)) →
+  abbrev standing : ℕ
+  standing = chain J 9 (standing-row (length cs))
+
+  shorter-gains : (i : ℕ) → i < limit → chain J 9 (row rows i) < standing →
       gains locations legs latest depot r cs orders masks i ≡ in-time J D 9 clock (slice (4 * i) (4 * i + (length cs - 1)) rows)
   shorter-gains i h l =
       let k : i < length masks = omega (arith, given .allowed) in
       let f : ForK (length cs) (pattern i .order) (pattern i .mask) = listed-for-k (length cs) orders masks (given .patterns) i _ k in
       let e = shorter P cs r J (pattern i .order) (pattern i .mask) (given .cut-set) f (given .joined) in
-      let c = ap (λ s. ltb (chain J 9 s) (chain J 9 (standing-row (length cs)))) (sym (given .state-rows .each i k)) in
+      let c = ap (λ s. ltb (chain J 9 s) standing) (sym (given .state-rows .each i k)) in
       let short : ltb (tour-length P (reconnected (record { cuts = cs; pattern = pattern i }) r)) (tour-length P r) ≡ true = e ∙ c ∙ lt-ltb _ _ l in
       ap (λ b. feasible P (reconnected (record { cuts = cs; pattern = pattern i }) r) && b) short
       ∙ and-true (feasible P (reconnected (record { cuts = cs; pattern = pattern i }) r))
@@ -64,30 +60,22 @@ module _ {locations : ℕ} {legs latest : List ℕ} {depot : ℕ} {r cs orders m
       ∙ any-depot locations legs latest depot 0 (last-of depot (head r cs)) clock (middle r cs (pattern i .order) (pattern i .mask))
       ∙ sym (row-kept (problem locations legs latest 0) cs r J D (given .cut-set) (given .joined) dues (pattern i .order) rows (pattern i .mask) i clock f (given .state-rows .each i k))
 
-  gain-is : (i : ℕ) → i < length masks → gains locations legs latest depot r cs orders masks i
-      ≡ (feasible P (reconnected (record { cuts = cs; pattern = pattern i }) r) && ltb (chain J 9 (row rows i)) (chain J 9 (standing-row (length cs))))
-  gain-is i k =
-      ap (λ b. feasible P (reconnected (record { cuts = cs; pattern = pattern i }) r) && b)
-      (shorter P cs r J (pattern i .order) (pattern i .mask) (given .cut-set) (listed-for-k (length cs) orders masks (given .patterns) i _ k) (given .joined)
-      ∙ ap (λ s. ltb (chain J 9 s) (chain J 9 (standing-row (length cs)))) (sym (given .state-rows .each i k)))
-
   -- A row is shorter and in time exactly where its pattern improves the route.
-  gain-due : (i : ℕ) → i < limit → gains locations legs latest depot r cs orders masks i ≡ due-gain J rows D (length cs) clock i
-  gain-due i h = by (decLt (chain J 9 (row rows i)) (chain J 9 (standing-row (length cs))))
+  gain-due : (i : ℕ) → i < limit → gains locations legs latest depot r cs orders masks i ≡ due-gain J rows D (length cs - 1) clock standing i
+  gain-due i h = by (decLt (chain J 9 (row rows i)) standing)
     where
-      by : Dec (chain J 9 (row rows i) < chain J 9 (standing-row (length cs))) → gains locations legs latest depot r cs orders masks i ≡ due-gain J rows D (length cs) clock i
-      by (yes l) =
-          shorter-gains i h l
-          ∙ sym (ap (λ b. in-time J D 9 clock (slice (4 * i) (4 * i + (length cs - 1)) rows) && b) (lt-ltb _ _ l) ∙ and-true (in-time J D 9 clock (slice (4 * i) (4 * i + (length cs - 1)) rows)))
-      by (no n) =
-          let l : chain J 9 (standing-row (length cs)) ≤ chain J 9 (row rows i) = omega arith in
-          gain-is i (omega (arith, given .allowed))
-          ∙ ap (λ b. feasible P (reconnected (record { cuts = cs; pattern = pattern i }) r) && b) (le-ltb _ _ l)
-          ∙ and-false (feasible P (reconnected (record { cuts = cs; pattern = pattern i }) r))
-          ∙ sym (ap (λ b. in-time J D 9 clock (slice (4 * i) (4 * i + (length cs - 1)) rows) && b) (le-ltb _ _ l) ∙ and-false (in-time J D 9 clock (slice (4 * i) (4 * i + (length cs - 1)) rows)))
+      timed : Bool
+      timed = in-time J D 9 clock (slice (4 * i) (4 * i + (length cs - 1)) rows)
 
-  pub first-due-gain : (i : ℕ) → FirstDue J rows D (length cs) clock limit i → FirstGain P (pattern-rows (length cs) orders masks) (length cs) r cs limit i
-  first-due-gain i d =
+      by : Dec (chain J 9 (row rows i) < standing) → gains locations legs latest depot r cs orders masks i ≡ due-gain J rows D (length cs - 1) clock standing i
+      by (yes l) = shorter-gains i h l ∙ sym (ap (λ b. timed && b) (lt-ltb _ _ l) ∙ and-true timed)
+      by (no n) =
+          let l : standing ≤ chain J 9 (row rows i) = omega arith in
+          not-shorter given i (omega (arith, given .allowed)) l ∙ sym (ap (λ b. timed && b) (le-ltb _ _ l) ∙ and-false timed)
+
+  pub first-due-gain : (s i : ℕ) → s ≡ standing → FirstDue J rows D (length cs - 1) clock s limit i → FirstGain P (pattern-rows (length cs) orders masks) (length cs) r cs limit i
+  first-due-gain s i e f =
+      let d : FirstDue J rows D (length cs - 1) clock standing limit i = rw e at f in
       record {
         within = d .within;
         passed = λ x h. gain-due x (omega (arith, d .within)) ∙ d .passed x h;
@@ -95,53 +83,15 @@ module _ {locations : ℕ} {legs latest : List ℕ} {depot : ℕ} {r cs orders m
       }
 
   -- The rows can be judged by the dues.
-  pub due-rows : clock ≤ 2 ^ 40 → DueRows J rows D (length cs) clock limit
-  due-rows e =
+  pub due-rows : (s shorter : ℕ) → clock ≤ 2 ^ 40 → NextShorter J rows s 0 limit shorter → DueRows J rows D (length cs - 1) clock s shorter limit
+  due-rows s shorter e next =
       record {
-        chains = record {
-          padded = given .joined .padded;
-          places = given .state-rows .places;
-          few = omega (arith, given .allowed, given .patterns .few);
-          within = omega arith;
-          known = λ c l. given .state-rows .small c (omega (arith, given .allowed));
-        };
-        least = given .cut-set .least;
-        most = given .cut-set .most;
+        chains = chains given 0 (omega arith);
+        most = omega (arith, given .cut-set .most);
         due-places = dues .places;
         states = λ i h c l m.
             let k : i < length masks = omega (arith, given .allowed) in
             row-known (length cs) (pattern i .order) rows (pattern i .mask) i (given .cut-set .least) (given .cut-set .most) (listed-for-k (length cs) orders masks (given .patterns) i _ k) (given .state-rows .each i k) c l m;
         early = e;
-      }
-
--- Once the joint table is filled.
-pub tabled : {locations : ℕ} {legs latest : List ℕ} {depot : ℕ} {r forwards backwards cs orders masks rows J J′ spare : List ℕ} {limit : ℕ} →
-    Gainable locations legs latest depot r forwards backwards cs orders masks rows J spare limit → JointOf locations legs depot r cs J′ → Tabled locations legs latest depot r cs orders masks rows J′ limit
-tabled g j = let s = g .searchable in record { timed = s .timed; cut-set = s .cut-set; patterns = s .rows; allowed = s .allowed; state-rows = g .state-rows; joined = j }
-
--- ---- the head
-
-module _ {locations : ℕ} {legs : List ℕ} {depot : ℕ} {r sums cs : List ℕ} (given : HeadTimed locations legs depot r sums cs) where
-  pub first-within : getD cs 0 0 ≤ length r
-  first-within = cut-below cs r (given .cut-set) 0 (omega (arith, given .cut-set .least))
-
-  whole-head : take (getD cs 0 0) r ≡ head r cs
-  whole-head = let e : getD cs 0 0 - 0 ≡ getD cs 0 0 = omega arith in ap (λ n. take n r) (sym e) ∙ head-lent cs r (given .cut-set)
-
-  pub no-head : getD cs 0 0 ≡ 0 → HeadClock locations legs depot r cs 0
-  unfolding path
-  no-head e = record { is = rw (← whole-head, e); early = omega arith }
-
-  pub some-head : (first v : ℕ) → first ≡ getD cs 0 0 → (first ≡ 0 → ⊥) → Leg locations legs depot (getD r 0 0) v → HeadClock locations legs depot r cs (v + getD sums (first - 1) 0)
-  unfolding forward reverse-if
-  some-head first v e n l =
-      let h : 0 < getD cs 0 0 = omega (arith, e, n) in
-      let c : suc (first - 1) ≡ getD cs 0 0 = omega arith in
-      let i : first - 1 < length r = omega (arith, first-within) in
-      let inside : getD sums (first - 1) 0 ≡ inner (leg locations legs) (take (getD cs 0 0) r) = given .forwards .each (first - 1) i ∙ ap (λ m. inner (leg locations legs) (take m r)) c in
-      let way = path-in (leg locations legs) depot (take (getD cs 0 0) r) (omega (arith, length-take-le (getD cs 0 0) r first-within)) in
-      let start : first-of (take (getD cs 0 0) r) 0 ≡ getD r 0 0 = first-placed r 0 (getD cs 0 0) h first-within false 0 in
-      record {
-        is = rw (← whole-head) (omega (arith, way, inside, l .is, ap (leg locations legs depot) start));
-        early = omega (arith, l .small, given .forwards .small (first - 1) i, given .cut-set .short, first-within);
+        first = next;
       }

@@ -15,17 +15,17 @@ use Rattle.theory.specs.Polish.{move-at}
 use Rattle.theory.proofs.Clock.{on-time}
 use Rattle.theory.proofs.Rows.{listed-for-k}
 use Rattle.joints.specs.States.{row, standing-row}
-use Rattle.joints.specs.JointTable.{chain}
+use Rattle.joints.specs.JointTable.{chain, JointOf}
 use Rattle.joints.proofs.Chain.{shorter}
 use Rattle.deadlines.specs.declared.Walked.{Walked}
 use Rattle.deadlines.specs.Walk.{WalkedPart}
-use Rattle.search.specs.Candidate.{candidate, Candidate}
-use Rattle.search.specs.Parts.{head, after-head, WalkFrom, CandidateWalk}
-use Rattle.search.specs.Gain.{gains, Chains, NextShorter, Tabled, FirstGain}
-use Rattle.search.proofs.Candidate.{for-k}
-use Rattle.search.proofs.Parts.{behind-head, head-late}
+use Rattle.search.specs.Candidate.{candidate}
+use Rattle.walking.specs.Parts.{head, after-head, WalkFrom, Candidate, CandidateWalk}
+use Rattle.search.specs.Gain.{gains, Gainable, Chains, NextShorter, Tabled, FirstGain}
+use Rattle.walking.proofs.Candidate.{for-k}
+use Rattle.walking.proofs.Parts.{behind-head, head-late}
 
-and-false : (b : Bool) → (b && false) ≡ false
+pub and-false : (b : Bool) → (b && false) ≡ false
 and-false true = refl
 and-false false = refl
 
@@ -46,7 +46,7 @@ module _ {locations : ℕ} {legs latest : List ℕ} {depot : ℕ} {r cs orders m
       (shorter (problem locations legs latest depot) cs r J _ _ (given .cut-set) (listed-for-k (length cs) orders masks (given .patterns) i _ h) (given .joined)
       ∙ ap (λ l. ltb (chain J 9 l) standing) (sym (given .state-rows .each i h)))
 
-  not-shorter : (i : ℕ) → i < length masks → standing ≤ chain J 9 (row rows i) → gain i ≡ false
+  pub not-shorter : (i : ℕ) → i < length masks → standing ≤ chain J 9 (row rows i) → gain i ≡ false
   not-shorter i h l = gain-is i h ∙ ap (λ b. kept i && b) (le-ltb _ _ l) ∙ and-false (kept i)
 
   not-kept : (i : ℕ) → i < length masks → false ≡ kept i → gain i ≡ false
@@ -86,8 +86,11 @@ module _ {locations : ℕ} {legs latest : List ℕ} {depot : ℕ} {r cs orders m
   pub not-found : (i : ℕ) → limit ≤ i → i ≤ limit → ((x : ℕ) → x < i → gain x ≡ false) → FirstGain (problem locations legs latest depot) (pattern-rows (length cs) orders masks) (length cs) r cs limit i
   not-found i h k before = record { within = k; passed = before; gains = λ m. absurd (omega arith) }
 
-  pub none-shorter : (s i : ℕ) → i ≡ limit → s ≡ standing → NextShorter J rows s 0 limit i → FirstGain (problem locations legs latest depot) (pattern-rows (length cs) orders masks) (length cs) r cs limit limit
-  none-shorter s i e d next = not-found limit (omega arith) (omega arith) (λ x h. passed-on s 0 d (λ y l. absurd (omega arith)) next x (omega arith))
+  pub first-passed : (s : ℕ) {i : ℕ} → s ≡ standing → NextShorter J rows s 0 limit i → (x : ℕ) → x < i → gain x ≡ false
+  first-passed s e next = passed-on s 0 e (λ y l. absurd (omega arith)) next
+
+  pub none-shorter : (s : ℕ) → s ≡ standing → NextShorter J rows s 0 limit limit → FirstGain (problem locations legs latest depot) (pattern-rows (length cs) orders masks) (length cs) r cs limit limit
+  none-shorter s e next = not-found limit (omega arith) (omega arith) (first-passed s e next)
 
   -- With the head walked.
   module _ {w : Walked} (walked : WalkedPart locations (problem locations legs latest 0) depot 0 (head r cs) w) where
@@ -124,3 +127,8 @@ module _ {locations : ℕ} {legs latest : List ℕ} {depot : ℕ} {r cs orders m
         FirstGain (problem locations legs latest depot) (pattern-rows (length cs) orders masks) (length cs) r cs limit i
     found s i d h k l before e =
         record { within = omega arith; passed = before; gains = λ m. shorter-kept i (omega (arith, given .allowed)) (rw d at l) (e ∙ sym (kept-is k i (omega (arith, given .allowed)))) }
+
+-- Once the joint table is filled.
+pub tabled : {locations : ℕ} {legs latest : List ℕ} {depot : ℕ} {r forwards backwards cs orders masks rows J J′ spare : List ℕ} {limit : ℕ} →
+    Gainable locations legs latest depot r forwards backwards cs orders masks rows J spare limit → JointOf locations legs depot r cs J′ → Tabled locations legs latest depot r cs orders masks rows J′ limit
+tabled g j = let s = g .searchable in record { timed = s .timed; cut-set = s .cut-set; patterns = s .rows; allowed = s .allowed; state-rows = g .state-rows; joined = j }

@@ -1,6 +1,4 @@
 pub mod Candidate
-pub mod Parts
 pub mod Gain
-pub mod MiddleOnly
 pub mod DueGain
 pub mod FirstDue

@@ -14,7 +14,7 @@ use Rattle.theory.specs.Costs.{forward, backward}
 use Rattle.theory.specs.Tables.{problem, Timed, CutSet, PatternRows, pattern-rows}
 use Rattle.costs.specs.RouteCosts.{leg, Sums}
 use Rattle.joints.specs.States.{row, standing-row, StateRows}
-use Rattle.dues.specs.Due.{in-time, DuesOf, DuesHeld}
+use Rattle.dues.specs.Due.{in-time, DuesHeld}
 use Rattle.joints.specs.JointTable.{chain, Padded, JointOf}
 
 -- What the step reads: tables, the route with its running sums, k cuts of it, and rows of patterns of which the first `limit` are still allowed.
@@ -61,7 +61,7 @@ pub record Found (locations : ℕ) (legs latest : List ℕ) (depot : ℕ) (route
 
 -- ---- the parts of the step
 
--- Whether it improves the route.
+-- Whether pattern i improves the route.
 abbrev pub gains : ℕ → List ℕ → List ℕ → ℕ → List ℕ → List ℕ → List ℕ → List ℕ → ℕ → Bool
 gains locations legs latest depot route cuts orders masks i =
     improves (search-of (problem locations legs latest depot) (pattern-rows (length cuts) orders masks) (length cuts) (length route)) route
@@ -91,30 +91,44 @@ pub record Tabled (locations : ℕ) (legs latest : List ℕ) (depot : ℕ) (rout
   pub state-rows : StateRows (length cuts) orders masks (length masks) rows
   pub joined : JointOf locations legs depot route cuts table
 
--- ---- the step for a route that keeps every deadline, by the dues of the states
+-- With what the standing order costs, and the first pattern that costs less, or `limit` where none does.
+pub record Shortened (locations : ℕ) (legs latest : List ℕ) (depot : ℕ) (route cuts orders masks rows table : List ℕ) (standing shorter limit : ℕ) : Type 0 where
+  pub tabled : Tabled locations legs latest depot route cuts orders masks rows table limit
+  pub stands : standing ≡ chain table 9 (standing-row (length cuts))
+  pub first : NextShorter table rows standing 0 limit shorter
 
--- Row x is below the standing one, and left in time.
-abbrev pub due-gain : List ℕ → List ℕ → List ℕ → ℕ → ℕ → ℕ → Bool
-due-gain table rows dues k clock x =
-    in-time table dues 9 clock (slice (4 * x) (4 * x + (k - 1)) rows) && ltb (chain table 9 (row rows x)) (chain table 9 (standing-row k))
+-- With what is known of the deadlines, as for the whole step.
+pub record Improvable (locations : ℕ) (legs latest : List ℕ) (depot : ℕ) (route forward-sums backward-sums cuts orders masks rows : List ℕ) (kept : Bool) (table dues : List ℕ) (standing shorter limit : ℕ) : Type 0 where
+  pub shortened : Shortened locations legs latest depot route cuts orders masks rows table standing shorter limit
+  pub forwards : Sums route (forward (leg locations legs) route) forward-sums
+  pub backwards : Sums route (backward (leg locations legs) route) backward-sums
+  pub in-time : kept ≡ true → feasible (problem locations legs latest depot) route ≡ true
+  pub held : DuesHeld (problem locations legs latest 0) route (take (length cuts - 1) cuts) dues
+  pub behind : getD dues 8 0 ≤ getD cuts (length cuts - 1) 0
 
--- Rows of states, the joint table and the dues, and when the head is left.
-pub record DueRows (table rows dues : List ℕ) (k clock limit : ℕ) : Type 0 where
+-- The first that improves, with what is then held of the dues.
+pub record Improving (locations : ℕ) (legs latest : List ℕ) (depot : ℕ) (route cuts orders masks : List ℕ) (limit i : ℕ) (dues : List ℕ) : Type 0 where
+  pub first : FirstGain (problem locations legs latest depot) (pattern-rows (length cuts) orders masks) (length cuts) route cuts limit i
+  pub held : DuesHeld (problem locations legs latest 0) route (take (length cuts - 1) cuts) dues
+  pub behind : getD dues 8 0 ≤ getD cuts (length cuts - 1) 0
+
+-- ---- for a route that keeps every deadline, by the dues of the states
+
+-- Row x costs less than `below`, and its first `m` states are left in time.
+abbrev pub due-gain : List ℕ → List ℕ → List ℕ → ℕ → ℕ → ℕ → ℕ → Bool
+due-gain table rows dues m clock below x = in-time table dues 9 clock (slice (4 * x) (4 * x + m) rows) && ltb (chain table 9 (row rows x)) below
+
+-- Rows of states, the joint table and the dues, when the head is left, and the first row that costs less.
+pub record DueRows (table rows dues : List ℕ) (m clock below shorter limit : ℕ) : Type 0 where
   pub chains : Chains table rows 0 limit
-  pub least : 2 ≤ k
-  pub most : k ≤ 5
+  pub most : m ≤ 4
   pub due-places : length dues ≡ 9
-  pub states : (i : ℕ) → i < limit → (c : ℕ) → 4 * i ≤ c → c < 4 * i + (k - 1) → getD rows c 0 < 8
+  pub states : (i : ℕ) → i < limit → (c : ℕ) → 4 * i ≤ c → c < 4 * i + m → getD rows c 0 < 8
   pub early : clock ≤ 2 ^ 40
+  pub first : NextShorter table rows below 0 limit shorter
 
 -- The first such row, or `limit` where none is.
-pub record FirstDue (table rows dues : List ℕ) (k clock limit i : ℕ) : Type 0 where
+pub record FirstDue (table rows dues : List ℕ) (m clock below limit i : ℕ) : Type 0 where
   pub within : i ≤ limit
-  pub passed : (x : ℕ) → x < i → due-gain table rows dues k clock x ≡ false
-  pub gains : i < limit → due-gain table rows dues k clock i ≡ true
-
--- What the step reads where the route keeps every deadline: the dues of the states as well.
-pub record DueGainable (locations : ℕ) (legs latest : List ℕ) (depot : ℕ) (route forward-sums backward-sums cuts orders masks rows table spare dues : List ℕ) (limit : ℕ) : Type 0 where
-  pub gainable : Gainable locations legs latest depot route forward-sums backward-sums cuts orders masks rows table spare limit
-  pub dues-of : DuesOf (problem locations legs latest 0) cuts route dues
-  pub kept : feasible (problem locations legs latest depot) route ≡ true
+  pub passed : (x : ℕ) → x < i → due-gain table rows dues m clock below x ≡ false
+  pub gains : i < limit → due-gain table rows dues m clock below i ≡ true

@@ -1,16 +1,9 @@
-// The inner step of the scan: the first pattern on a cut set that improves the route and keeps every deadline. No entry: crate polishing calls it.
-use deadlines::Walked;
+// The inner step of the scan: the first pattern on a cut set that improves the route and keeps every deadline. No entry: for the scan.
 ghost use mathlib.Core.Path.{_≡_};
-ghost use mathlib.Core.List.{[]};
-ghost use lib.ListN.{length, getD};
-ghost use Rattle.theory.specs.Route.{segments, reverses, reverse-if};
-ghost use Rattle.theory.specs.Polish.{move-at};
+ghost use lib.ListN.{length};
 ghost use Rattle.theory.specs.Tables.{problem, pattern-rows};
-ghost use Rattle.theory.proofs.Clock.{on-time};
-ghost use Rattle.deadlines.specs.Walk.{WalkedPart};
 ghost use Rattle.search.specs.Candidate.{candidate, Buildable, BuildableFront, BuiltFront};
-ghost use Rattle.search.specs.Parts.{head, middle, tail, after-head, WalkFrom, SegmentWalk, MiddleWalk, WalkedMiddle, CandidateWalk, HeadTimed, HeadClock};
-ghost use Rattle.search.specs.Gain.{Chains, NextShorter, Tabled, FirstGain, Gained, Findable, Found, DueRows, FirstDue, DueGainable};
+ghost use Rattle.search.specs.Gain.{FirstGain, Findable, Found, Chains, NextShorter, Shortened, Improvable, Improving, DueRows, FirstDue};
 
 // The candidate of pattern i.
 fn build_candidate(
@@ -46,167 +39,6 @@ fn build_front(
     build_candidate(route, cuts, orders, masks, i, &mut spare[..n]);
 }
 
-// Along the middle segment of a number, as the mask places it.
-fn walk_segment(
-    locations: usize,
-    legs: &[u32],
-    latest: &[u32],
-    route: &[u32],
-    cuts: &[usize],
-    mask: u8,
-    segment: usize,
-    from: u32,
-    clock: u64,
-) -> Walked
-    requires { ⌜ SegmentWalk locations (now legs) (now latest) (now route) (now cuts) segment from clock ⌝ }
-    ensures { λ r. ⌜ WalkedPart locations (problem locations (now (legs .entry)) (now (latest .entry)) 0) from clock (reverse-if (reverses mask segment) (getD (segments 0 (now (cuts .entry)) (now (route .entry))) segment [])) r ⌝ }
-{
-    let start = cuts[segment - 1];
-    let end = cuts[segment];
-    let reversed = reconnection::should_reverse(mask, segment);
-    deadlines::walk(
-        locations,
-        legs,
-        latest,
-        &route[start..end],
-        reversed,
-        from,
-        clock,
-    )
-}
-
-// Along the middle segments in an order, as the mask places them, from the head's end.
-fn walk_middle(
-    locations: usize,
-    legs: &[u32],
-    latest: &[u32],
-    route: &[u32],
-    cuts: &[usize],
-    order: &[u8],
-    mask: u8,
-    from: u32,
-    clock: u64,
-) -> Walked
-    requires { ⌜ MiddleWalk locations (now legs) (now latest) (now route) (now cuts) (now order) from clock ⌝ }
-    ensures { λ r. ⌜ WalkedMiddle locations (problem locations (now (legs .entry)) (now (latest .entry)) 0) from clock (middle (now (route .entry)) (now (cuts .entry)) (now (order .entry)) mask) r ⌝ }
-{
-    let mut last = from;
-    let mut seconds = clock;
-    let mut position = 1;
-    while position < cuts.len() {
-        let segment = order[position] as usize;
-        let walked = walk_segment(
-            locations,
-            legs,
-            latest,
-            route,
-            cuts,
-            mask,
-            segment,
-            last,
-            seconds,
-        );
-        if !walked.kept {
-            return walked;
-        }
-        last = walked.last;
-        seconds = walked.clock;
-        position += 1;
-    }
-    Walked {
-        kept: true,
-        last,
-        clock: seconds,
-    }
-}
-
-// Along the tail: whether it keeps every deadline.
-fn keeps_tail(
-    locations: usize,
-    legs: &[u32],
-    latest: &[u32],
-    route: &[u32],
-    cuts: &[usize],
-    from: u32,
-    clock: u64,
-) -> bool
-    requires { ⌜ WalkFrom locations (now legs) (now latest) (now route) (now cuts) from clock ⌝ }
-    ensures { λ r. ⌜ r ≡ on-time (problem locations (now (legs .entry)) (now (latest .entry)) 0) from clock (tail (now (route .entry)) (now (cuts .entry))) ⌝ }
-{
-    let start = cuts[cuts.len() - 1];
-    let end = route.len();
-    let walked = deadlines::walk(
-        locations,
-        legs,
-        latest,
-        &route[start..end],
-        false,
-        from,
-        clock,
-    );
-    walked.kept
-}
-
-// Whether what pattern i puts behind the head keeps every deadline, from the head's end.
-fn keeps_after_head(
-    locations: usize,
-    legs: &[u32],
-    latest: &[u32],
-    route: &[u32],
-    cuts: &[usize],
-    orders: &[u8],
-    masks: &[u8],
-    i: usize,
-    from: u32,
-    clock: u64,
-) -> bool
-    requires { ⌜ CandidateWalk locations (now legs) (now latest) (now route) (now cuts) (now orders) (now masks) i from clock ⌝ }
-    ensures { λ r. ⌜ r ≡ on-time (problem locations (now (legs .entry)) (now (latest .entry)) 0) from clock (after-head (now (route .entry)) (now (cuts .entry)) (move-at (pattern-rows (length (now (cuts .entry))) (now (orders .entry)) (now (masks .entry))) (now (cuts .entry)) i .pattern)) ⌝ }
-{
-    let width = cuts.len() + 1;
-    let at = i * width;
-    let end = at + width;
-    let walked = walk_middle(
-        locations,
-        legs,
-        latest,
-        route,
-        cuts,
-        &orders[at..end],
-        masks[i],
-        from,
-        clock,
-    );
-    if !walked.kept {
-        return false;
-    }
-    keeps_tail(
-        locations,
-        legs,
-        latest,
-        route,
-        cuts,
-        walked.last,
-        walked.clock,
-    )
-}
-
-// Along the head, from the depot.
-fn walk_head(
-    locations: usize,
-    legs: &[u32],
-    latest: &[u32],
-    depot: u32,
-    route: &[u32],
-    cuts: &[usize],
-) -> Walked
-    requires { ⌜ WalkFrom locations (now legs) (now latest) (now route) (now cuts) depot 0 ⌝ }
-    ensures { λ r. ⌜ WalkedPart locations (problem locations (now (legs .entry)) (now (latest .entry)) 0) depot 0 (head (now (route .entry)) (now (cuts .entry))) r ⌝ }
-{
-    let end = cuts[0];
-    deadlines::walk(locations, legs, latest, &route[0..end], false, depot, 0)
-}
-
 // The first pattern from `from` on that costs less than `standing`, or `limit`.
 fn next_shorter(
     joint: &[u64; 160],
@@ -228,7 +60,7 @@ fn next_shorter(
     i
 }
 
-// The first pattern that costs less than the standing order and keeps every deadline, or `limit`. The head is walked once, where a pattern costs less.
+// The first pattern from `shorter` on that costs less than the standing order and keeps every deadline, or `limit`. The head is walked once.
 fn first_kept(
     locations: usize,
     legs: &[u32],
@@ -240,24 +72,22 @@ fn first_kept(
     masks: &[u8],
     rows: &[u8; 1532],
     joint: &[u64; 160],
+    standing: u64,
+    shorter: usize,
     limit: usize,
 ) -> usize
-    requires { ⌜ Tabled locations (now legs) (now latest) depot (now route) (now cuts) (now orders) (now masks) (now rows) (now joint) limit ⌝ }
+    requires { ⌜ Shortened locations (now legs) (now latest) depot (now route) (now cuts) (now orders) (now masks) (now rows) (now joint) standing shorter limit ⌝ }
     ensures { λ r. ⌜ FirstGain (problem locations (now (legs .entry)) (now (latest .entry)) depot) (pattern-rows (length (now (cuts .entry))) (now (orders .entry)) (now (masks .entry))) (length (now (cuts .entry))) (now (route .entry)) (now (cuts .entry)) limit r ⌝ }
 {
-    let standing = joints::standing_cost(joint, cuts.len());
-    let mut i = next_shorter(joint, rows, standing, 0, limit);
-    if i == limit {
-        return limit;
-    }
-    let head = walk_head(locations, legs, latest, depot, route, cuts);
+    let head = walking::walk_head(locations, legs, latest, depot, route, cuts);
     if !head.kept {
         return limit;
     }
     let from = head.last;
     let clock = head.clock;
+    let mut i = shorter;
     while i < limit {
-        if keeps_after_head(
+        if walking::keeps_after_head(
             locations,
             legs,
             latest,
@@ -276,31 +106,77 @@ fn first_kept(
     i
 }
 
-// The first row that costs less than the standing one and is left in time, or `limit`.
+// The first row from `shorter` on that costs less than `below` and is left in time, or `limit`.
 fn first_due(
     joint: &[u64; 160],
     rows: &[u8; 1532],
     dues: &[u64; 9],
-    k: usize,
+    m: usize,
     clock: u64,
+    below: u64,
+    shorter: usize,
     limit: usize,
 ) -> usize
-    requires { ⌜ DueRows (now joint) (now rows) (now dues) k clock limit ⌝ }
-    ensures { λ r. ⌜ FirstDue (now (joint .entry)) (now (rows .entry)) (now (dues .entry)) k clock limit r ⌝ }
+    requires { ⌜ DueRows (now joint) (now rows) (now dues) m clock below shorter limit ⌝ }
+    ensures { λ r. ⌜ FirstDue (now (joint .entry)) (now (rows .entry)) (now (dues .entry)) m clock below limit r ⌝ }
 {
-    let m = k - 1;
-    let current = joints::standing_cost(joint, k);
-    let mut i = next_shorter(joint, rows, current, 0, limit);
+    let mut i = shorter;
     while i < limit {
         if dues::row_in_time(joint, rows, dues, i, m, clock) {
             return i;
         }
-        i = next_shorter(joint, rows, current, i + 1, limit);
+        i = next_shorter(joint, rows, below, i + 1, limit);
     }
     i
 }
 
-// The first of the first `limit` patterns on the cut set that improves the route, with its candidate in `spare`, or `limit`.
+// The first pattern from `shorter` on that improves the route, or `limit`. Where the route keeps every deadline, only the middle of a candidate is judged, by the dues of its states.
+fn first_improving(
+    locations: usize,
+    legs: &[u32],
+    latest: &[u32],
+    depot: u32,
+    route: &[u32],
+    forward: &[u64; 512],
+    backward: &[u64; 512],
+    cuts: &[usize],
+    orders: &[u8],
+    masks: &[u8],
+    rows: &[u8; 1532],
+    kept: bool,
+    joint: &[u64; 160],
+    dues: &mut [u64; 9],
+    standing: u64,
+    shorter: usize,
+    limit: usize,
+) -> usize
+    requires { ⌜ Improvable locations (now legs) (now latest) depot (now route) (now forward) (now backward) (now cuts) (now orders) (now masks) (now rows) kept (now joint) (now dues) standing shorter limit ⌝ }
+    ensures { λ r. ⌜ Improving locations (now (legs .entry)) (now (latest .entry)) depot (now (route .entry)) (now (cuts .entry)) (now (orders .entry)) (now (masks .entry)) limit r (now (dues .exit)) ⌝ }
+{
+    if !kept {
+        return first_kept(
+            locations,
+            legs,
+            latest,
+            depot,
+            route,
+            cuts,
+            orders,
+            masks,
+            rows,
+            joint,
+            standing,
+            shorter,
+            limit,
+        );
+    }
+    dues::reach_dues(locations, legs, latest, route, backward, cuts, dues);
+    let clock = walking::head_clock(locations, legs, depot, route, forward, cuts);
+    let m = cuts.len() - 1;
+    first_due(joint, rows, dues, m, clock, standing, shorter, limit)
+}
+
+// The first of the first `limit` patterns on the cut set that improves the route, with its candidate in `spare`, or `limit`. Deadlines are looked at only where a pattern is shorter.
 pub fn first_gain(
     locations: usize,
     legs: &[u32],
@@ -332,79 +208,30 @@ pub fn first_gain(
         cuts,
         joint,
     );
-    let i = first_kept(
+    let standing = joints::standing_cost(joint, cuts.len());
+    let shorter = next_shorter(joint, rows, standing, 0, limit);
+    if shorter == limit {
+        return limit;
+    }
+    let i = first_improving(
         locations,
         legs,
         latest,
         depot,
         route,
+        forward,
+        backward,
         cuts,
         orders,
         masks,
         rows,
+        kept,
         joint,
+        dues,
+        standing,
+        shorter,
         limit,
     );
-    if i == limit {
-        return limit;
-    }
-    build_front(route, cuts, orders, masks, i, spare);
-    i
-}
-
-// When the head is left.
-fn head_clock(
-    locations: usize,
-    legs: &[u32],
-    depot: u32,
-    route: &[u32],
-    forward: &[u64; 512],
-    cuts: &[usize],
-) -> u64
-    requires { ⌜ HeadTimed locations (now legs) depot (now route) (now forward) (now cuts) ⌝ }
-    ensures { λ r. ⌜ HeadClock locations (now (legs .entry)) depot (now (route .entry)) (now (cuts .entry)) r ⌝ }
-{
-    let first = cuts[0];
-    if first == 0 {
-        return 0;
-    }
-    let inside = forward[first - 1];
-    costs::route_distance(locations, legs, depot, route[0]) + inside
-}
-
-// As `first_gain`, for a route that keeps every deadline: only the middle of a candidate is judged, by the dues of its states.
-pub fn first_gain_due(
-    locations: usize,
-    legs: &[u32],
-    latest: &[u32],
-    depot: u32,
-    route: &[u32],
-    forward: &[u64; 512],
-    backward: &[u64; 512],
-    cuts: &[usize],
-    orders: &[u8],
-    masks: &[u8],
-    rows: &[u8; 1532],
-    joint: &mut [u64; 160],
-    spare: &mut [u32; 512],
-    dues: &[u64; 9],
-    limit: usize,
-) -> usize
-    requires { ⌜ DueGainable locations (now legs) (now latest) depot (now route) (now forward) (now backward) (now cuts) (now orders) (now masks) (now rows) (now joint) (now spare) (now dues) limit ⌝ }
-    ensures { λ r. ⌜ Gained (problem locations (now (legs .entry)) (now (latest .entry)) depot) (pattern-rows (length (now (cuts .entry))) (now (orders .entry)) (now (masks .entry))) (length (now (cuts .entry))) (now (route .entry)) (now (cuts .entry)) limit r (now (joint .exit)) (now (spare .exit)) ⌝ }
-{
-    joints::fill_joint(
-        locations,
-        legs,
-        depot,
-        route,
-        forward,
-        backward,
-        cuts,
-        joint,
-    );
-    let clock = head_clock(locations, legs, depot, route, forward, cuts);
-    let i = first_due(joint, rows, dues, cuts.len(), clock, limit);
     if i == limit {
         return limit;
     }

@@ -14,7 +14,7 @@ within : (s : tie.Start) → s .args .i * (length (s .args .cuts .now) + 1) + (l
 within s = lent-within (length (s .args .cuts .now)) (s .args .orders .now) (s .args .masks .now) (s .args .i) (s .pre .of .patterns .long) (s .pre .of .listed)
 
 add-width : tie.Need-add-width
-add-width c = search needs
+add-width c = omega (arith, c .before .before .before .before .before .pre .of .cut-set .most)
 
 mul-at : tie.Need-mul-at
 mul-at c = omega (arith, within (c .before .before .before .before .before))
@@ -23,7 +23,7 @@ add-end : tie.Need-add-end
 add-end c = omega (arith, within (c .before .before .before .before .before))
 
 sub-reconnect : tie.Need-sub-reconnect
-sub-reconnect c = search needs
+sub-reconnect c = omega arith
 
 part-reconnect-start : tie.Need-part-reconnect-start
 part-reconnect-start c = search needs
@@ -32,7 +32,7 @@ part-reconnect-end : tie.Need-part-reconnect-end
 part-reconnect-end c = within (c .before .before .before .before .before)
 
 shared-slice-read-reconnect : tie.Need-shared-slice-read-reconnect
-shared-slice-read-reconnect c = search needs
+shared-slice-read-reconnect c = c .before .before .before .before .before .before .before .pre .of .listed
 
 reconnect-requires : tie.Need-reconnect-requires
 reconnect-requires c κs =

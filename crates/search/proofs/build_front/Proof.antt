@@ -1,13 +1,12 @@
 -- `search::build_front` meets its contract: what stands at the front of `spare` is the candidate. Assumes nothing.
+use mathlib.Core.Path.{sym, _∙_}
 use native.Mathlib.Omega.{arith}
-use mathlib.Core.Path.{sym}
-use borrow.Author.Needs.{needs}
 use Rattle.search.proofs.Candidate.{room, built-front}
 use Rattle.search.proofs.build_front.Statement.{statement}
 use Rattle.search.proofs.build_front.Tie as tie
 
 slice-relend-prefix-build-candidate : tie.Need-slice-relend-prefix-build-candidate
-slice-relend-prefix-build-candidate c = search needs
+slice-relend-prefix-build-candidate c = let s = c .before .before .before .before .before in omega (arith, s .pre .places, s .pre .of .cut-set .short)
 
 slice-aggregate-build-candidate : tie.Need-slice-aggregate-build-candidate
 slice-aggregate-build-candidate c = sym (room (c .before .before .before .before .before .before .pre))
@@ -16,7 +15,7 @@ build-candidate-requires : tie.Need-build-candidate-requires
 build-candidate-requires c κs = let s = c .before .before .before .before .before .before in record { of = s .pre .of; room = room (s .pre) }
 
 same-length : tie.Need-same-length
-same-length c = search needs
+same-length c = let s = c .before .before .before .before .before .before .before .before .before in built-front (s .pre) (c .before .before .build-candidate .ensures) .places ∙ sym (s .pre .places)
 
 returns : tie.Need-returns
 returns c = let s = c .before .before .before .before .before .before .before .before .before in built-front (s .pre) (c .before .before .build-candidate .ensures)

@@ -5,66 +5,51 @@ use Prim.Native.Nat.{ℕ, _+_, _-_, _≤_, _<_}
 use Rattle.joints.specs.States.{row}
 use Rattle.joints.specs.JointTable.{chain}
 use Rattle.search.specs.Gain.{due-gain}
-use Rattle.search.proofs.FirstDue.{chains-from, row-timed, due-passed, due-late, due-found, due-not-found}
+use Rattle.search.proofs.FirstDue.{chains-from, row-timed, due-passed, due-first, due-late, due-found, due-not-found}
 use native.Mathlib.Omega.{arith}
-use borrow.Author.Needs.{needs}
 use Rattle.search.proofs.first_due.Statement.{statement}
 use Rattle.search.proofs.first_due.Tie as tie
 
 abbrev Inv-loop : tie.InvT-loop
-Inv-loop joint rows dues k clock limit m standing i₀ i =
-    (i ≤ limit) × ((x : ℕ) → x < i → due-gain joint rows dues k clock x ≡ false) × (i < limit → chain joint 9 (row rows i) < standing)
+Inv-loop joint rows dues m clock below shorter limit i₀ i =
+    (i ≤ limit) × ((x : ℕ) → x < i → due-gain joint rows dues m clock below x ≡ false) × (i < limit → chain joint 9 (row rows i) < below)
 
 abbrev μ-loop : tie.MeasureT-loop
-μ-loop joint rows dues k clock limit m standing i₀ i = limit - i
-
-sub-m : tie.Need-sub-m Inv-loop μ-loop
-sub-m c = search needs
-
-standing-cost-requires : tie.Need-standing-cost-requires Inv-loop μ-loop
-standing-cost-requires c κs = search needs
-
-next-shorter-requires : tie.Need-next-shorter-requires Inv-loop μ-loop
-next-shorter-requires c κs = chains-from (c .before .pre) 0 (omega arith)
+μ-loop joint rows dues m clock below shorter limit i₀ i = limit - i
 
 loop-holds : tie.Need-loop-holds Inv-loop μ-loop
-loop-holds c =
-    let s = c .before .before in
-    let n = c .next-shorter .ensures in
-    (n .most, due-passed (s .pre) _ 0 (c .before .standing-cost .ensures) (λ x h. absurd (omega arith)) n, n .shorter)
+loop-holds c = (c .pre .first .most, due-first (c .pre), c .pre .first .shorter)
 
 row-in-time-requires : tie.Need-row-in-time-requires Inv-loop μ-loop
-row-in-time-requires c κs = row-timed (c .before .before .before .before .pre) (c .before .loop .i) (c .loop-test .taken)
+row-in-time-requires c κs = row-timed (c .before .before .pre) (c .before .loop .i) (c .loop-test .taken)
 
 returns : tie.Need-returns Inv-loop μ-loop
 returns c =
-    let s = c .before .before .before .before .before .before in
     let l = c .before .before .before .loop in
     let h = c .before .before .loop-test .taken in
-    due-found (s .pre) _ (l .i) (c .before .before .before .before .before .standing-cost .ensures) h (l .inv .2 h) (l .inv .1) (rw (c .if1 .taken) at (c .before .row-in-time .ensures))
+    due-found (c .before .before .before .before .pre) (l .i) h (l .inv .2 h) (l .inv .1) (rw (c .if1 .taken) at (c .before .row-in-time .ensures))
 
 add-next-shorter : tie.Need-add-next-shorter Inv-loop μ-loop
-add-next-shorter c = let s = c .before .before .before .before .before .before in omega (arith, c .before .before .loop-test .taken, s .pre .chains .few)
+add-next-shorter c = omega (arith, c .before .before .loop-test .taken, c .before .before .before .before .pre .chains .few)
 
-next-shorter-requires-2 : tie.Need-next-shorter-requires-2 Inv-loop μ-loop
-next-shorter-requires-2 c κs = let s = c .before .before .before .before .before .before in chains-from (s .pre) (c .before .before .before .loop .i + 1) (omega (arith, c .before .before .loop-test .taken))
+next-shorter-requires : tie.Need-next-shorter-requires Inv-loop μ-loop
+next-shorter-requires c κs = chains-from (c .before .before .before .before .pre) (c .before .before .before .loop .i + 1) (omega (arith, c .before .before .loop-test .taken))
 
 loop-less : tie.Need-loop-less Inv-loop μ-loop
-loop-less c = let n = c .next-shorter2 .ensures in omega (arith, n .least, n .most, c .before .before .before .loop-test .taken)
+loop-less c = let n = c .next-shorter .ensures in omega (arith, n .least, n .most, c .before .before .before .loop-test .taken)
 
 loop-again : tie.Need-loop-again Inv-loop μ-loop
 loop-again c =
-    let s = c .before .before .before .before .before .before .before in
+    let s = c .before .before .before .before .before in
     let l = c .before .before .before .before .loop in
-    let n = c .next-shorter2 .ensures in
+    let n = c .next-shorter .ensures in
     let late = rw (c .before .if1 .left) at (c .before .before .row-in-time .ensures) in
-    (n .most, due-passed (s .pre) _ (l .i + 1) (c .before .before .before .before .before .before .standing-cost .ensures) (due-late (s .pre) (l .i) late (l .inv .1)) n, n .shorter)
+    (n .most, due-passed (s .pre) (l .i + 1) (due-late (s .pre) (l .i) late (l .inv .1)) n, n .shorter)
 
 returns-2 : tie.Need-returns-2 Inv-loop μ-loop
 returns-2 c =
-    let s = c .before .before .before .before in
     let l = c .before .loop in
-    due-not-found (s .pre) (l .i) (c .loop-test .left) (l .inv .0) (l .inv .1)
+    due-not-found (c .before .before .pre) (l .i) (c .loop-test .left) (l .inv .0) (l .inv .1)
 
 pub first-due-spec : {M : Type 1} → statement M
 first-due-spec =
@@ -72,14 +57,11 @@ first-due-spec =
     (tie.spec
     Inv-loop
     μ-loop
-    sub-m
-    standing-cost-requires
-    next-shorter-requires
     loop-holds
     row-in-time-requires
     returns
     add-next-shorter
-    next-shorter-requires-2
+    next-shorter-requires
     loop-less
     loop-again
     returns-2)

@@ -1,13 +1,13 @@
--- `search::walk_head` meets its contract: the head lies before the first cut. Assumes nothing.
+-- `walking::walk_head` meets its contract: the head lies before the first cut. Assumes nothing.
 use Prim.Native.Nat.{_-_}
 use native.Mathlib.Omega.{arith}
 use lib.ListN.{getD}
 use Rattle.theory.specs.Route.{reverse-if}
 use borrow.Author.Needs.{needs}
 use Rattle.costs.proofs.Segments.{cut-below}
-use Rattle.search.proofs.Parts.{head-lent, part-stops}
-use Rattle.search.proofs.walk_head.Statement.{statement}
-use Rattle.search.proofs.walk_head.Tie as tie
+use Rattle.walking.proofs.Parts.{head-lent, part-stops}
+use Rattle.walking.proofs.walk_head.Statement.{statement}
+use Rattle.walking.proofs.walk_head.Tie as tie
 
 shared-slice-read-end : tie.Need-shared-slice-read-end
 shared-slice-read-end c = search needs

@@ -2,15 +2,15 @@
 -- each stop of the tail is reached sooner. Assumes nothing.
 use mathlib.Core.Path.{_≡_, refl, sym, ap, _∙_}
 use mathlib.Core.Bool.{Bool, true, false, _&&_, and-eq-true-iff}
-use mathlib.Core.List.{List, [], _∷_, _++_, flatten, append-assoc}
-use Prim.Native.Nat.{ℕ, zero, suc, _+_, _-_, _*_, _^_, _≤_, _<_}
+use mathlib.Core.List.{List, [], _∷_, _++_, append-assoc}
+use Prim.Native.Nat.{ℕ, zero, suc, _+_, _-_, _^_, _≤_, _<_}
 use native.Mathlib.Omega.{arith}
 use native.Mathlib.Nat.{pow-suc}
-use lib.Dec.{leb, ltb}
+use lib.Dec.{leb}
 use lib.ListN.{length}
-use borrow.Author.Tests.{leb-true, le-leb, ltb-true}
+use borrow.Author.Tests.{leb-true, le-leb}
 use Rattle.theory.specs.Moves.{Pattern, upfrom}
-use Rattle.theory.specs.Route.{Problem, segments, joined, reconnected, path, tour-length, feasible}
+use Rattle.theory.specs.Route.{Problem, segments, reconnected, path, tour-length, feasible}
 use Rattle.theory.specs.Costs.{last-of}
 use Rattle.theory.specs.Tables.{CutSet, ForK}
 use Rattle.theory.proofs.Clock.{on-time, feasible-on-time}
@@ -18,8 +18,8 @@ use Rattle.theory.proofs.Costs.{path-append}
 use Rattle.theory.proofs.Delta.{changes-nothing}
 use Rattle.theory.proofs.Route.{flatten-segments, length-segments}
 use Rattle.deadlines.proofs.Walking.{on-time-append}
-use Rattle.search.specs.Parts.{head, middle, tail, after-head}
-use Rattle.search.proofs.Parts.{candidate-parts}
+use Rattle.walking.specs.Parts.{head, middle, tail, after-head}
+use Rattle.walking.proofs.Parts.{candidate-parts}
 
 -- ---- sooner is on time
 

@@ -1,12 +1,12 @@
--- `search::walk_segment` meets its contract: a middle segment lies between two cuts. Assumes nothing.
+-- `walking::walk_segment` meets its contract: a middle segment lies between two cuts. Assumes nothing.
 use Prim.Native.Nat.{_-_, _≤_, _<_}
 use native.Mathlib.Omega.{arith}
 use lib.ListN.{length, getD}
 use borrow.Author.Needs.{needs}
 use Rattle.costs.proofs.Segments.{cut-below, segment-filled}
-use Rattle.search.proofs.Parts.{segment-lent, part-stops}
-use Rattle.search.proofs.walk_segment.Statement.{statement}
-use Rattle.search.proofs.walk_segment.Tie as tie
+use Rattle.walking.proofs.Parts.{segment-lent, part-stops}
+use Rattle.walking.proofs.walk_segment.Statement.{statement}
+use Rattle.walking.proofs.walk_segment.Tie as tie
 
 -- The cuts before and behind the segment.
 bounds : (s : tie.Start) → (getD (s .args .cuts .now) (s .args .segment - 1) 0 < getD (s .args .cuts .now) (s .args .segment) 0) × (getD (s .args .cuts .now) (s .args .segment) 0 ≤ length (s .args .route .now))

@@ -1,16 +1,16 @@
--- `search::walk_middle` meets its contract. The invariant: the segments to come decide, from the stop before and the second of the clock. Assumes nothing.
+-- `walking::walk_middle` meets its contract. The invariant: the segments to come decide, from the stop before and the second of the clock. Assumes nothing.
 use mathlib.Core.Path.{refl}
-use Prim.Native.Nat.{ℕ, _+_, _-_, _*_, _≤_, _<_}
+use Prim.Native.Nat.{_-_, _*_, _≤_, _<_}
 use native.Mathlib.Omega.{arith}
 use lib.ListN.{length}
 use Rattle.theory.specs.Tables.{problem}
 use Rattle.deadlines.proofs.Walking.{Going, part-walked, part-late, arrived}
-use Rattle.search.specs.Parts.{middle}
-use Rattle.search.proofs.Parts.{rest, begun, rest-cons, rest-end}
+use Rattle.walking.specs.Parts.{middle}
+use Rattle.walking.proofs.Parts.{rest, begun, rest-cons, rest-end}
 use borrow.Author.Needs.{needs}
 use borrow.Author.Tests.{not-true, not-false}
-use Rattle.search.proofs.walk_middle.Statement.{statement}
-use Rattle.search.proofs.walk_middle.Tie as tie
+use Rattle.walking.proofs.walk_middle.Statement.{statement}
+use Rattle.walking.proofs.walk_middle.Tie as tie
 
 abbrev Inv-loop : tie.InvT-loop
 Inv-loop locations legs latest route cuts order mask from clock last₀ seconds₀ position₀ last seconds position =

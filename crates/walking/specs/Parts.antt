@@ -1,6 +1,5 @@
 -- A candidate part by part, as its deadlines are walked: the head, the middle segments as the pattern places them, the tail.
 use mathlib.Core.Path.{_≡_}
-use mathlib.Core.Bool.{Bool}
 use mathlib.Core.List.{List, [], _++_, flatten}
 use Prim.Native.Nat.{ℕ, _*_, _≤_, _<_}
 use lib.ListN.{length, getD}
@@ -8,11 +7,10 @@ use lib.Seq.{slice}
 use Rattle.theory.specs.Moves.{Pattern}
 use Rattle.theory.specs.Route.{Problem, path, segments, placed}
 use Rattle.theory.specs.Costs.{forward}
-use Rattle.theory.specs.Tables.{LegTable, Stops, Measurable, CutSet}
+use Rattle.theory.specs.Tables.{LegTable, Stops, Measurable, CutSet, PatternRows}
 use Rattle.costs.specs.RouteCosts.{Middle, Sums, leg}
 use Rattle.deadlines.specs.Walk.{Walks}
 use Rattle.deadlines.specs.declared.Walked.{Walked}
-use Rattle.search.specs.Candidate.{Candidate}
 
 abbrev pub head : List ℕ → List ℕ → List ℕ
 head route cuts = getD (segments 0 cuts route) 0 []
@@ -52,6 +50,12 @@ pub record WalkedMiddle (locations : ℕ) (P : Problem) (from clock : ℕ) (part
   pub walks : Walks P from clock part r
   pub known : r .last < locations
   pub early : r .clock ≤ 5 * 512 * 1000000
+
+-- The cut set and the pattern that make a candidate.
+pub record Candidate (route cuts orders masks : List ℕ) (i : ℕ) : Type 0 where
+  pub cut-set : CutSet (length cuts) (length route) cuts
+  pub patterns : PatternRows (length cuts) orders masks
+  pub listed : i < length masks
 
 -- A pattern's candidate, walked from the head's end.
 pub record CandidateWalk (locations : ℕ) (legs latest route cuts orders masks : List ℕ) (i from clock : ℕ) : Type 0 where

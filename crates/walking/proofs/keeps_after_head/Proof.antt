@@ -1,14 +1,14 @@
--- `search::keeps_after_head` meets its contract: the middle segments, and then the tail. Assumes nothing.
+-- `walking::keeps_after_head` meets its contract: the middle segments, and then the tail. Assumes nothing.
 use mathlib.Core.Path.{sym, _∙_}
 use Prim.Native.Nat.{_+_, _*_, _≤_}
 use native.Mathlib.Omega.{arith}
 use lib.ListN.{length}
 use borrow.Author.Needs.{needs}
 use borrow.Author.Tests.{not-true, not-false}
-use Rattle.theory.proofs.Rows.{lent-row, lent-within}
-use Rattle.search.proofs.Candidate.{lent-middle, kept-behind, late-behind}
-use Rattle.search.proofs.keeps_after_head.Statement.{statement}
-use Rattle.search.proofs.keeps_after_head.Tie as tie
+use Rattle.theory.proofs.Rows.{lent-within}
+use Rattle.walking.proofs.Candidate.{lent-middle, kept-behind, late-behind}
+use Rattle.walking.proofs.keeps_after_head.Statement.{statement}
+use Rattle.walking.proofs.keeps_after_head.Tie as tie
 
 -- The order that is lent lies among the orders.
 within : (s : tie.Start) → s .args .i * (length (s .args .cuts .now) + 1) + (length (s .args .cuts .now) + 1) ≤ length (s .args .orders .now)

@@ -1,13 +1,13 @@
--- `search::keeps_tail` meets its contract: the tail lies behind the last cut. Assumes nothing.
+-- `walking::keeps_tail` meets its contract: the tail lies behind the last cut. Assumes nothing.
 use Prim.Native.Nat.{_-_}
 use native.Mathlib.Omega.{arith}
 use lib.ListN.{length, getD}
 use Rattle.theory.specs.Route.{reverse-if}
 use borrow.Author.Needs.{needs}
 use Rattle.costs.proofs.Segments.{last-cut}
-use Rattle.search.proofs.Parts.{tail-lent, part-stops}
-use Rattle.search.proofs.keeps_tail.Statement.{statement}
-use Rattle.search.proofs.keeps_tail.Tie as tie
+use Rattle.walking.proofs.Parts.{tail-lent, part-stops}
+use Rattle.walking.proofs.keeps_tail.Statement.{statement}
+use Rattle.walking.proofs.keeps_tail.Tie as tie
 
 sub-start : tie.Need-sub-start
 sub-start c = search needs

@@ -1,24 +1,23 @@
--- `search::head_clock` meets its contract: the leg to the first stop, and the running sum at the head's last. Assumes nothing.
+-- `walking::head_clock` meets its contract: the leg to the first stop, and the running sum at the head's last. Assumes nothing.
 use mathlib.Core.Path.{_≡_, refl}
 use Prim.Native.Nat.{ℕ, _<_}
 use lib.ListN.{length}
-use Rattle.search.proofs.DueGain.{first-within, no-head, some-head}
+use Rattle.walking.proofs.Head.{first-within, no-head, some-head}
 use native.Mathlib.Omega.{arith}
-use borrow.Author.Needs.{needs}
-use Rattle.search.proofs.head_clock.Statement.{statement}
-use Rattle.search.proofs.head_clock.Tie as tie
+use Rattle.walking.proofs.head_clock.Statement.{statement}
+use Rattle.walking.proofs.head_clock.Tie as tie
 
 positive : {n : ℕ} → (n ≡ 0 → ⊥) → 0 < n
 positive h = omega arith
 
 shared-slice-read-first : tie.Need-shared-slice-read-first
-shared-slice-read-first c = search needs
+shared-slice-read-first c = omega (arith, c .before .before .before .before .pre .cut-set .least)
 
 returns : tie.Need-returns
 returns c = no-head (c .before .before .before .before .before .pre) (c .if1 .taken)
 
 sub-inside : tie.Need-sub-inside
-sub-inside c = search needs
+sub-inside c = positive (c .if1 .left)
 
 mul-inside : tie.Need-mul-inside
 mul-inside c = omega (arith, first-within (c .before .before .before .before .before .pre), c .before .before .before .before .before .pre .cut-set .short)

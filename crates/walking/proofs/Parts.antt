@@ -1,7 +1,7 @@
 -- A candidate part by part: where its parts lie in the route, and what their walks say of its deadlines. Assumes nothing.
 use mathlib.Core.Path.{_≡_, refl, sym, ap, _∙_}
-use mathlib.Core.Bool.{Bool, true, false, _&&_}
-use mathlib.Core.List.{List, [], _∷_, _++_, map, flatten, append-assoc, append-nil}
+use mathlib.Core.Bool.{Bool, true, false}
+use mathlib.Core.List.{List, [], _∷_, _++_, flatten, append-assoc, append-nil}
 use Prim.Native.Nat.{ℕ, zero, suc, _+_, _-_, _*_, _^_, _≤_, _<_, min}
 use native.Mathlib.Nat.{pow-suc}
 use native.Mathlib.Numerals.{add-one}
@@ -9,8 +9,7 @@ use native.Mathlib.Omega.{arith}
 use lib.ListN.{length, getD, take, drop, length-take, length-drop}
 use lib.Seq.{slice, slice-cons, slice-empty, take-all, getD-take, getD-drop}
 use Rattle.theory.specs.Moves.{Pattern}
-use Rattle.theory.specs.Route.{Problem, segments, reverses, reverse-if, placed, joined, reconnected, path, feasible}
-use Rattle.theory.specs.Costs.{last-of}
+use Rattle.theory.specs.Route.{segments, reverses, reverse-if, placed, joined, reconnected, feasible}
 use Rattle.theory.specs.Tables.{problem, Stops, CutSet, ForK}
 use Rattle.theory.proofs.Clock.{on-time, feasible-on-time}
 use Rattle.theory.proofs.Delta.{even-head, small-tail}
@@ -19,7 +18,7 @@ use Rattle.costs.proofs.Segments.{segment-is}
 use Rattle.deadlines.specs.declared.Walked.{Walked}
 use Rattle.deadlines.specs.Walk.{Walks}
 use Rattle.deadlines.proofs.Walking.{Going, set-out, part-walked, part-late, any-depot}
-use Rattle.search.specs.Parts.{head, middle, tail, after-head}
+use Rattle.walking.specs.Parts.{head, middle, tail, after-head}
 
 -- ---- where the parts lie
 

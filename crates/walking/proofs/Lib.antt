@@ -1,0 +1,4 @@
+pub mod Parts
+pub mod Candidate
+pub mod MiddleOnly
+pub mod Head
