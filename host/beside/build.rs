@@ -1,5 +1,6 @@
 //! Finds the Rust sources and tells the compiler where they are.
 //! The sources are compiled where they lie; only their paths are written down.
+//! The library's scan is written down too, as the Rust that it is without its contracts, with a call that counts.
 
 use std::path::{Path, PathBuf};
 use std::process::ExitCode;
@@ -21,6 +22,29 @@ const RUST_FILES: [(&str, &str); 7] = [
 /// Included as it stands in a module that has the names it uses, as the Rust does.
 const INCLUDED: (&str, &str) = ("iter", "heuristic/selector/move_selector/iter.rs");
 
+/// The crates of the scan, low to high.
+const SCAN_CRATES: [&str; 15] = [
+    "theory",
+    "patterns",
+    "cuts",
+    "reconnection",
+    "costs",
+    "deadlines",
+    "joints",
+    "shared",
+    "room",
+    "walking",
+    "dues",
+    "search",
+    "stretches",
+    "scanning",
+    "polishing",
+];
+
+/// Where the scan counts the cut sets passed over, and what is put behind it.
+const PASSED: &str = "examined += over;";
+const COUNTED: &str = "crate::share::count(hit - cuts[last], hit <= route.len());";
+
 fn main() -> ExitCode {
     match prepare() {
         Ok(()) => ExitCode::SUCCESS,
@@ -34,7 +58,8 @@ fn main() -> ExitCode {
 fn prepare() -> Result<(), String> {
     let beside = PathBuf::from(variable("CARGO_MANIFEST_DIR")?);
     println!("cargo:rerun-if-changed=build.rs");
-    name_sources(&beside.join("../../../shared/docs/src"))
+    name_sources(&beside.join("../../../shared/docs/src"))?;
+    write_scan(&beside.join("../../crates"))
 }
 
 fn variable(name: &str) -> Result<String, String> {
@@ -72,4 +97,37 @@ fn write_down(module: &str, declaration: &str) -> Result<(), String> {
     let out = PathBuf::from(variable("OUT_DIR")?);
     fs::write(out.join(format!("{module}.rs")), declaration)
         .map_err(|fault| format!("{module}: {fault}"))
+}
+
+/// The scan's crates as modules.
+fn write_scan(crates: &Path) -> Result<(), String> {
+    let mut modules = String::new();
+    for name in SCAN_CRATES {
+        let path = found(&crates.join(name).join("src/lib.rt"))?;
+        let source =
+            fs::read_to_string(&path).map_err(|fault| format!("{}: {fault}", path.display()))?;
+        modules += &format!("pub mod {name} {{\nuse super::*;\n{}}}\n", code_of(&source));
+    }
+    if modules.matches(PASSED).count() != 1 {
+        return Err(format!("the scan has no single line {PASSED:?}"));
+    }
+    write_down(
+        "scan",
+        &modules.replace(PASSED, &format!("{PASSED} {COUNTED}")),
+    )
+}
+
+/// The source without its contracts; what it uses stands beside it.
+fn code_of(source: &str) -> String {
+    let contract = ["ghost use ", "requires {", "ensures {"];
+    let kept = source.lines().filter(|line| {
+        !contract
+            .iter()
+            .any(|start| line.trim_start().starts_with(start))
+    });
+    kept.map(|line| match line.strip_prefix("use ") {
+        Some(path) => format!("use super::{path}\n"),
+        None => format!("{line}\n"),
+    })
+    .collect()
 }

@@ -32,5 +32,6 @@ pub mod polish;
 pub mod random;
 pub mod rules;
 pub mod run;
+pub mod share;
 pub mod tables;
 pub mod trial;

@@ -8,6 +8,7 @@
 use beside::draw::plane;
 use beside::polish::case::Case;
 use beside::random::Random;
+use beside::share::{share, Counted};
 use beside::tables::Tables;
 use beside::trial::{judge, Trial};
 use beside::{ffi, nearby, oracle, run};
@@ -46,8 +47,8 @@ fn same(trial: &dyn Trial) -> Result<(), String> {
 
 fn polishing() -> Result<(), String> {
     println!("Polishing\n");
-    println!("| k | stops | table | accepted a call | Rust ns | library ns | library / Rust |");
-    println!("|---|---|---|---|---|---|---|");
+    println!("| k | stops | table | accepted a call | sets passed over | Rust ns | library ns | library / Rust |");
+    println!("|---|---|---|---|---|---|---|---|");
     for k in 2..=5 {
         for stops in SIZES {
             for kind in KINDS {
@@ -56,11 +57,27 @@ fn polishing() -> Result<(), String> {
                 let timed = timed(&mut || polish_by_rust(&case), &mut || {
                     polish_by_library(&case)
                 });
-                println!("| {k} | {stops} | {kind} | {} | {} |", timed.0, timed.1);
+                let passed = 100.0 * passed_over(&case)?;
+                println!(
+                    "| {k} | {stops} | {kind} | {} | {passed:.1} % | {} |",
+                    timed.0, timed.1
+                );
             }
         }
     }
     Ok(())
+}
+
+/// The share of cut sets passed over, counted beside; what is counted so must be what the library counts.
+fn passed_over(case: &Case) -> Result<f64, String> {
+    let (_, examined, accepted) = polish_by_library(case);
+    let by_library = Counted { examined, accepted };
+    let (counted, passed) = share(case);
+    if counted == by_library {
+        Ok(passed)
+    } else {
+        Err(format!("{counted:?} where the library has {by_library:?}"))
+    }
 }
 
 fn runs() -> Result<(), String> {
