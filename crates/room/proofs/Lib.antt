@@ -5,4 +5,3 @@ pub mod Cost
 pub mod NoGain
 pub mod Minima
 pub mod Testing
-pub mod NextCuts

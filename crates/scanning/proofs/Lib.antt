@@ -1,3 +1,4 @@
 mod Scanning
+mod NextCuts
 mod Passing
 mod Taking

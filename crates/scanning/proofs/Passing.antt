@@ -5,14 +5,13 @@ use mathlib.Core.Option.{Option, none, some}
 use mathlib.Core.List.{List, [], _∷_, _++_}
 use Prim.Native.Nat.{ℕ, zero, suc, _+_, _-_, _*_, _≤_, _<_}
 use native.Mathlib.Omega.{arith}
-use native.Mathlib.Nat.{suc-mul, mul-pos, mul-le-mul-right}
+use native.Mathlib.Nat.{suc-mul, mul-pos}
 use native.Mathlib.Decide.{decLt}
-use lib.Dec.{ltb}
 use lib.ListN.{length, take}
 use Rattle.theory.specs.Scan.{improves}
 use Rattle.theory.specs.Moves.{next-cuts}
 use Rattle.theory.specs.Costs.{forward, backward}
-use Rattle.theory.specs.Route.{reconnected, feasible, tour-length}
+use Rattle.theory.specs.Route.{reconnected, feasible}
 use Rattle.theory.specs.Polish.{search-of, polish-with, move-at}
 use Rattle.theory.specs.Tables.{problem, Stops, CutSet, pattern-rows}
 use Rattle.theory.proofs.Stops.{stops-rearranged}
@@ -23,10 +22,11 @@ use Rattle.costs.proofs.Segments.{cut-below}
 use Rattle.joints.specs.JointTable.{Padded}
 use Rattle.shared.specs.Kept.{Opened, first-cuts, last-cut}
 use Rattle.shared.proofs.Keeping.{cuts-parted, first-many}
-use Rattle.room.proofs.NextCuts.{next-last, next-opened}
 use Rattle.stretches.specs.declared.Stretch.{Stretch}
 use Rattle.stretches.specs.Stretch.{Stretchable, Stretched}
+use Rattle.stretches.proofs.Counting.{count-least, count-next}
 use Rattle.scanning.specs.Loop.{Scannable}
+use Rattle.scanning.proofs.NextCuts.{next-last, next-opened}
 use Rattle.scanning.proofs.Scanning.{At, many, for-cuts, timed, own-cuts, own-rows, own-states, first-set}
 
 -- The first cut set is the first with its first cuts.
@@ -43,14 +43,6 @@ first-opened (suc (suc (suc (suc (suc (suc k)))))) h l = absurd (omega arith)
 both-true : (a b : Bool) → (a && b) ≡ true → a ≡ true
 both-true true b h = refl
 both-true false b h = h
-
-count-least : (a c d m : ℕ) → c ≤ d → (c - a) * m ≤ (d - a) * m
-count-least a c d m h = let l : c - a ≤ d - a = omega arith in mul-le-mul-right m l
-
-count-next : (a c m : ℕ) → a ≤ c → (c - a) * m + m ≡ (suc c - a) * m
-count-next a c m h =
-    let e : suc c - a ≡ suc (c - a) = omega arith in
-    sym (ap (λ n. n * m) e ∙ suc-mul (c - a) m)
 
 module _ (k locations : ℕ) (legs latest : List ℕ) (depot : ℕ) (orders masks rows route₀ : List ℕ) (A : ℕ) (ok : Scannable k locations legs latest depot orders masks rows route₀) where
   as-many : length (pattern-rows k orders masks) ≡ length masks
@@ -172,7 +164,7 @@ module _ (k locations : ℕ) (legs latest : List ℕ) (depot : ℕ) (orders mask
           let z : last-cut cuts + (t - last-cut cuts) ≡ t = omega arith in
           rw z at
           (run-over (t - last-cut cuts) (last-cut cuts) e here
-          (λ u p q x y. idle u x p (omega arith) y (omega (arith, n, count-next (last-cut cuts) u (length masks) p, count-least (last-cut cuts) (suc u) t (length masks) (omega arith))))
+          (λ u p q x y. idle u x p (omega arith) y (omega (arith, n, count-next (last-cut cuts) u (length masks) p, count-least (last-cut cuts) (u + 1) t (length masks) (omega arith))))
           (omega (arith, n, end .allowed, below)) (omega (arith, same)))
 
       pub in-allowance : e + answer .examined ≤ A
@@ -241,9 +233,7 @@ module _ (k locations : ℕ) (legs latest : List ℕ) (depot : ℕ) (orders mask
         cuts-then = rw (end .over w .1) (own-cuts k locations legs latest depot orders masks rows route₀ A ok (first-cuts cuts ++ (length r ∷ [])) _ c r at-last)
 
         all : e + (length r - last-cut cuts) * length masks + length masks ≡ e + answer .examined
-        all =
-            let z : suc (length r) - last-cut cuts ≡ length r + 1 - last-cut cuts = omega arith in
-            omega (arith, over, count-next (last-cut cuts) (length r) (length masks) last-below, ap (λ n. n * length masks) z)
+        all = omega (arith, over, count-next (last-cut cuts) (length r) (length masks) last-below)
 
         last-idle : (x : ℕ) → x < length masks → improves-at (length r) x ≡ false
         last-idle x h = idle (length r) x last-below (omega arith) h (omega (arith, all))

@@ -3,7 +3,7 @@ use mathlib.Core.Path.{_≡_, refl}
 use mathlib.Core.List.{List, [], _∷_}
 use Prim.Native.Nat.{ℕ, zero, suc, _≤_}
 use native.Mathlib.Omega.{arith}
-use lib.ListN.{length, getD, take, replicate}
+use lib.ListN.{length, take}
 use Rattle.theory.specs.Moves.{upfrom}
 use Rattle.theory.specs.Polish.{ForCuts}
 use Rattle.theory.specs.Tables.{problem, Timed, CutSet, PatternRows, pattern-rows}
@@ -12,7 +12,6 @@ use Rattle.theory.proofs.ForK.{rows-for-cuts}
 use Rattle.theory.proofs.Stops.{stops-rearranged}
 use Rattle.theory.proofs.Polishing.{Polishing, begins, within, as-long}
 use Rattle.joints.specs.States.{StateRows}
-use Rattle.joints.specs.JointTable.{Padded}
 use Rattle.scanning.specs.Loop.{Scannable}
 
 -- The first cut set, as the array has it.
@@ -25,15 +24,6 @@ first-set (suc (suc (suc zero))) h = refl
 first-set (suc (suc (suc (suc zero)))) h = refl
 first-set (suc (suc (suc (suc (suc zero))))) h = refl
 first-set (suc (suc (suc (suc (suc (suc k)))))) h = absurd (omega arith)
-
--- The joint table before its first use.
-zero-at : (n c : ℕ) → _≡_ {A = ℕ} (getD (replicate n 0) c 0) 0
-zero-at zero c = refl
-zero-at (suc n) zero = refl
-zero-at (suc n) (suc c) = zero-at n c
-
-pub no-cells : Padded (replicate 160 0)
-no-cells = record { places = refl; padding = refl; small = λ c. rw (zero-at 160 c) (omega arith) }
 
 module _ (k locations : ℕ) (legs latest : List ℕ) (depot : ℕ) (orders masks rows route₀ : List ℕ) (A : ℕ) (ok : Scannable k locations legs latest depot orders masks rows route₀) where
   -- At cuts, with e examined and c accepted.

@@ -9,7 +9,7 @@ use native.Mathlib.Decide.{ℕ-discrete, decLt}
 use borrow.Author.Tests.{eq-eqb, ne-eqb, lt-ltb}
 use lib.Dec.{eqb}
 use lib.ListN.{length, getD, set, take, drop, replicate, length-set, length-append, length-map, length-replicate, take-append-drop}
-use lib.Seq.{getD-set-same, getD-set-other, drop-cons, length-take-le, getD-take, drop-length}
+use lib.Seq.{getD-set-same, getD-set-other, drop-cons, length-take-le, getD-take, drop-length, take-at, getD-at}
 use Rattle.theory.specs.Moves.{upfrom}
 use Rattle.theory.specs.Route.{segments}
 use Rattle.theory.specs.Costs.{last-of}
@@ -46,9 +46,19 @@ cuts-opened cuts h o =
     let e : length (first-cuts cuts) - 1 ≡ length cuts - 2 = omega arith in
     cuts-parted cuts (omega arith) ∙ ap (λ x. first-cuts cuts ++ (x ∷ [])) (o ∙ ap suc (sym (ap (λ i. getD (first-cuts cuts) i 0) e ∙ first-at cuts (length cuts - 2) (omega arith))))
 
+-- The first cuts with a last one put behind.
+long : (pre : List ℕ) (c : ℕ) → length (pre ++ (c ∷ [])) ≡ suc (length pre)
+long pre c = simp length-append (omega arith)
+
+pub first-of-cuts : (pre : List ℕ) (c : ℕ) → first-cuts (pre ++ (c ∷ [])) ≡ pre
+first-of-cuts pre c = take-at pre (c ∷ []) (length (pre ++ (c ∷ [])) - 1) (omega (arith, long pre c))
+
+pub last-of-cuts : (pre : List ℕ) (c : ℕ) → last-cut (pre ++ (c ∷ [])) ≡ c
+last-of-cuts pre c = getD-at pre c [] 0 (length (pre ++ (c ∷ [])) - 1) (omega (arith, long pre c))
+
 -- ---- the empty table
 
-zero-at : (n c : ℕ) → _≡_ {A = ℕ} (getD (replicate n 0) c 0) 0
+pub zero-at : (n c : ℕ) → _≡_ {A = ℕ} (getD (replicate n 0) c 0) 0
 zero-at zero c = refl
 zero-at (suc n) zero = refl
 zero-at (suc n) (suc c) = zero-at n c

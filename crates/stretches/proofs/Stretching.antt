@@ -5,7 +5,7 @@ use mathlib.Core.Logic.{inl}
 use mathlib.Core.List.{List, [], _∷_, _++_}
 use Prim.Native.Nat.{ℕ, zero, suc, min, _+_, _-_, _*_, _≤_, _<_}
 use native.Mathlib.Omega.{arith}
-use native.Mathlib.Nat.{zero-mul, suc-mul, add-mul, mul-le-mul-right}
+use native.Mathlib.Nat.{zero-mul}
 use native.Mathlib.Decide.{decLt}
 use lib.ListN.{length, getD, set, take, replicate, length-append}
 use lib.Seq.{set-at}
@@ -17,14 +17,13 @@ use Rattle.joints.specs.JointTable.{Padded}
 use Rattle.joints.specs.States.{row, states, pattern-row}
 use Rattle.shared.specs.Kept.{Cut, Kept, Places, first-cuts, last-cut}
 use Rattle.shared.specs.Filling.{Keepable, KeptNow}
-use Rattle.shared.proofs.Keeping.{cuts-parted, first-many}
+use Rattle.shared.proofs.Keeping.{cuts-parted, first-many, first-of-cuts, last-of-cuts, zero-at}
 use Rattle.room.specs.Tests.{Nextable, NextRoom}
 use Rattle.room.proofs.Shared.{other-cut, last-two}
-use Rattle.room.proofs.NextCuts.{first-of-cuts, last-of-cuts}
 use Rattle.dues.specs.Due.{DuesHeld}
 use Rattle.search.specs.Gain.{Findable, Found}
-use Rattle.stretches.specs.declared.Stretch.{Stretch}
 use Rattle.stretches.specs.Stretch.{Stretchable, Stretched, GainAt, improves-at}
+use Rattle.stretches.proofs.Counting.{count-to, count-next, count-least, up-to}
 
 -- At the last cut of `cuts`: the candidates before it are examined, and none improves the route.
 pub record Going (locations : ℕ) (legs latest : List ℕ) (depot : ℕ) (orders masks r cuts₀ : List ℕ) (left : ℕ) (cuts table spare dues : List ℕ) (examined : ℕ) : Type 0 where
@@ -40,11 +39,6 @@ pub record Going (locations : ℕ) (legs latest : List ℕ) (depot : ℕ) (order
   pub held : DuesHeld (problem locations legs latest 0) r (first-cuts cuts₀) dues
   pub behind : getD dues 8 0 ≤ last-cut cuts
 
-zero-at : (n c : ℕ) → _≡_ {A = ℕ} (getD (replicate n 0) c 0) 0
-zero-at zero c = refl
-zero-at (suc n) zero = refl
-zero-at (suc n) (suc c) = zero-at n c
-
 and-false : (b : Bool) → (b && false) ≡ false
 and-false true = refl
 and-false false = refl
@@ -53,37 +47,6 @@ and-false false = refl
 
 last-stored : (l : List ℕ) (v : ℕ) → 1 ≤ length l → set l (length l - 1) v ≡ first-cuts l ++ (v ∷ [])
 last-stored l v h = ap (λ z. set z (length l - 1) v) (cuts-parted l h) ∙ set-at (first-cuts l) (last-cut l) [] v (length l - 1) (first-many l)
-
--- ---- numbers of candidates, m to a cut set, from the last cut a on
-
--- The cut sets before the last cut c, and those from c to d.
-count-to : (a c d m : ℕ) → a ≤ c → c ≤ d → (c - a) * m + (d - c) * m ≡ (d - a) * m
-count-to a c d m h k =
-    let e : c - a + (d - c) ≡ d - a = omega arith in
-    sym (add-mul (c - a) (d - c) m) ∙ ap (λ n. n * m) e
-
--- One cut set more.
-count-next : (a c m : ℕ) → a ≤ c → (c - a) * m + m ≡ (c + 1 - a) * m
-count-next a c m h =
-    let e : c + 1 - a ≡ suc (c - a) = omega arith in
-    sym (ap (λ n. n * m) e ∙ suc-mul (c - a) m)
-
-count-least : (a c d m : ℕ) → c ≤ d → (c - a) * m ≤ (d - a) * m
-count-least a c d m h = let l : c - a ≤ d - a = omega arith in mul-le-mul-right m l
-
--- A candidate numbered below the first i at the last cut c stands before c, or is one of them.
-module _ (a c m i : ℕ) (h : a ≤ c) (few : i ≤ m) (B : ℕ → ℕ → Bool)
-    (before : (t x : ℕ) → a ≤ t → t < c → x < m → B t x ≡ false) (here : (x : ℕ) → x < i → B c x ≡ false) where
-  up-to : (t x : ℕ) → a ≤ t → x < m → (t - a) * m + x < (c - a) * m + i → B t x ≡ false
-  up-to t x l y n = by (decLt t c) (decLt c t)
-    where
-      by : Dec (t < c) → Dec (c < t) → B t x ≡ false
-      by (yes p) q = before t x l p y
-      by (no p) (yes q) = absurd (omega (arith, n, few, count-next a c m h, count-least a (c + 1) t m (omega arith)))
-      by (no p) (no q) =
-          let e : t ≡ c = omega arith in
-          let s : x < i = omega (arith, rw e at n) in
-          rw e (here x s)
 
 module _ {locations : ℕ} {legs latest : List ℕ} {depot : ℕ} {orders masks rows r forwards backwards : List ℕ} {kept : Bool} {cuts₀ table₀ spare₀ : List ℕ}
     (given : Stretchable locations legs latest depot orders masks rows r forwards backwards kept cuts₀ table₀ spare₀) where

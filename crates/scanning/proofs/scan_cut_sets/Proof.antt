@@ -16,7 +16,8 @@ use Rattle.theory.proofs.Polishing.{Polishing}
 use Rattle.costs.specs.RouteCosts.{leg, Sums}
 use Rattle.joints.specs.JointTable.{Padded}
 use Rattle.shared.specs.Kept.{Opened}
-use Rattle.scanning.proofs.Scanning.{no-cells, starts, below, same-size}
+use Rattle.shared.proofs.Keeping.{no-cells}
+use Rattle.scanning.proofs.Scanning.{starts, below, same-size}
 use Rattle.scanning.proofs.Passing.{first-opened, stretchable, in-allowance, room-for-it, begins-again, candidate-stops, then-kept, spent-now, some-examined, cuts-then, moves-on, ends-now}
 use Rattle.scanning.proofs.scan_cut_sets.Statement.{statement}
 use Rattle.scanning.proofs.scan_cut_sets.Tie as tie

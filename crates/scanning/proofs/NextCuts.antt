@@ -1,30 +1,22 @@
 -- The step to the next cut set moves the last cut alone, or ends in a cut set that is the first with its first cuts. Assumes nothing.
 use mathlib.Core.Path.{_≡_, refl, sym, ap, _∙_}
 use mathlib.Core.Bool.{Bool, true, false, false≢true}
-use mathlib.Core.Logic.{_⊎_, inl, inr}
 use mathlib.Core.Option.{Option, none, some}
 use mathlib.Core.List.{List, [], _∷_, _++_}
 use Prim.Native.Nat.{ℕ, zero, suc, _+_, _-_, _≤_, _<_}
 use native.Mathlib.Omega.{arith}
-use native.Mathlib.Decide.{decLt}
 use lib.Dec.{leb}
 use lib.ListN.{length, getD, length-append, List·getD-append}
-use lib.Seq.{take-at, getD-at}
 use Rattle.theory.specs.Moves.{upfrom, next-cuts}
 use Rattle.theory.proofs.Moves.{length-upfrom}
 use Rattle.theory.proofs.Delta.{upfrom-snoc}
 use Rattle.theory.proofs.Walk.{next-stuck, next-moves, next-under}
 use Rattle.shared.specs.Bound.{opened}
-use Rattle.shared.specs.Kept.{Opened, first-cuts, last-cut}
+use Rattle.shared.specs.Kept.{Opened}
+use Rattle.shared.proofs.Keeping.{last-of-cuts}
 
 long : (pre : List ℕ) (c : ℕ) → length (pre ++ (c ∷ [])) ≡ suc (length pre)
 long pre c = simp length-append (omega arith)
-
-pub first-of-cuts : (pre : List ℕ) (c : ℕ) → first-cuts (pre ++ (c ∷ [])) ≡ pre
-first-of-cuts pre c = take-at pre (c ∷ []) (length (pre ++ (c ∷ [])) - 1) (omega (arith, long pre c))
-
-pub last-of-cuts : (pre : List ℕ) (c : ℕ) → last-cut (pre ++ (c ∷ [])) ≡ c
-last-of-cuts pre c = getD-at pre c [] 0 (length (pre ++ (c ∷ [])) - 1) (omega (arith, long pre c))
 
 opened-so : (pre : List ℕ) → 1 ≤ length pre → Opened (opened pre)
 opened-so pre h =
