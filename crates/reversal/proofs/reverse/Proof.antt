@@ -1,13 +1,13 @@
--- `pair_loop::reverse` meets its contract: the ends of the middle are swapped, and the middle shrinks. Assumes nothing.
+-- `reversal::reverse` meets its contract: the ends of the middle are swapped, and the middle shrinks. Assumes nothing.
 use mathlib.Core.Path.{_≡_, refl}
 use mathlib.Core.List.{reverse}
 use Prim.Native.Nat.{_-_, _≤_, _<_}
 use lib.ListN.{length, getD, set, length-set}
 use native.Mathlib.Omega.{arith}
 use borrow.Author.Needs.{needs}
-use Rattle.pair_loop.proofs.Turning.{Middle, middle-all, middle-done, middle-step}
-use Rattle.pair_loop.proofs.reverse.Statement.{statement}
-use Rattle.pair_loop.proofs.reverse.Tie as tie
+use Rattle.reversal.proofs.Turning.{Middle, middle-all, middle-done, middle-step}
+use Rattle.reversal.proofs.reverse.Statement.{statement}
+use Rattle.reversal.proofs.reverse.Tie as tie
 
 abbrev Inv-loop : tie.InvT-loop
 Inv-loop part₀ low₀ high₀ part low high = (low ≤ high) × (high ≤ length part₀) × (length part ≡ length part₀) × Middle part (reverse part₀) low high

@@ -10,7 +10,7 @@ use lib.Seq.{getD-append-seam, set-append-seam, append-snoc, length-take-le, len
 use Rattle.theory.specs.Moves.{total}
 use Rattle.theory.proofs.Moves.{total-append}
 use Rattle.theory.proofs.Stops.{as-many}
-use Rattle.pair_loop.specs.PairLoop.{turned}
+use Rattle.reversal.specs.Reversal.{turned}
 
 -- ---- in place
 

@@ -1,15 +1,15 @@
--- `pair_loop::try_pair` meets its contract: one case for each end. Assumes nothing.
+-- `reversal::try_pair` meets its contract: one case for each end. Assumes nothing.
 use Prim.Native.Nat.{_≤_}
 use native.Mathlib.Omega.{arith}
 use borrow.Author.Needs.{needs}
 use borrow.Author.Tests.{not-true, not-false}
 use Rattle.theory.specs.Route.{Problem}
 use Rattle.theory.specs.Tables.{problem}
-use Rattle.pair_loop.proofs.Reading.{after-known}
-use Rattle.pair_loop.proofs.Turning.{turned-lent, turned-again}
-use Rattle.pair_loop.proofs.Trying.{tried-longer, tried-kept, tried-late, turned-timed}
-use Rattle.pair_loop.proofs.try_pair.Statement.{statement}
-use Rattle.pair_loop.proofs.try_pair.Tie as tie
+use Rattle.reversal.proofs.Reading.{after-known}
+use Rattle.reversal.proofs.Turning.{turned-lent, turned-again}
+use Rattle.reversal.proofs.Trying.{tried-longer, tried-kept, tried-late, turned-timed}
+use Rattle.reversal.proofs.try_pair.Statement.{statement}
+use Rattle.reversal.proofs.try_pair.Tie as tie
 
 abbrev P : tie.Start → Problem
 P s = problem (s .args .locations) (s .args .legs .now) (s .args .latest .now) (s .args .depot)

@@ -7,10 +7,21 @@ use lib.ListN.{length, getD}
 use Rattle.theory.specs.Moves.{total}
 use Rattle.theory.specs.Route.{Problem, feasible}
 use Rattle.theory.specs.Tables.{Timed}
-use Rattle.pair_loop.specs.PairLoop.{stop-after, turned, shortens, accepts}
-use Rattle.pair_loop.specs.Parts.{Tried}
-use Rattle.pair_loop.proofs.Turning.{total-turned}
-use Rattle.pair_loop.proofs.Progress.{timed-rearranged}
+use Rattle.theory.proofs.Stops.{as-many, stops-rearranged}
+use Rattle.reversal.specs.Reversal.{stop-after, turned, shortens, accepts, Tried}
+use Rattle.reversal.proofs.Turning.{total-turned}
+
+-- A rearranged route has its deadlines in reach, and as many stops.
+pub timed-rearranged : {locations : ℕ} {legs latest : List ℕ} {depot : ℕ} {r r′ : List ℕ} → ((g : ℕ → ℕ) → total g r′ ≡ total g r) →
+    Timed locations legs latest depot r → Timed locations legs latest depot r′ × (length r′ ≡ length r)
+timed-rearranged {locations} {r = r} {r′ = r′} same t =
+    let m = t .measurable in (
+      record {
+        measurable = record { table = m .table; depot-known = m .depot-known; stops = stops-rearranged r r′ same locations (m .stops) };
+        deadlines = t .deadlines;
+      },
+      as-many r r′ same,
+    )
 
 module _ (P : Problem) (a b i j : ℕ) (r : List ℕ) where
   of : (x y : Bool) → shortens (P .leg) a b (getD r j 0) (stop-after (P .depot) r j) ≡ x → feasible P (turned i j r) ≡ y → accepts P a b i r j ≡ (x && y)

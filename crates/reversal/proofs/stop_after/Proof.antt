@@ -1,8 +1,8 @@
--- `pair_loop::stop_after` meets its contract. Assumes nothing.
+-- `reversal::stop_after` meets its contract. Assumes nothing.
 use borrow.Author.Needs.{needs}
-use Rattle.pair_loop.proofs.Reading.{after-inside, after-last}
-use Rattle.pair_loop.proofs.stop_after.Statement.{statement}
-use Rattle.pair_loop.proofs.stop_after.Tie as tie
+use Rattle.reversal.proofs.Reading.{after-inside, after-last}
+use Rattle.reversal.proofs.stop_after.Statement.{statement}
+use Rattle.reversal.proofs.stop_after.Tie as tie
 
 add-after : tie.Need-add-after
 add-after c = search needs

@@ -1,8 +1,8 @@
--- `pair_loop::is_feasible` meets its contract: one case for each answer of the check. Assumes nothing.
+-- `reversal::is_feasible` meets its contract: one case for each answer of the check. Assumes nothing.
 use borrow.Author.Needs.{needs}
-use Rattle.pair_loop.proofs.Reading.{kept-told, late-told}
-use Rattle.pair_loop.proofs.is_feasible.Statement.{statement}
-use Rattle.pair_loop.proofs.is_feasible.Tie as tie
+use Rattle.reversal.proofs.Reading.{kept-told, late-told}
+use Rattle.reversal.proofs.is_feasible.Statement.{statement}
+use Rattle.reversal.proofs.is_feasible.Tie as tie
 
 check-deadlines-requires : tie.Need-check-deadlines-requires
 check-deadlines-requires c κs = search needs

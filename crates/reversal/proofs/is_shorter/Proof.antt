@@ -1,8 +1,8 @@
--- `pair_loop::is_shorter` meets its contract. Assumes nothing.
+-- `reversal::is_shorter` meets its contract. Assumes nothing.
 use borrow.Author.Needs.{needs}
-use Rattle.pair_loop.specs.PairLoop.{shortens}
-use Rattle.pair_loop.proofs.is_shorter.Statement.{statement}
-use Rattle.pair_loop.proofs.is_shorter.Tie as tie
+use Rattle.reversal.specs.Reversal.{shortens}
+use Rattle.reversal.proofs.is_shorter.Statement.{statement}
+use Rattle.reversal.proofs.is_shorter.Tie as tie
 
 route-distance-requires : tie.Need-route-distance-requires
 route-distance-requires c κs = search needs
