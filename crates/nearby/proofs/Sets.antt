@@ -17,8 +17,9 @@ use Rattle.theory.proofs.Moves.{of-flatMap, upfrom-range}
 use Rattle.theory.proofs.Distinct.{Distinct, distinct-upfrom}
 use Rattle.nearest.specs.Neighbours.{passing, nearest, nearest-first, neighbours, kept, distance}
 use Rattle.nearest.proofs.Passing.{of-passing}
-use Rattle.nearby.specs.Walk.{none-there, goes-on, turns, branch, walk, nearby-sets, Spaced}
-use Rattle.nearby.proofs.Turns.{kept-range}
+use Rattle.branches.specs.Branch.{none-there, goes-on, turns, branch}
+use Rattle.branches.proofs.Turns.{kept-range}
+use Rattle.nearby.specs.Walk.{walk, nearby-sets, Spaced}
 
 -- ---- a set of a branch begins with an entry, and goes on with a set under it
 

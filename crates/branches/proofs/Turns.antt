@@ -14,9 +14,9 @@ use borrow.Author.Tests.{leb-true}
 use Rattle.theory.proofs.Index.{mem-getD}
 use Rattle.nearest.specs.Neighbours.{kept, neighbours}
 use Rattle.nearest.proofs.Passing.{of-passing}
-use Rattle.nearby.specs.Walk.{none-there, goes-on, turns, branch}
-use Rattle.nearby.specs.Listing.{pour, behind-front}
-use Rattle.nearby.proofs.Pour.{pour-on, pour-full, poured-most}
+use Rattle.branches.specs.Branch.{none-there, goes-on, turns, branch}
+use Rattle.branches.specs.Pouring.{pour, behind-front}
+use Rattle.branches.proofs.Pour.{pour-on, pour-full, poured-most}
 
 front-append : (front : List ℕ) (xs ys : List (List ℕ)) → behind-front front (xs ++ ys) ≡ behind-front front xs ++ behind-front front ys
 front-append front [] ys = refl

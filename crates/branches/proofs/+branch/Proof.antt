@@ -1,26 +1,26 @@
--- `nearby::branch` meets its contract: the entries from i on, poured from where the loop stands, give the whole. The measure is the number of cuts behind.
+-- `branches::branch` meets its contract: the entries from i on, poured from where the loop stands, give the whole. The measure is the number of cuts behind.
 -- Assumes nothing.
 use mathlib.Core.Path.{_≡_, sym, _∙_}
 use Prim.Native.Nat.{_≤_, _-_, _+_}
 use lib.ListN.{length, getD, take, drop, length-take}
 use borrow.Author.Tests.{not-true, not-false}
 use Rattle.neighbours.specs.Memo.{Memo}
-use Rattle.nearby.specs.Walk as walk
-use Rattle.nearby.specs.Listing.{pour, behind-front, lists-of}
-use Rattle.nearby.proofs.Turns.{last-poured, ended, dropped, turned, stopped, over, under-most, kept-below, fewer-missing, longer, some-taken, none-taken}
+use Rattle.branches.specs.Branch as walk
+use Rattle.branches.specs.Pouring.{pour, behind-front, lists-of}
+use Rattle.branches.proofs.Turns.{last-poured, ended, dropped, turned, stopped, over, under-most, kept-below, fewer-missing, longer, some-taken, none-taken}
 use native.Mathlib.Omega.{arith}
 use borrow.Author.Needs.{needs}
 use Prim.Native.Nat.{ℕ, _<_}
 use borrow.Fn.Kinds.{In}
 use borrow.Fn.PlainCycle.{Measures, is, falls, and}
-use Rattle.nearby.proofs.branch.Reads as branch
-use Rattle.nearby.proofs.branch.Kinds as branch-kinds
-use Rattle.nearby.proofs.+branch.Lts-branch as branch-lts
-use Rattle.nearby.proofs.goes_on.Reads as goes-on-reads
-use Rattle.nearby.proofs.last_cuts.Reads as last-cuts-reads
-use Rattle.nearby.proofs.neighbours_of.Reads as neighbours-of-reads
-use Rattle.nearby.proofs.+branch.{statement}
-use Rattle.nearby.proofs.+branch.Tie.{close}
+use Rattle.branches.proofs.branch.Reads as branch
+use Rattle.branches.proofs.branch.Kinds as branch-kinds
+use Rattle.branches.proofs.+branch.Lts-branch as branch-lts
+use Rattle.branches.proofs.goes_on.Reads as goes-on-reads
+use Rattle.branches.proofs.last_cuts.Reads as last-cuts-reads
+use Rattle.branches.proofs.neighbours_of.Reads as neighbours-of-reads
+use Rattle.branches.proofs.+branch.{statement}
+use Rattle.branches.proofs.+branch.Tie.{close}
 
 abbrev μ-branch : Measures 4 branch-kinds.ps ℕ
 μ-branch κs a = a .1 .1 .0

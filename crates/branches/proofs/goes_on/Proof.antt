@@ -1,8 +1,8 @@
--- `nearby::goes_on` meets its contract. Assumes nothing.
-use Rattle.nearby.proofs.Pour.{goes-on-not, goes-on-if}
+-- `branches::goes_on` meets its contract. Assumes nothing.
+use Rattle.branches.proofs.Pour.{goes-on-not, goes-on-if}
 use borrow.Author.Needs.{needs}
-use Rattle.nearby.proofs.goes_on.Statement.{statement}
-use Rattle.nearby.proofs.goes_on.Tie as tie
+use Rattle.branches.proofs.goes_on.Statement.{statement}
+use Rattle.branches.proofs.goes_on.Tie as tie
 
 add-next : tie.Need-add-next
 add-next c = search needs

@@ -1,0 +1,2 @@
+pub mod Pour
+pub mod Turns
