@@ -1,8 +1,8 @@
--- `round::state_after` meets its contract. Assumes nothing.
+-- `states::state_after` meets its contract. Assumes nothing.
 use borrow.Author.Tests.{not-true, not-false}
-use Rattle.round.proofs.Returns.{spent, unchanged, changed}
-use Rattle.round.proofs.state_after.Statement.{statement}
-use Rattle.round.proofs.state_after.Tie as tie
+use Rattle.states.proofs.Values.{spent, unchanged, changed}
+use Rattle.states.proofs.state_after.Statement.{statement}
+use Rattle.states.proofs.state_after.Tie as tie
 
 returns : tie.Need-returns
 returns c = let s = c .before in spent (s .args .finished) (s .args .examined) (s .args .accepted) (not-true _ (c .if1 .taken))

@@ -1,7 +1,7 @@
--- `run::put_state` meets its contract. Assumes nothing.
+-- `states::put_state` meets its contract. Assumes nothing.
 use borrow.Author.Needs.{needs}
-use Rattle.run.proofs.put_state.Statement.{statement}
-use Rattle.run.proofs.put_state.Tie as tie
+use Rattle.states.proofs.put_state.Statement.{statement}
+use Rattle.states.proofs.put_state.Tie as tie
 
 enum-told : tie.Need-enum-told
 enum-told c = search needs

@@ -1,10 +1,10 @@
--- `run::put_numbers` meets its contract. Assumes nothing.
+-- `states::put_numbers` meets its contract. Assumes nothing.
 use lib.ListN.{length-set}
-use Rattle.run.proofs.Numbers.{four-written}
+use Rattle.states.proofs.Values.{four-written}
 use native.Mathlib.Omega.{arith}
 use borrow.Author.Needs.{needs}
-use Rattle.run.proofs.put_numbers.Statement.{statement}
-use Rattle.run.proofs.put_numbers.Tie as tie
+use Rattle.states.proofs.put_numbers.Statement.{statement}
+use Rattle.states.proofs.put_numbers.Tie as tie
 
 slice-write-result : tie.Need-slice-write-result
 slice-write-result c = search needs
