@@ -6,7 +6,7 @@ use Prim.Native.Nat.{ℕ, zero, suc, _+_, _-_, _*_, _≤_, _<_}
 use native.Mathlib.Nat.{mul-le-mul, mul-pos, le-refl}
 use native.Mathlib.Numerals.{add-one}
 use native.Mathlib.Omega.{arith}
-use lib.Dec.{leb}
+use lib.Dec.{leb, ltb}
 use lib.ListN.{length, getD, take, drop, set, length-take, drop-of-length-le}
 use lib.Seq.{take-suc-set, drop-cons}
 use lib.Ieee.{Float}
@@ -14,9 +14,9 @@ use borrow.Author.Tests.{leb-true}
 use Rattle.theory.proofs.Index.{mem-getD}
 use Rattle.nearest.specs.Neighbours.{kept, neighbours}
 use Rattle.nearest.proofs.Passing.{of-passing}
-use Rattle.branches.specs.Branch.{none-there, goes-on, turns, branch}
-use Rattle.branches.specs.Pouring.{pour, behind-front}
-use Rattle.branches.proofs.Pour.{pour-on, pour-full, poured-most}
+use Rattle.pouring.specs.Pouring.{pour}
+use Rattle.branches.specs.Branch.{none-there, goes-on, turns, branch, behind-front}
+use Rattle.pouring.proofs.Pour.{pour-on, pour-full, poured-most}
 
 front-append : (front : List ℕ) (xs ys : List (List ℕ)) → behind-front front (xs ++ ys) ≡ behind-front front xs ++ behind-front front ys
 front-append front [] ys = refl
@@ -164,3 +164,11 @@ module _ (own : ℕ → ℕ → List ℕ) where
         over h l =
             let e : seen′ ≡ capacity + 1 = omega (arith, under-most l) in
             sym (ap (λ (s : ℕ). pour capacity k s lent′ (rest (goes-on cut others))) e ∙ pour-full capacity k lent′ (rest (goes-on cut others)) ∙ ap (λ (s : ℕ). (s, lent′)) (sym e)) ∙ after
+
+-- ---- the next entry
+
+pub goes-on-not : (p i : ℕ) (l : List ℕ) → length l ≤ i + 1 → false ≡ goes-on p (drop (i + 1) l)
+goes-on-not p i l h = sym (ap (goes-on p) (drop-of-length-le l h))
+
+pub goes-on-if : (p i : ℕ) (l : List ℕ) → i + 1 < length l → ltb p (getD l (i + 1) 0) ≡ goes-on p (drop (i + 1) l)
+goes-on-if p i l h = sym (ap (goes-on p) (drop-cons l (i + 1) 0 h))

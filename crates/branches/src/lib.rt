@@ -1,56 +1,9 @@
 // The branches of the nearby walk: the cut sets from a cut on, into the lent buffer, after nearby_state.rs. No entry is here.
+use pouring::NearbyCutState;
 ghost use mathlib.Core.Path.{_≡_};
-ghost use mathlib.Core.List.{_∷_, [], _++_, map};
-ghost use Prim.Native.Nat.{_+_, _-_, _≤_, _<_};
-ghost use lib.ListN.{length, getD, take, drop};
-ghost use lib.Seq.{sets};
-ghost use Rattle.branches.specs.Branch.{goes-on};
-ghost use Rattle.branches.specs.Pouring.{pour, Room, Branchable, Branched, Askable-for, Kept-for};
-
-// What a listing keeps to: `len` stops, and room for `capacity` sets.
-pub struct NearbyCutState {
-    pub k: usize,
-    pub len: usize,
-    pub max_nearby: usize,
-    pub min_segment_len: usize,
-    pub capacity: usize,
-}
-
-// A set into the buffer from `at` on.
-fn put_set(cuts: &[usize], lent: &mut [usize], at: usize)
-    requires { ⌜ at + length (now cuts) ≤ length (now lent) ⌝ }
-    ensures { λ _. ⌜ now (lent .exit) ≡ sets (now (lent .entry)) at (now (cuts .entry)) ⌝ }
-{
-    for j in 0..cuts.len() {
-        lent[at + j] = cuts[j];
-    }
-}
-
-// The last cut takes each entry of its list: a set each, into the buffer while there is room. Answers the sets counted so far, one more than fit at most.
-fn last_cuts(
-    state: NearbyCutState,
-    entries: &[usize],
-    cuts: [usize; 5],
-    seen: usize,
-    lent: &mut [usize],
-) -> usize
-    requires { ⌜ Room state seen (now lent) ⌝ }
-    ensures { λ r. ⌜ (r, now (lent .exit)) ≡ pour (state .capacity) (state .k) seen (now (lent .entry)) (map (λ p. take (state .k - 1) cuts ++ (p ∷ [])) (now (entries .entry))) ⌝ }
-{
-    let mut seen = seen;
-    let mut row = cuts;
-    let mut i = 0;
-    while i < entries.len() {
-        if seen >= state.capacity {
-            return state.capacity + 1;
-        }
-        row[state.k - 1] = entries[i];
-        put_set(&row[..state.k], lent, seen * state.k);
-        seen += 1;
-        i += 1;
-    }
-    seen
-}
+ghost use Prim.Native.Nat.{_+_, _<_};
+ghost use lib.ListN.{length, getD, drop};
+ghost use Rattle.branches.specs.Branch.{goes-on, Branchable, Branched, Askable-for, Kept-for};
 
 // Whether the entry behind the one at i is higher.
 fn goes_on(entries: &[usize], i: usize) -> bool
@@ -81,7 +34,7 @@ pub fn neighbours_of(
     neighbours::kept_neighbours(distances, n, m, state.max_nearby, missing, cut, table, own)
 }
 
-// The sets with one of the entries for the next cut and `behind` more cuts after it, into the buffer while there is room. Answers as `last_cuts`.
+// The sets with one of the entries for the next cut and `behind` more cuts after it, into the buffer while there is room. Answers the sets counted so far, one more than fit at most.
 pub fn branch(
     state: NearbyCutState,
     distances: &[f64],
@@ -96,7 +49,7 @@ pub fn branch(
     ensures { λ r. ⌜ Branched state (now (distances .entry)) behind (now (entries .entry)) cuts seen (now (lent .entry)) r (now (table .exit)) (now (lent .exit)) ⌝ }
 {
     if behind == 0 {
-        return last_cuts(state, entries, cuts, seen, lent);
+        return pouring::last_cuts(state, entries, cuts, seen, lent);
     }
     let mut seen = seen;
     let mut own = [0usize; 32];

@@ -11,7 +11,7 @@ use lib.Dec.{ltb}
 use lib.ListN.{length, take, drop, set, length-append, length-take}
 use lib.Seq.{sets, take-nil, sets-eq}
 use borrow.Author.Tests.{ltb-true, ltb-false, lt-ltb, le-ltb}
-use Rattle.branches.specs.Pouring.{pour}
+use Rattle.pouring.specs.Pouring.{pour}
 
 sets-append : (l : List ℕ) (at : ℕ) (xs ys : List ℕ) → sets l at (xs ++ ys) ≡ sets (sets l at xs) (at + length xs) ys
 sets-append l at [] ys = ap (λ (i : ℕ). sets l i ys) (sym (add-zero at))

@@ -1,12 +1,12 @@
 // The listing of the nearby cut sets, after nearby_state.rs. No entry is here.
-use branches::NearbyCutState;
+use pouring::NearbyCutState;
 ghost use mathlib.Core.Path.{_≡_};
 ghost use lib.ListN.{length};
-ghost use Rattle.branches.specs.Pouring.{pour};
+ghost use Rattle.pouring.specs.Pouring.{pour};
 ghost use Rattle.nearby.specs.Walk.{nearby-sets};
 ghost use Rattle.nearby.specs.Listing.{NearbyInput, Lists, sets-of-state, Listable};
 
-// Each first cut in turn. Answers as `last_cuts`.
+// Each first cut in turn. Answers the sets counted, one more than fit at most.
 fn first_cuts(state: NearbyCutState, distances: &[f64], lent: &mut [usize]) -> usize
     requires { ⌜ Listable state (now distances) (now lent) ⌝ }
     ensures { λ r. ⌜ (r, now (lent .exit)) ≡ pour (state .capacity) (state .k) 0 (now (lent .entry)) (sets-of-state state (now (distances .entry))) ⌝ }

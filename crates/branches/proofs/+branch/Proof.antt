@@ -5,8 +5,9 @@ use Prim.Native.Nat.{_≤_, _-_, _+_}
 use lib.ListN.{length, getD, take, drop, length-take}
 use borrow.Author.Tests.{not-true, not-false}
 use Rattle.neighbours.specs.Memo.{Memo}
+use Rattle.pouring.specs.Pouring.{pour}
 use Rattle.branches.specs.Branch as walk
-use Rattle.branches.specs.Pouring.{pour, behind-front, lists-of}
+use Rattle.branches.specs.Branch.{behind-front, lists-of}
 use Rattle.branches.proofs.Turns.{last-poured, ended, dropped, turned, stopped, over, under-most, kept-below, fewer-missing, longer, some-taken, none-taken}
 use native.Mathlib.Omega.{arith}
 use borrow.Author.Needs.{needs}
@@ -17,7 +18,7 @@ use Rattle.branches.proofs.branch.Reads as branch
 use Rattle.branches.proofs.branch.Kinds as branch-kinds
 use Rattle.branches.proofs.+branch.Lts-branch as branch-lts
 use Rattle.branches.proofs.goes_on.Reads as goes-on-reads
-use Rattle.branches.proofs.last_cuts.Reads as last-cuts-reads
+use Rattle.pouring.proofs.last_cuts.Reads as last-cuts-reads
 use Rattle.branches.proofs.neighbours_of.Reads as neighbours-of-reads
 use Rattle.branches.proofs.+branch.{statement}
 use Rattle.branches.proofs.+branch.Tie.{close}

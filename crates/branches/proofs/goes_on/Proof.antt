@@ -1,5 +1,5 @@
 -- `branches::goes_on` meets its contract. Assumes nothing.
-use Rattle.branches.proofs.Pour.{goes-on-not, goes-on-if}
+use Rattle.branches.proofs.Turns.{goes-on-not, goes-on-if}
 use borrow.Author.Needs.{needs}
 use Rattle.branches.proofs.goes_on.Statement.{statement}
 use Rattle.branches.proofs.goes_on.Tie as tie

@@ -10,8 +10,7 @@ use lib.Dec.{ltb}
 use lib.ListN.{length, getD, take, drop, set, drop-of-length-le}
 use lib.Seq.{sets, take-suc-set, drop-cons, length-sets}
 use borrow.Author.Tests.{ltb-true, ltb-false, lt-ltb, le-ltb}
-use Rattle.branches.specs.Branch.{goes-on}
-use Rattle.branches.specs.Pouring.{pour}
+use Rattle.pouring.specs.Pouring.{pour}
 
 module _ (capacity k : ℕ) where
   -- One more than fits was counted: nothing changes any more.
@@ -108,11 +107,3 @@ pub last-ended : (k capacity : ℕ) (front entries : List ℕ) (i seen : ℕ) (l
     (seen, lent) ≡ pour capacity k seen lent (map (λ p. front ++ (p ∷ [])) (drop i entries))
 unfolding pour
 last-ended k capacity front entries i seen lent h = sym (ap (λ (r : List ℕ). pour capacity k seen lent (map (λ p. front ++ (p ∷ [])) r)) (drop-of-length-le entries h))
-
--- ---- the next entry
-
-pub goes-on-not : (p i : ℕ) (l : List ℕ) → length l ≤ i + 1 → false ≡ goes-on p (drop (i + 1) l)
-goes-on-not p i l h = sym (ap (goes-on p) (drop-of-length-le l h))
-
-pub goes-on-if : (p i : ℕ) (l : List ℕ) → i + 1 < length l → ltb p (getD l (i + 1) 0) ≡ goes-on p (drop (i + 1) l)
-goes-on-if p i l h = sym (ap (goes-on p) (drop-cons l (i + 1) 0 h))

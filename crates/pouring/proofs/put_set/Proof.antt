@@ -1,14 +1,14 @@
--- `branches::put_set` meets its contract: stores of what is left of the set, from where the loop stands, give the whole run of stores. Assumes nothing.
+-- `pouring::put_set` meets its contract: stores of what is left of the set, from where the loop stands, give the whole run of stores. Assumes nothing.
 use mathlib.Core.Path.{_≡_, refl, ap, _∙_}
 use Prim.Native.Nat.{_≤_, _-_, _+_, ℕ}
 use native.Mathlib.Nat.{add-zero}
 use lib.ListN.{length, drop, length-set}
 use lib.Seq.{sets, drop-length}
-use Rattle.branches.proofs.Pour.{store-next}
+use Rattle.pouring.proofs.Pour.{store-next}
 use native.Mathlib.Omega.{arith}
 use borrow.Author.Needs.{needs}
-use Rattle.branches.proofs.put_set.Statement.{statement}
-use Rattle.branches.proofs.put_set.Tie as tie
+use Rattle.pouring.proofs.put_set.Statement.{statement}
+use Rattle.pouring.proofs.put_set.Tie as tie
 
 abbrev Inv-loop : tie.InvT-loop
 Inv-loop cuts lent₀ at j₀ j-end lent j = (j ≤ length cuts) × (j-end ≡ length cuts) × (length lent ≡ length lent₀) × (sets lent (at + j) (drop j cuts) ≡ sets lent₀ at cuts)

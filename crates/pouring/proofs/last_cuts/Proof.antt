@@ -1,15 +1,15 @@
--- `branches::last_cuts` meets its contract: what is left of the list, poured from where the loop stands, gives the whole. Assumes nothing.
+-- `pouring::last_cuts` meets its contract: what is left of the list, poured from where the loop stands, gives the whole. Assumes nothing.
 use mathlib.Core.Path.{_≡_, sym, _∙_}
 use mathlib.Core.List.{[], _∷_, _++_, map}
 use Prim.Native.Nat.{_≤_, _-_, _+_}
 use lib.ListN.{length, take, drop, length-set, length-take}
 use lib.Seq.{take-set-le}
-use Rattle.branches.specs.Pouring.{pour}
-use Rattle.branches.proofs.Pour.{places-left, capacity-small, last-next, last-past, last-ended}
+use Rattle.pouring.specs.Pouring.{pour}
+use Rattle.pouring.proofs.Pour.{places-left, capacity-small, last-next, last-past, last-ended}
 use native.Mathlib.Omega.{arith}
 use borrow.Author.Needs.{needs}
-use Rattle.branches.proofs.last_cuts.Statement.{statement}
-use Rattle.branches.proofs.last_cuts.Tie as tie
+use Rattle.pouring.proofs.last_cuts.Statement.{statement}
+use Rattle.pouring.proofs.last_cuts.Tie as tie
 
 abbrev Inv-loop : tie.InvT-loop
 Inv-loop state entries seen lent₀ seen₀ row₀ i₀ lent seen' row i =
