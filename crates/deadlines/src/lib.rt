@@ -3,7 +3,7 @@ use theory::Deadline;
 ghost use mathlib.Core.Path.{_≡_};
 ghost use Prim.Native.Nat.{_<_};
 ghost use lib.ListN.{length, getD};
-ghost use Rattle.theory.specs.Route.{reverse-if};
+ghost use Rattle.theory.specs.Route.{reverse-if, feasible};
 ghost use Rattle.theory.specs.Tables.{problem, Timed};
 ghost use Rattle.theory.specs.Answers.{Checked};
 ghost use Rattle.deadlines.specs.Walk.{Walkable, WalkedPart};
@@ -34,6 +34,24 @@ pub fn check_deadlines(
         i += 1;
     }
     Deadline::Kept
+}
+
+// Whether no stop is late.
+pub fn is_feasible(
+    locations: usize,
+    legs: &[u32],
+    latest: &[u32],
+    depot: u32,
+    route: &[u32],
+) -> bool
+    requires { ⌜ Timed locations (now legs) (now latest) depot (now route) ⌝ }
+    ensures { λ r. ⌜ r ≡ feasible (problem locations (now (legs .entry)) (now (latest .entry)) depot) (now (route .entry)) ⌝ }
+{
+    let answer = check_deadlines(locations, legs, latest, depot, route);
+    let Deadline::Late(_) = answer else {
+        return true;
+    };
+    false
 }
 
 // How a walk along a part of a route ended: whether no stop was late, and then the last stop and the second at which it was reached.

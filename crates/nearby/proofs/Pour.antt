@@ -4,20 +4,15 @@ use mathlib.Core.Bool.{Bool, true, false, cond}
 use mathlib.Core.Logic.{⊎-elim}
 use mathlib.Core.List.{List, [], _∷_, _++_, flatten, List·Memᴰ, List·Memᴰ·head, List·Memᴰ·tail, List·Memᴰ·not-nil, List·Memᴰ·cases-cons}
 use Prim.Native.Nat.{ℕ, zero, suc, _+_, _-_, _*_, _≤_, _<_}
-use native.Mathlib.Nat.{add-zero, suc-add, mul-le-mul-right, suc-mul, zero-mul, sub-zero, zero-add, add-suc}
+use native.Mathlib.Nat.{add-zero, mul-le-mul-right, suc-mul, zero-mul, sub-zero, zero-add}
 use native.Mathlib.Numerals.{add-one}
 use native.Mathlib.Omega.{arith}
 use lib.Dec.{ltb}
-use lib.ListN.{length, take, drop, set, length-append, length-take}
+use lib.ListN.{length, take, drop, length-append, length-take}
 use lib.Seq.{sets, take-nil, sets-eq}
 use borrow.Author.Tests.{ltb-true, ltb-false, lt-ltb, le-ltb}
+use Rattle.nearest.proofs.Stores.{sets-append}
 use Rattle.pouring.specs.Pouring.{pour}
-
-sets-append : (l : List ℕ) (at : ℕ) (xs ys : List ℕ) → sets l at (xs ++ ys) ≡ sets (sets l at xs) (at + length xs) ys
-sets-append l at [] ys = ap (λ (i : ℕ). sets l i ys) (sym (add-zero at))
-sets-append l at (x ∷ xs) ys =
-    sets-append (set l at x) (suc at) xs ys
-    ∙ ap (λ (i : ℕ). sets (sets (set l at x) (suc at) xs) i ys) (suc-add at (length xs) ∙ sym (add-suc at (length xs)))
 
 -- Each of the lists has k entries.
 abbrev pub Each : ℕ → List (List ℕ) → Type 0

@@ -1,6 +1,5 @@
--- What the code reads for a pair: the stop after it, and the deadline check's answer. Assumes nothing.
+-- What the code reads for a pair: the stop after it. Assumes nothing.
 use mathlib.Core.Path.{_≡_, sym}
-use mathlib.Core.Bool.{true, false}
 use mathlib.Core.Logic.{_⊎_, inl, inr}
 use mathlib.Core.List.{List, [], _∷_}
 use Prim.Native.Nat.{ℕ, suc, _+_, _≤_, _<_}
@@ -9,12 +8,7 @@ use native.Mathlib.Nat.{eq-or-lt-of-le}
 use native.Mathlib.Numerals.{add-one}
 use lib.ListN.{length, getD, List·getD-append}
 use lib.Seq.{getD-at}
-use Rattle.theory.specs.Route.{Problem, feasible}
 use Rattle.theory.specs.Tables.{Measurable}
-use Rattle.theory.specs.Answers.{Checked}
-use Rattle.theory.specs.declared.Deadline.{Deadline}
-use Rattle.theory.specs.declared.Deadline.the-variants as Check
-use Rattle.deadlines.proofs.Answer.{kept-feasible, late-infeasible}
 use Rattle.reversal.specs.Reversal.{stop-after}
 
 pub after-inside : (depot : ℕ) (r : List ℕ) (j : ℕ) → j + 1 < length r → getD r (j + 1) 0 ≡ stop-after depot r j
@@ -30,9 +24,3 @@ after-known {locations} {depot} {legs} {r} m j h = by (eq-or-lt-of-le h)
     by : (suc j ≡ length r) ⊎ (suc j < length r) → stop-after depot r j < locations
     by (inl e) = rw (getD-at r depot [] 0 (suc j) (sym e)) (m .depot-known)
     by (inr l) = rw (List·getD-append r (depot ∷ []) 0 (suc j) l) (m .stops .known (suc j) l)
-
-pub kept-told : (P : Problem) (r : List ℕ) {answer : Deadline} → answer ≡ Check.Kept → Checked P r answer → true ≡ feasible P r
-kept-told P r a told = sym (kept-feasible P r (rw a at told))
-
-pub late-told : (P : Problem) (r : List ℕ) {answer : Deadline} {p : ℕ} → answer ≡ Check.Late p → Checked P r answer → false ≡ feasible P r
-late-told P r a told = sym (late-infeasible P r (rw a at told))

@@ -1,11 +1,9 @@
 // A reversal of a part of a route, judged: what the pair loop asks of a pair. No entry: crate pair_loop calls it.
-use theory::Deadline;
 ghost use mathlib.Core.Path.{_≡_};
 ghost use mathlib.Core.List.{reverse};
 ghost use Prim.Native.Nat.{_<_};
 ghost use lib.ListN.{length};
-ghost use Rattle.theory.specs.Route.{feasible};
-ghost use Rattle.theory.specs.Tables.{problem, Timed};
+ghost use Rattle.theory.specs.Tables.{problem};
 ghost use Rattle.costs.specs.RouteCosts.{leg};
 ghost use Rattle.reversal.specs.Reversal.{stop-after, shortens, KnownLegs, Pair, Tried};
 
@@ -47,17 +45,6 @@ fn is_shorter(locations: usize, legs: &[u32], a: u32, b: u32, c: u32, e: u32) ->
     a_to_c + b_to_e < a_to_b + c_to_e
 }
 
-fn is_feasible(locations: usize, legs: &[u32], latest: &[u32], depot: u32, route: &[u32]) -> bool
-    requires { ⌜ Timed locations (now legs) (now latest) depot (now route) ⌝ }
-    ensures { λ r. ⌜ r ≡ feasible (problem locations (now (legs .entry)) (now (latest .entry)) depot) (now (route .entry)) ⌝ }
-{
-    let answer = deadlines::check_deadlines(locations, legs, latest, depot, route);
-    let Deadline::Late(_) = answer else {
-        return true;
-    };
-    false
-}
-
 // Turns i..j where that shortens the route and keeps every deadline, and says whether it did.
 pub fn try_pair(
     locations: usize,
@@ -80,7 +67,7 @@ pub fn try_pair(
     }
     let end = j + 1;
     reverse(&mut route[i..end]);
-    if !is_feasible(locations, legs, latest, depot, &route[..]) {
+    if !deadlines::is_feasible(locations, legs, latest, depot, &route[..]) {
         reverse(&mut route[i..end]);
         return false;
     }

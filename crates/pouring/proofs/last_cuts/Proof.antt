@@ -1,7 +1,7 @@
 -- `pouring::last_cuts` meets its contract: what is left of the list, poured from where the loop stands, gives the whole. Assumes nothing.
 use mathlib.Core.Path.{_≡_, sym, _∙_}
 use mathlib.Core.List.{[], _∷_, _++_, map}
-use Prim.Native.Nat.{_≤_, _-_, _+_}
+use Prim.Native.Nat.{_≤_, _-_}
 use lib.ListN.{length, take, drop, length-set, length-take}
 use lib.Seq.{take-set-le}
 use Rattle.pouring.specs.Pouring.{pour}

@@ -1,8 +1,8 @@
--- `reversal::is_feasible` meets its contract: one case for each answer of the check. Assumes nothing.
+-- `deadlines::is_feasible` meets its contract: one case for each answer of the check. Assumes nothing.
 use borrow.Author.Needs.{needs}
-use Rattle.reversal.proofs.Reading.{kept-told, late-told}
-use Rattle.reversal.proofs.is_feasible.Statement.{statement}
-use Rattle.reversal.proofs.is_feasible.Tie as tie
+use Rattle.deadlines.proofs.Answer.{kept-told, late-told}
+use Rattle.deadlines.proofs.is_feasible.Statement.{statement}
+use Rattle.deadlines.proofs.is_feasible.Tie as tie
 
 check-deadlines-requires : tie.Need-check-deadlines-requires
 check-deadlines-requires c κs = search needs
