@@ -15,9 +15,10 @@ use borrow.Author.Tests.{ltb-true}
 use Rattle.theory.specs.Moves.{upfrom}
 use Rattle.nearest.specs.Neighbours.{kept}
 use Rattle.neighbours.specs.Memo.{Memo}
-use Rattle.nearby.specs.Walk.{branch, walk, nearby-sets}
-use Rattle.nearby.specs.Listing.{pour, behind-front}
-use Rattle.nearby.proofs.Pour.{pour-on, pour-full, poured-most}
+use Rattle.pouring.specs.Pouring.{pour}
+use Rattle.branches.specs.Branch.{branch, behind-front}
+use Rattle.nearby.specs.Walk.{walk, nearby-sets}
+use Rattle.pouring.proofs.Pour.{pour-on, pour-full, poured-most}
 
 pub memo-empty : (distances : List Float) (n count : ℕ) → n ≤ 512 → Memo distances n count (replicate 16896 0)
 memo-empty distances n count h =

@@ -11,24 +11,12 @@ use lib.ListN.{length}
 use Rattle.theory.specs.Moves.{total, upfrom}
 use Rattle.theory.specs.Route.{Problem, count}
 use Rattle.theory.specs.Scan.{Reply}
-use Rattle.theory.specs.Tables.{Timed}
-use Rattle.theory.proofs.Stops.{as-many, stops-rearranged}
 use Rattle.pair_loop.specs.declared.PairLoop.{PairLoop}
 use Rattle.pair_loop.specs.Parts.{Going}
-use Rattle.pair_loop.specs.PairLoop.{PairsTried, reply-of, turned, accepts, so-far, spent, examine, pair, row, pass, goes-on, passes, pair-loop}
-use Rattle.pair_loop.proofs.Turning.{total-turned}
-
--- A rearranged route has its deadlines in reach, and as many stops.
-pub timed-rearranged : {locations : ℕ} {legs latest : List ℕ} {depot : ℕ} {r r′ : List ℕ} → ((g : ℕ → ℕ) → total g r′ ≡ total g r) →
-    Timed locations legs latest depot r → Timed locations legs latest depot r′ × (length r′ ≡ length r)
-timed-rearranged {locations} {r = r} {r′ = r′} same t =
-    let m = t .measurable in (
-      record {
-        measurable = record { table = m .table; depot-known = m .depot-known; stops = stops-rearranged r r′ same locations (m .stops) };
-        deadlines = t .deadlines;
-      },
-      as-many r r′ same,
-    )
+use Rattle.pair_loop.specs.PairLoop.{PairsTried, reply-of, so-far, spent, examine, pair, row, pass, goes-on, passes, pair-loop}
+use Rattle.reversal.specs.Reversal.{turned, accepts}
+use Rattle.reversal.proofs.Turning.{total-turned}
+use Rattle.reversal.proofs.Trying.{timed-rearranged}
 
 -- What holds of all that the loop comes to.
 pub record Bounded (allowance : ℕ) (s : Reply (List ℕ)) : Type 0 where

@@ -1,46 +1,17 @@
--- What the code reads for a pair: the stops about it, and the deadline check's answer. Assumes nothing.
-use mathlib.Core.Path.{_≡_, refl, sym}
-use mathlib.Core.Bool.{true, false}
-use mathlib.Core.Logic.{_⊎_, inl, inr}
-use mathlib.Core.List.{List, [], _∷_}
-use Prim.Native.Nat.{ℕ, zero, suc, _+_, _-_, _≤_, _<_}
+-- What the code reads before a row: the stop before its position. Assumes nothing.
+use mathlib.Core.Path.{_≡_, refl}
+use mathlib.Core.List.{List}
+use Prim.Native.Nat.{ℕ, zero, suc, _-_, _<_}
 use native.Mathlib.Omega.{arith}
-use native.Mathlib.Nat.{eq-or-lt-of-le}
-use native.Mathlib.Numerals.{add-one}
-use lib.ListN.{length, getD, List·getD-append}
-use lib.Seq.{getD-at}
-use Rattle.theory.specs.Route.{Problem, feasible}
+use lib.ListN.{length, getD}
 use Rattle.theory.specs.Tables.{Measurable}
-use Rattle.theory.specs.Answers.{Checked}
-use Rattle.theory.specs.declared.Deadline.{Deadline}
-use Rattle.theory.specs.declared.Deadline.the-variants as Check
-use Rattle.deadlines.proofs.Answer.{kept-feasible, late-infeasible}
-use Rattle.pair_loop.specs.PairLoop.{stop-before, stop-after}
+use Rattle.pair_loop.specs.PairLoop.{stop-before}
 
 pub before-inside : (depot : ℕ) (r : List ℕ) (i : ℕ) → (i ≡ 0 → ⊥) → getD r (i - 1) 0 ≡ stop-before depot r i
 before-inside depot r zero h = absurd (h refl)
 before-inside depot r (suc i) h = let e : suc i - 1 ≡ i = omega arith in rw e
 
-pub after-inside : (depot : ℕ) (r : List ℕ) (j : ℕ) → j + 1 < length r → getD r (j + 1) 0 ≡ stop-after depot r j
-after-inside depot r j h = rw (add-one j) (sym (List·getD-append r (depot ∷ []) 0 (suc j) (omega arith)))
-
-pub after-last : (depot : ℕ) (r : List ℕ) (j : ℕ) → j < length r → length r ≤ j + 1 → depot ≡ stop-after depot r j
-after-last depot r j h k = sym (getD-at r depot [] 0 (suc j) (omega arith))
-
--- The stops about a pair are locations.
+-- It is a location.
 pub before-known : {locations depot : ℕ} {legs r : List ℕ} → Measurable locations legs depot r → (i : ℕ) → i < length r → stop-before depot r i < locations
 before-known m zero h = m .depot-known
 before-known m (suc i) h = m .stops .known i (omega arith)
-
-pub after-known : {locations depot : ℕ} {legs r : List ℕ} → Measurable locations legs depot r → (j : ℕ) → j < length r → stop-after depot r j < locations
-after-known {locations} {depot} {legs} {r} m j h = by (eq-or-lt-of-le h)
-  where
-    by : (suc j ≡ length r) ⊎ (suc j < length r) → stop-after depot r j < locations
-    by (inl e) = rw (getD-at r depot [] 0 (suc j) (sym e)) (m .depot-known)
-    by (inr l) = rw (List·getD-append r (depot ∷ []) 0 (suc j) l) (m .stops .known (suc j) l)
-
-pub kept-told : (P : Problem) (r : List ℕ) {answer : Deadline} → answer ≡ Check.Kept → Checked P r answer → true ≡ feasible P r
-kept-told P r a told = sym (kept-feasible P r (rw a at told))
-
-pub late-told : (P : Problem) (r : List ℕ) {answer : Deadline} {p : ℕ} → answer ≡ Check.Late p → Checked P r answer → false ≡ feasible P r
-late-told P r a told = sym (late-infeasible P r (rw a at told))

@@ -11,8 +11,8 @@ use Rattle.theory.specs.Moves.{upfrom}
 use Rattle.theory.specs.Route.{Problem}
 use Rattle.theory.specs.Scan.{Reply}
 use Rattle.pair_loop.specs.declared.PairLoop.{PairLoop}
-use Rattle.pair_loop.specs.PairLoop.{reply-of, stop-before, turned, accepts, so-far, spent, examine, pair, row, pass}
-use Rattle.pair_loop.specs.Parts.{Tried}
+use Rattle.reversal.specs.Reversal.{turned, accepts, Tried}
+use Rattle.pair_loop.specs.PairLoop.{reply-of, stop-before, so-far, spent, examine, pair, row, pass}
 
 -- An answer while the allowance lasts.
 pub going-is : (counted : PairLoop) (r : List ℕ) → counted .finished ≡ true → reply-of counted r ≡ so-far (counted .examined) (counted .accepted) r

@@ -2,36 +2,19 @@
 -- ends the loop.
 use mathlib.Core.Path.{_≡_}
 use mathlib.Core.Bool.{Bool, true, false, _&&_, not, cond}
-use mathlib.Core.List.{List, [], _∷_, _++_, reverse, foldl}
-use Prim.Native.Nat.{ℕ, zero, suc, _+_, _-_, _≤_}
+use mathlib.Core.List.{List, _∷_, foldl}
+use Prim.Native.Nat.{ℕ, zero, suc, _-_, _≤_}
 use lib.Dec.{ltb, eqb}
-use lib.ListN.{length, getD, take, drop}
-use lib.Seq.{slice}
+use lib.ListN.{length, getD}
 use Rattle.theory.specs.Moves.{upfrom}
-use Rattle.theory.specs.Route.{Problem, count, feasible}
+use Rattle.theory.specs.Route.{Problem, count}
 use Rattle.theory.specs.Scan.{Reply}
+use Rattle.reversal.specs.Reversal.{turned, accepts}
 use Rattle.pair_loop.specs.declared.PairLoop.{PairLoop}
 
 -- "The stop before i, or the depot."
 abbrev pub stop-before : (depot : ℕ) → List ℕ → ℕ → ℕ
 stop-before depot r i = getD (depot ∷ r) i 0
-
--- "The one after, or the depot."
-abbrev pub stop-after : (depot : ℕ) → List ℕ → ℕ → ℕ
-stop-after depot r j = getD (r ++ (depot ∷ [])) (suc j) 0
-
--- "Turn i..j": the stops i to j are reversed.
-unfoldable pub turned : ℕ → ℕ → List ℕ → List ℕ
-turned i j r = take i r ++ (reverse (slice i (suc j) r) ++ drop (suc j) r)
-
--- "d(a,c) + d(b,e) < d(a,b) + d(c,e)"
-unfoldable pub shortens : (d : ℕ → ℕ → ℕ) → (a b c e : ℕ) → Bool
-shortens d a b c e = ltb (d a c + d b e) (d a b + d c e)
-
--- "c is stop j and e the one after, or the depot. If .., turn i..j; late, turn back": the turn stays exactly where it shortens and keeps every deadline.
-unfoldable pub accepts : Problem → (a b i : ℕ) → List ℕ → (j : ℕ) → Bool
-unfolding shortens turned
-accepts P a b i r j = shortens (P .leg) a b (getD r j 0) (stop-after (P .depot) r j) && feasible P (turned i j r)
 
 -- What the loop has come to while the allowance lasts.
 abbrev pub so-far : (examined accepted : ℕ) → List ℕ → Reply (List ℕ)

@@ -18,7 +18,8 @@ use Rattle.theory.proofs.Stops.{as-many}
 use Rattle.theory.specs.declared.RoundState.{RoundState}
 use Rattle.theory.specs.declared.RoundState.the-variants as State
 use Rattle.pair_loop.proofs.Progress.{loop-onward, loop-bounded}
-use Rattle.round.specs.Round.{Outcome, polish-round, outcome, run-round, number-of, examined-of, Finished, RoundRan}
+use Rattle.states.specs.States.{number-of, examined-of, Finished}
+use Rattle.round.specs.Round.{Outcome, polish-round, outcome, run-round, RoundRan}
 
 module _ (P : Problem) (k left : ℕ) (r : List ℕ) where
   -- Of a reply to the route.

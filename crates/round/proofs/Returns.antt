@@ -2,7 +2,7 @@
 use mathlib.Core.Path.{_≡_, refl, sym, ap, _∙_}
 use mathlib.Core.Bool.{Bool, true, false, cond}
 use mathlib.Core.List.{List, _++_, append-nil}
-use Prim.Native.Nat.{ℕ, zero, suc, _+_, _≤_, _<_}
+use Prim.Native.Nat.{ℕ, _+_, _≤_, _<_}
 use native.Mathlib.Omega.{arith}
 use lib.ListN.{length, take, drop, drop-of-length-le}
 use lib.Seq.{take-at}
@@ -17,19 +17,10 @@ use Rattle.theory.specs.declared.RoundState.{RoundState}
 use Rattle.theory.specs.declared.RoundState.the-variants as State
 use Rattle.pair_loop.specs.PairLoop.{PairsTried}
 use Rattle.pair_loop.specs.declared.PairLoop.{PairLoop}
-use Rattle.round.specs.Round.{polish-round, state-after, outcome, run-round, Replies, Ends, RoundRan}
+use Rattle.states.specs.States.{state-after}
+use Rattle.round.specs.Round.{polish-round, outcome, run-round, Replies, Ends, RoundRan}
 use Rattle.round.specs.declared.Replied.{Replied}
 use Rattle.round.proofs.Facts.{round-ran}
-
-pub spent : (f : Bool) (e a : ℕ) → f ≡ false → State.Spent (record { examined = e; accepted = a }) ≡ state-after f e a
-spent f e a h = rw h
-
-pub unchanged : (f : Bool) (e a : ℕ) → f ≡ true → a ≡ 0 → State.Unchanged e ≡ state-after f e a
-unchanged f e a h z = rw (h, z)
-
-pub changed : (f : Bool) (e a : ℕ) → f ≡ true → ¬ (a ≡ 0) → State.Changed (record { examined = e; accepted = a }) ≡ state-after f e a
-changed f e zero h n = absurd (n refl)
-changed f e (suc a) h n = rw h
 
 module _ (P : Problem) (k left : ℕ) (r r′ : List ℕ) where
   pub by-pairs : (pairs : PairLoop) → k ≡ 2 → PairsTried P left r pairs r′ →

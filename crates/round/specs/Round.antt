@@ -1,19 +1,18 @@
 -- Document 01, "Run": one round of it.
 use mathlib.Core.Path.{_≡_}
-use mathlib.Core.Bool.{Bool, true, false, cond}
-use mathlib.Core.Logic.{_⊎_}
+use mathlib.Core.Bool.{cond}
 use mathlib.Core.List.{List}
-use Prim.Native.Nat.{ℕ, zero, suc, _≤_}
+use Prim.Native.Nat.{ℕ, _≤_}
 use lib.Dec.{eqb, ltb}
-use lib.ListN.{length, getD}
+use lib.ListN.{length}
 use Rattle.theory.specs.Scan.{Reply}
 use Rattle.theory.specs.Moves.{patterns}
 use Rattle.theory.specs.Route.{Problem, count}
 use Rattle.theory.specs.Polish.{polish, KOptimal}
-use Rattle.theory.specs.Answers.{round-values}
 use Rattle.theory.specs.declared.RoundState.{RoundState}
 use Rattle.theory.specs.declared.RoundState.the-variants as State
 use Rattle.pair_loop.specs.PairLoop.{pair-loop}
+use Rattle.states.specs.States.{state-after, number-of, examined-of, Finished}
 use Rattle.round.specs.declared.Replied.{Replied}
 
 -- What the run hands back of a round.
@@ -24,12 +23,6 @@ pub record Outcome : Type 0 where
 -- "Else polish, k = 2 by the pair loop."
 abbrev pub polish-round : Problem → ℕ → ℕ → List ℕ → Reply (List ℕ)
 polish-round P k left r = cond (eqb k 2) (pair-loop P left r) (polish P k left r)
-
--- "3 unchanged, 4 changed, meaning accepted above 0, 5 spent."
-abbrev pub state-after : (finished : Bool) (examined accepted : ℕ) → RoundState
-state-after false examined accepted = State.Spent (record { examined = examined; accepted = accepted })
-state-after true examined zero = State.Unchanged examined
-state-after true examined (suc accepted) = State.Changed (record { examined = examined; accepted = suc accepted })
 
 -- Of the reply q to the round r: "a spent round is put back as handed in".
 abbrev pub outcome : List ℕ → Reply (List ℕ) → Outcome
@@ -42,17 +35,6 @@ run-round P k left pin r =
     (cond (eqb pin 0)
     (cond (ltb (length r) 4) (record { state = State.Short; route = r }) (outcome r (polish-round P k left r)))
     (record { state = State.Pinned; route = r }))
-
-abbrev pub number-of : RoundState → ℕ
-number-of s = getD (round-values s) 0 0
-
--- The candidates that a round took from the allowance.
-abbrev pub examined-of : RoundState → ℕ
-examined-of s = getD (round-values s) 1 0
-
--- The number of a state that says that polishing finished: "3 unchanged, 4 changed".
-abbrev pub Finished : ℕ → Type 0
-Finished n = (n ≡ 3) ⊎ (n ≡ 4)
 
 -- What the polishing of a round answers, and the route that it leaves.
 pub record Replies (P : Problem) (k left : ℕ) (r : List ℕ) (answer : Replied) (r′ : List ℕ) : Type 0 where

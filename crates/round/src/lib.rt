@@ -1,13 +1,12 @@
 // One round of a run: passed over, or polished with the allowance that is left. No entry: the crates above call it.
 use theory::Polished;
 use theory::RoundState;
-use theory::Tally;
 ghost use mathlib.Core.Path.{_≡_};
 ghost use mathlib.Core.Bool.{cond};
 ghost use lib.ListN.{length};
 ghost use Rattle.theory.specs.Tables.{problem};
 ghost use Rattle.polishing.specs.Loop.{Polishable};
-ghost use Rattle.round.specs.Round.{state-after, Replies, outcome, polish-round, Ends, RoundRan};
+ghost use Rattle.round.specs.Round.{Replies, outcome, polish-round, Ends, RoundRan};
 
 // What the polishing of a round counted.
 struct Replied {
@@ -51,18 +50,6 @@ fn polish_round(
     }
 }
 
-fn state_after(finished: bool, examined: u64, accepted: u64) -> RoundState
-    ensures { λ r. ⌜ r ≡ state-after finished examined accepted ⌝ }
-{
-    if !finished {
-        return RoundState::Spent(Tally { examined, accepted });
-    }
-    if accepted == 0 {
-        return RoundState::Unchanged(examined);
-    }
-    RoundState::Changed(Tally { examined, accepted })
-}
-
 fn keep_or_put_back(finished: bool, old: &[u32], route: &mut [u32])
     requires { ⌜ length (now old) ≡ length (now route) ⌝ }
     ensures { λ _. ⌜ now (route .exit) ≡ cond finished (now (route .entry)) (now (old .entry)) ⌝ }
@@ -91,7 +78,7 @@ fn polish_or_put_back(
     reconnection::copy_in(&route[..], &mut old, 0);
     let reply = polish_round(k, left, locations, legs, latest, depot, route);
     keep_or_put_back(reply.finished, &old[..n], route);
-    state_after(reply.finished, reply.examined, reply.accepted)
+    states::state_after(reply.finished, reply.examined, reply.accepted)
 }
 
 // The order of the tests is the document's: the allowance, the pin, the number of stops.

@@ -1,31 +1,17 @@
--- Four numbers written one after the other, and where those of a round stand. Assumes nothing.
+-- Where the numbers of a round stand among those of a run. Assumes nothing.
 use mathlib.Core.Path.{_≡_, refl, ap, _∙_}
 use mathlib.Core.List.{List, [], _∷_, _++_, flatMap, append-assoc}
-use Prim.Native.Nat.{ℕ, zero, suc, _+_, _*_, _≤_, _<_}
+use Prim.Native.Nat.{ℕ, zero, suc, _+_, _*_, _<_}
 use native.Mathlib.Omega.{arith}
-use lib.ListN.{length, getD, set, drop, List·getD-append}
+use lib.ListN.{length, getD, List·getD-append}
 use lib.Seq.{getD-append-add}
 use Rattle.theory.specs.Moves.{total, upfrom}
 use Rattle.theory.specs.Answers.{round-values}
-use Rattle.theory.specs.declared.RoundState.{RoundState}
 use Rattle.theory.specs.declared.RoundState.the-variants as State
-use Rattle.round.specs.Round.{Outcome, number-of, examined-of}
+use Rattle.states.specs.States.{number-of, examined-of}
+use Rattle.states.proofs.Values.{four-values}
+use Rattle.round.specs.Round.{Outcome}
 use Rattle.run.specs.Run.{numbers, examined-in}
-
-pub four-written : (l : List ℕ) (a b c d : ℕ) → 4 ≤ length l → set (set (set (set l 0 a) 1 b) 2 c) 3 d ≡ a ∷ b ∷ c ∷ d ∷ drop 4 l
-four-written [] a b c d h = absurd (omega arith)
-four-written (v ∷ []) a b c d h = absurd (omega arith)
-four-written (v ∷ w ∷ []) a b c d h = absurd (omega arith)
-four-written (v ∷ w ∷ x ∷ []) a b c d h = absurd (omega arith)
-four-written (v ∷ w ∷ x ∷ y ∷ l) a b c d h = refl
-
-pub four-values : (s : RoundState) → length (round-values s) ≡ 4
-four-values State.NotReached = refl
-four-values State.Pinned = refl
-four-values State.Short = refl
-four-values (State.Unchanged e) = refl
-four-values (State.Changed t) = refl
-four-values (State.Spent t) = refl
 
 of-four : (v w : List ℕ) (p : ℕ) → length v ≡ 4 → p < 4 → getD (v ++ w) p 0 ≡ getD v p 0
 of-four v w p h l = List·getD-append v w 0 p (omega (arith, h, l))

@@ -12,7 +12,8 @@ use Rattle.theory.specs.Route.{Problem, count}
 use Rattle.theory.specs.Tables.{problem}
 use Rattle.theory.specs.declared.RoundState.the-variants as State
 use Rattle.theory.proofs.Moves.{length-upfrom}
-use Rattle.round.specs.Round.{Outcome, run-round, number-of, examined-of}
+use Rattle.states.specs.States.{number-of, examined-of}
+use Rattle.round.specs.Round.{Outcome, run-round}
 use Rattle.round.proofs.Facts.{Fine, round-fine, round-length}
 use Rattle.run.specs.Run.{Given, round-at, given, rounds, run, routes, numbers, examined-in, Runnable, Ran}
 use Rattle.run.proofs.Numbers.{none, number-at, taken, taken-is}

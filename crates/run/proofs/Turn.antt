@@ -11,10 +11,11 @@ use Rattle.theory.specs.Tables.{problem}
 use Rattle.theory.specs.Answers.{round-values}
 use Rattle.theory.specs.declared.RoundState.{RoundState}
 use Rattle.polishing.specs.Loop.{Polishable}
-use Rattle.round.specs.Round.{Outcome, examined-of, RoundRan}
+use Rattle.states.specs.States.{examined-of}
+use Rattle.states.proofs.Values.{four-values}
+use Rattle.round.specs.Round.{Outcome, RoundRan}
 use Rattle.round.proofs.Facts.{round-length}
 use Rattle.run.specs.Run.{Given, round-at, given, rounds, run, routes, numbers, Runnable, Ran}
-use Rattle.run.proofs.Numbers.{four-values}
 use Rattle.run.proofs.Outcomes.{within, ran}
 
 -- A part of s, at `at` and m long, is replaced by y.

@@ -8,7 +8,8 @@ use Rattle.theory.specs.Route.{Problem, count}
 use Rattle.theory.specs.Polish.{KOptimal}
 use Rattle.theory.specs.Tables.{problem, LegTable}
 use Rattle.theory.specs.Answers.{round-values}
-use Rattle.round.specs.Round.{Outcome, run-round, examined-of, Finished}
+use Rattle.states.specs.States.{examined-of, Finished}
+use Rattle.round.specs.Round.{Outcome, run-round}
 
 -- "Whose stops lie end to end, with a length": the stops of round i follow those of the rounds before it.
 abbrev pub round-at : (lengths stops : List ℕ) → ℕ → List ℕ

@@ -1,0 +1,61 @@
+-- The three ends of a tried pair: the legs are not shorter, the turn stays, or it is late and turned back. Assumes nothing.
+use mathlib.Core.Path.{_≡_, refl, sym, ap, _∙_}
+use mathlib.Core.Bool.{Bool, true, false, cond, _&&_}
+use mathlib.Core.List.{List}
+use Prim.Native.Nat.{ℕ, _≤_}
+use lib.ListN.{length, getD}
+use Rattle.theory.specs.Moves.{total}
+use Rattle.theory.specs.Route.{Problem, feasible}
+use Rattle.theory.specs.Tables.{Timed}
+use Rattle.theory.proofs.Stops.{as-many, stops-rearranged}
+use Rattle.reversal.specs.Reversal.{stop-after, turned, shortens, accepts, Tried}
+use Rattle.reversal.proofs.Turning.{total-turned}
+
+-- A rearranged route has its deadlines in reach, and as many stops.
+pub timed-rearranged : {locations : ℕ} {legs latest : List ℕ} {depot : ℕ} {r r′ : List ℕ} → ((g : ℕ → ℕ) → total g r′ ≡ total g r) →
+    Timed locations legs latest depot r → Timed locations legs latest depot r′ × (length r′ ≡ length r)
+timed-rearranged {locations} {r = r} {r′ = r′} same t =
+    let m = t .measurable in (
+      record {
+        measurable = record { table = m .table; depot-known = m .depot-known; stops = stops-rearranged r r′ same locations (m .stops) };
+        deadlines = t .deadlines;
+      },
+      as-many r r′ same,
+    )
+
+module _ (P : Problem) (a b i j : ℕ) (r : List ℕ) where
+  of : (x y : Bool) → shortens (P .leg) a b (getD r j 0) (stop-after (P .depot) r j) ≡ x → feasible P (turned i j r) ≡ y → accepts P a b i r j ≡ (x && y)
+  unfolding accepts
+  of x y s f = rw (s, f)
+
+  -- As the code found the stop e after j, and whether the legs are shorter.
+  module _ {e : ℕ} {shorter : Bool} (after : e ≡ stop-after (P .depot) r j) (found : shorter ≡ shortens (P .leg) a b (getD r j 0) e) where
+    shorter-is : shortens (P .leg) a b (getD r j 0) (stop-after (P .depot) r j) ≡ shorter
+    shorter-is = sym (rw after at found)
+
+    pub tried-longer : shorter ≡ false → Tried P a b i j r false r
+    tried-longer s = let d = of false (feasible P (turned i j r)) (shorter-is ∙ s) refl in record { is = sym d; route-is = rw d }
+
+    -- And whether the route, turned once, keeps every deadline.
+    module _ (s : shorter ≡ true) {once : List ℕ} {kept : Bool} (turn : once ≡ turned i j r) (judged : kept ≡ feasible P once) where
+      kept-is : feasible P (turned i j r) ≡ kept
+      kept-is = sym (rw turn at judged)
+
+      pub tried-kept : kept ≡ true → Tried P a b i j r true once
+      tried-kept k = let d = of true true (shorter-is ∙ s) (kept-is ∙ k) in record { is = sym d; route-is = rw d turn }
+
+      pub tried-late : kept ≡ false → {back : List ℕ} → back ≡ r → Tried P a b i j r false back
+      tried-late k t = let d = of true false (shorter-is ∙ s) (kept-is ∙ k) in record { is = sym d; route-is = rw d t }
+
+  -- The route after a pair has the same stops.
+  pub tried-timed : {locations : ℕ} {legs latest : List ℕ} {depot : ℕ} {answer : Bool} {r′ : List ℕ} → i ≤ j → Tried P a b i j r answer r′ →
+      Timed locations legs latest depot r → Timed locations legs latest depot r′ × (length r′ ≡ length r)
+  tried-timed h t timed = timed-rearranged (λ g. ap (total g) (t .route-is) ∙ by g (accepts P a b i r j)) timed
+    where
+      by : (g : ℕ → ℕ) (x : Bool) → total g (cond x (turned i j r) r) ≡ total g r
+      by g true = total-turned g i j r h
+      by g false = refl
+
+pub turned-timed : (i j : ℕ) (r : List ℕ) {locations : ℕ} {legs latest : List ℕ} {depot : ℕ} {r′ : List ℕ} → i ≤ j → r′ ≡ turned i j r →
+    Timed locations legs latest depot r → Timed locations legs latest depot r′
+turned-timed i j r h e timed = timed-rearranged (λ g. ap (total g) e ∙ total-turned g i j r h) timed .0

@@ -1,0 +1,26 @@
+-- Document 01, "Run": the state of a round and its four numbers.
+use mathlib.Core.Path.{_≡_}
+use mathlib.Core.Bool.{Bool, true, false}
+use mathlib.Core.Logic.{_⊎_}
+use Prim.Native.Nat.{ℕ, zero, suc}
+use lib.ListN.{getD}
+use Rattle.theory.specs.Answers.{round-values}
+use Rattle.theory.specs.declared.RoundState.{RoundState}
+use Rattle.theory.specs.declared.RoundState.the-variants as State
+
+-- "3 unchanged, 4 changed, meaning accepted above 0, 5 spent."
+abbrev pub state-after : (finished : Bool) (examined accepted : ℕ) → RoundState
+state-after false examined accepted = State.Spent (record { examined = examined; accepted = accepted })
+state-after true examined zero = State.Unchanged examined
+state-after true examined (suc accepted) = State.Changed (record { examined = examined; accepted = suc accepted })
+
+abbrev pub number-of : RoundState → ℕ
+number-of s = getD (round-values s) 0 0
+
+-- The candidates that a round took from the allowance.
+abbrev pub examined-of : RoundState → ℕ
+examined-of s = getD (round-values s) 1 0
+
+-- The number of a state that says that polishing finished: "3 unchanged, 4 changed".
+abbrev pub Finished : ℕ → Type 0
+Finished n = (n ≡ 3) ⊎ (n ≡ 4)
