@@ -22,21 +22,11 @@ use theory::Listing;
 use theory::ReconnectionAt;
 use theory::RouteLength;
 
-fn pattern_refusal(k: usize, pattern: usize) -> u32
-    ensures { λ r. ⌜ r ≡ refusal (pattern-rules k pattern) ⌝ }
-{
-    let bad_k = refusals::check_cut_count(k);
-    if bad_k != 0 {
-        return bad_k;
-    }
-    refusals::check_pattern_index(k, pattern)
-}
-
 // The pattern with an index. Refuses 1, 6.
 pub fn reconnection_at(k: usize, pattern: usize) -> ReconnectionAt
     ensures { λ r. ⌜ ReconnectionReply k pattern r ⌝ }
 {
-    let refused = pattern_refusal(k, pattern);
+    let refused = judging::pattern_refusal(k, pattern);
     if refused != 0 {
         let none = KOptReconnection {
             segment_order: [0; 6],
@@ -55,20 +45,11 @@ pub fn reconnection_at(k: usize, pattern: usize) -> ReconnectionAt
     }
 }
 
-fn next_cut_set_refusal(k: usize, n: usize, cuts: &[usize]) -> u32
-    ensures { λ r. ⌜ r ≡ refusal (next-cut-set-rules k n (now (cuts .entry))) ⌝ }
-{
-    let bad_k = refusals::check_cut_count(k);
-    let bad_n = refusals::check_stop_count(n);
-    let bad_cuts = refusals::check_cut_positions(k, n, cuts);
-    refusals::first(bad_k, refusals::first(bad_n, bad_cuts))
-}
-
 // Moves k cuts of a route of n stops on to the next set, or answers that there is none. Refuses 1, 5, 7.
 pub fn next_cut_set(k: usize, n: usize, cuts: &mut [usize]) -> CutStep
     ensures { λ r. ⌜ NextCutSetReply k n (now (cuts .entry)) r (now (cuts .exit)) ⌝ }
 {
-    let refused = next_cut_set_refusal(k, n, &cuts[..]);
+    let refused = judging::next_cut_set_refusal(k, n, &cuts[..]);
     if refused != 0 {
         return CutStep::Refused(refused);
     }
@@ -78,29 +59,12 @@ pub fn next_cut_set(k: usize, n: usize, cuts: &mut [usize]) -> CutStep
     CutStep::Last
 }
 
-fn reconnect_refusal(k: usize, pattern: usize, cuts: &[usize], n: usize, lent: usize) -> u32
-    ensures { λ r. ⌜ r ≡ refusal (reconnect-rules k pattern (now (cuts .entry)) n lent) ⌝ }
-{
-    let bad_k = refusals::check_cut_count(k);
-    if bad_k != 0 {
-        return bad_k;
-    }
-    let bad_n = refusals::check_stop_count(n);
-    let bad_pattern = refusals::check_pattern_index(k, pattern);
-    let bad_cuts = refusals::check_cut_positions(k, n, cuts);
-    let bad_room = refusals::check_room(n, lent);
-    refusals::first(
-        bad_n,
-        refusals::first(bad_pattern, refusals::first(bad_cuts, bad_room)),
-    )
-}
-
 // The route after the pattern is applied at the cuts, into the first places of out. Refuses 1, 5, 6, 7, 21.
 pub fn reconnect(k: usize, pattern: usize, cuts: &[usize], route: &[u32], out: &mut [u32]) -> u32
     ensures { λ r. ⌜ ReconnectReply k pattern (now (cuts .entry)) (now (route .entry)) (now (out .entry)) r (now (out .exit)) ⌝ }
 {
     let n = route.len();
-    let refused = reconnect_refusal(k, pattern, cuts, n, out.len());
+    let refused = judging::reconnect_refusal(k, pattern, cuts, n, out.len());
     if refused != 0 {
         return refused;
     }
@@ -108,49 +72,15 @@ pub fn reconnect(k: usize, pattern: usize, cuts: &[usize], route: &[u32], out: &
     0
 }
 
-fn route_length_refusal(locations: usize, legs: &[u32], depot: u32, route: &[u32]) -> u32
-    ensures { λ r. ⌜ r ≡ refusal (route-length-rules locations (now (legs .entry)) depot (now (route .entry))) ⌝ }
-{
-    let bad_table = refusals::check_leg_table(locations, legs);
-    let bad_legs = refusals::check_leg_sizes(legs);
-    let bad_stops = refusals::check_known_stops(locations, depot, route);
-    let bad_n = refusals::check_stop_count(route.len());
-    refusals::first(
-        bad_table,
-        refusals::first(bad_legs, refusals::first(bad_stops, bad_n)),
-    )
-}
-
 // The length of a route. Refuses 2 (of locations and legs), 3, 4, 5.
 pub fn route_length(locations: usize, legs: &[u32], depot: u32, route: &[u32]) -> RouteLength
     ensures { λ r. ⌜ RouteLengthReply locations (now (legs .entry)) depot (now (route .entry)) r ⌝ }
 {
-    let refused = route_length_refusal(locations, legs, depot, route);
+    let refused = judging::route_length_refusal(locations, legs, depot, route);
     if refused != 0 {
         return RouteLength::Refused(refused);
     }
     RouteLength::Seconds(costs::route_length(locations, legs, depot, route))
-}
-
-fn delta_refusal(
-    k: usize,
-    pattern: usize,
-    cuts: &[usize],
-    locations: usize,
-    legs: &[u32],
-    depot: u32,
-    route: &[u32],
-) -> u32
-    ensures { λ r. ⌜ r ≡ refusal (delta-rules k pattern (now (cuts .entry)) locations (now (legs .entry)) depot (now (route .entry))) ⌝ }
-{
-    let bad_k = refusals::check_cut_count(k);
-    if bad_k != 0 {
-        return bad_k;
-    }
-    let bad_route = route_length_refusal(locations, legs, depot, route);
-    let bad_pattern = refusals::check_pattern_index(k, pattern);
-    let bad_cuts = refusals::check_cut_positions(k, route.len(), cuts);
-    refusals::first(bad_route, refusals::first(bad_pattern, bad_cuts))
 }
 
 // The length after a move minus the length before. Refuses 1, 2 (of locations and legs), 3 to 7.
@@ -165,7 +95,7 @@ pub fn delta(
 ) -> LengthDelta
     ensures { λ r. ⌜ DeltaReply k pattern (now (cuts .entry)) locations (now (legs .entry)) depot (now (route .entry)) r ⌝ }
 {
-    let refused = delta_refusal(k, pattern, cuts, locations, legs, depot, route);
+    let refused = judging::delta_refusal(k, pattern, cuts, locations, legs, depot, route);
     if refused != 0 {
         return LengthDelta::Refused(refused);
     }
@@ -190,23 +120,6 @@ pub fn route_feasible(
     Feasibility::Checked(answer)
 }
 
-fn polish_refusal(
-    k: usize,
-    locations: usize,
-    legs: &[u32],
-    latest: &[u32],
-    depot: u32,
-    route: &[u32],
-    lent: usize,
-) -> u32
-    ensures { λ r. ⌜ r ≡ refusal (polish-rules k locations (now (legs .entry)) (now (latest .entry)) depot (now (route .entry)) lent) ⌝ }
-{
-    let bad_k = refusals::check_cut_count(k);
-    let bad_problem = refusals::check_problem(locations, legs, latest, depot, route);
-    let bad_room = refusals::check_room(5, lent);
-    refusals::first(bad_k, refusals::first(bad_problem, bad_room))
-}
-
 // Polishes a route. Refuses 1, 2, 3, 4, 5, 21. The result receives 0 finished or 1 spent, examined, accepted, length before, length after.
 #[no_mangle]
 pub extern "C" fn mittenschist_polish_route(
@@ -221,7 +134,7 @@ pub extern "C" fn mittenschist_polish_route(
 ) -> u32
     ensures { λ r. ⌜ PolishReply k allowance locations (now (legs .entry)) (now (latest .entry)) depot (now (route .entry)) (now (result .entry)) r (now (route .exit)) (now (result .exit)) ⌝ }
 {
-    let refused = polish_refusal(k, locations, legs, latest, depot, &route[..], result.len());
+    let refused = judging::polish_refusal(k, locations, legs, latest, depot, &route[..], result.len());
     if refused != 0 {
         return refused;
     }
@@ -258,7 +171,7 @@ fn give_signed(value: i64, result: &mut [i64]) -> u32
 pub extern "C" fn mittenschist_reconnection_at(k: usize, pattern: usize, result: &mut [u64]) -> u32
     ensures { λ r. ⌜ Written (pattern-rules k pattern) (k + 2) (pattern-values k pattern) (now (result .entry)) r (now (result .exit)) ⌝ }
 {
-    let bad_pattern = pattern_refusal(k, pattern);
+    let bad_pattern = judging::pattern_refusal(k, pattern);
     if bad_pattern != 0 {
         return bad_pattern;
     }
@@ -280,7 +193,7 @@ pub extern "C" fn mittenschist_next_cut_set(
 ) -> u32
     ensures { λ r. ⌜ NextCutSetWritten k n (now (cuts .entry)) (now (result .entry)) r (now (cuts .exit)) (now (result .exit)) ⌝ }
 {
-    let bad_cuts = next_cut_set_refusal(k, n, &cuts[..]);
+    let bad_cuts = judging::next_cut_set_refusal(k, n, &cuts[..]);
     let bad_room = refusals::check_room(1, result.len());
     let refused = refusals::first(bad_cuts, bad_room);
     if refused != 0 {
@@ -417,31 +330,6 @@ pub extern "C" fn mittenschist_k_opt_is_doable(
     }
 }
 
-fn run_refusal(
-    k: usize,
-    locations: usize,
-    legs: &[u32],
-    latest: &[u32],
-    stops: &[u32],
-    lengths: &[usize],
-    depots: &[u32],
-    pins: &[u8],
-    lent: usize,
-) -> u32
-    ensures { λ r. ⌜ r ≡ refusal (run-rules k locations (now (legs .entry)) (now (latest .entry)) (now (stops .entry)) (now (lengths .entry)) (now (depots .entry)) (now (pins .entry)) lent) ⌝ }
-{
-    let bad_k = refusals::check_cut_count(k);
-    let bad_table = refusals::check_leg_table(locations, legs);
-    let bad_latest = refusals::check_deadline_list(locations, latest);
-    let bad_legs = refusals::check_leg_sizes(legs);
-    let bad_stops = refusals::check_known_rounds(locations, depots, stops);
-    let bad_rounds = refusals::check_round_lists(lengths, depots, pins, stops.len());
-    let bad_room = refusals::check_room(4 * lengths.len(), lent);
-    let bad_lists = refusals::first(bad_stops, refusals::first(bad_rounds, bad_room));
-    let bad_tables = refusals::first(bad_table, refusals::first(bad_latest, bad_legs));
-    refusals::first(bad_k, refusals::first(bad_tables, bad_lists))
-}
-
 // The run over rounds that lie end to end. Refuses 1, 2, 3, 4, 5, 21. The result receives four numbers a round: state, examined, accepted, applied.
 #[no_mangle]
 pub extern "C" fn mittenschist_run_list_k_opt(
@@ -459,7 +347,7 @@ pub extern "C" fn mittenschist_run_list_k_opt(
     ensures { λ r. ⌜ RunReply k allowance locations (now (legs .entry)) (now (latest .entry)) (now (stops .entry)) (now (lengths .entry)) (now (depots .entry)) (now (pins .entry)) (now (result .entry)) r (now (stops .exit)) (now (result .exit)) ⌝ }
 {
     let lent = result.len();
-    let refused = run_refusal(
+    let refused = judging::run_refusal(
         k,
         locations,
         legs,
@@ -488,27 +376,6 @@ pub extern "C" fn mittenschist_run_list_k_opt(
     0
 }
 
-fn nearby_refusal(
-    n: usize,
-    distances: &[f64],
-    k: usize,
-    m: usize,
-    neighbours: usize,
-    lent: usize,
-) -> u32
-    ensures { λ r. ⌜ r ≡ refusal (nearby-rules n (now (distances .entry)) k m neighbours lent) ⌝ }
-{
-    let bad_k = refusals::check_cut_count(k);
-    let bad_n = refusals::check_stop_count(n);
-    let bad_size = refusals::first(bad_k, bad_n);
-    if bad_size != 0 {
-        return bad_size;
-    }
-    let bad_input = refusals::check_nearby_input(n, distances, m, neighbours);
-    let bad_room = refusals::check_room(k, lent);
-    refusals::first(bad_input, bad_room)
-}
-
 // Lists the nearby cut sets, k places each, until no whole set fits any more. Refuses 1, 5, 9, 21.
 pub fn nearby_cuts(
     n: usize,
@@ -520,7 +387,7 @@ pub fn nearby_cuts(
 ) -> Listing
     ensures { λ r. ⌜ NearbyReply n (now (distances .entry)) k «min_segment_len» «max_nearby» (now (sets .entry)) r (now (sets .exit)) ⌝ }
 {
-    let refused = nearby_refusal(n, distances, k, min_segment_len, max_nearby, sets.len());
+    let refused = judging::nearby_refusal(n, distances, k, min_segment_len, max_nearby, sets.len());
     if refused != 0 {
         return Listing::Refused(refused);
     }
@@ -549,7 +416,7 @@ pub extern "C" fn mittenschist_nearby_cuts(
 ) -> u32
     ensures { λ r. ⌜ NearbyWritten n (now (distances .entry)) k «min_segment_len» «max_nearby» (now (sets .entry)) (now (result .entry)) r (now (sets .exit)) (now (result .exit)) ⌝ }
 {
-    let bad_input = nearby_refusal(n, distances, k, min_segment_len, max_nearby, sets.len());
+    let bad_input = judging::nearby_refusal(n, distances, k, min_segment_len, max_nearby, sets.len());
     let bad_room = refusals::check_room(2, result.len());
     let refused = refusals::first(bad_input, bad_room);
     if refused != 0 {

@@ -1,12 +1,12 @@
--- `mittenschist::delta_refusal` meets its contract. Assumes nothing.
+-- `judging::delta_refusal` meets its contract. Assumes nothing.
 use mathlib.Core.Path.{sym, ap₂, _∙_}
 use Rattle.theory.specs.Refusals.{either, refusal}
 use Rattle.theory.proofs.Refusals.{either-zero, applies-first, passed-over}
 use Rattle.refusals.proofs.Counted.{counted}
-use Rattle.mittenschist.proofs.RouteLengthReply.{route-then}
+use Rattle.judging.proofs.Parts.{route-then}
 use borrow.Author.Needs.{needs}
-use Rattle.mittenschist.proofs.delta_refusal.Statement.{statement}
-use Rattle.mittenschist.proofs.delta_refusal.Tie as tie
+use Rattle.judging.proofs.delta_refusal.Statement.{statement}
+use Rattle.judging.proofs.delta_refusal.Tie as tie
 
 check-cut-count-requires : tie.Need-check-cut-count-requires
 check-cut-count-requires c κs = search needs

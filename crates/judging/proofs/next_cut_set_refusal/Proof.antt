@@ -1,10 +1,10 @@
--- `mittenschist::next_cut_set_refusal` meets its contract: the checks in the one order. Assumes nothing.
+-- `judging::next_cut_set_refusal` meets its contract: the checks in the one order. Assumes nothing.
 use mathlib.Core.Path.{sym, ap₂, _∙_}
 use Rattle.theory.specs.Refusals.{either, refusal}
 use Rattle.theory.proofs.Refusals.{either-zero}
 use borrow.Author.Needs.{needs}
-use Rattle.mittenschist.proofs.next_cut_set_refusal.Statement.{statement}
-use Rattle.mittenschist.proofs.next_cut_set_refusal.Tie as tie
+use Rattle.judging.proofs.next_cut_set_refusal.Statement.{statement}
+use Rattle.judging.proofs.next_cut_set_refusal.Tie as tie
 
 check-cut-count-requires : tie.Need-check-cut-count-requires
 check-cut-count-requires c κs = search needs

@@ -1,10 +1,10 @@
--- `mittenschist::run_refusal` meets its contract. Assumes nothing.
+-- `judging::run_refusal` meets its contract. Assumes nothing.
 use mathlib.Core.Path.{sym, ap₂, _∙_}
 use Rattle.theory.specs.Refusals.{either, refusal, number, leg-table, deadline-list, leg-sizes}
 use Rattle.theory.proofs.Refusals.{either-zero, three-then}
 use borrow.Author.Needs.{needs}
-use Rattle.mittenschist.proofs.run_refusal.Statement.{statement}
-use Rattle.mittenschist.proofs.run_refusal.Tie as tie
+use Rattle.judging.proofs.run_refusal.Statement.{statement}
+use Rattle.judging.proofs.run_refusal.Tie as tie
 
 check-cut-count-requires : tie.Need-check-cut-count-requires
 check-cut-count-requires c κs = search needs

@@ -1,10 +1,10 @@
--- `mittenschist::route_length_refusal` meets its contract: the checks in the one order. Assumes nothing.
+-- `judging::route_length_refusal` meets its contract: the checks in the one order. Assumes nothing.
 use mathlib.Core.Path.{sym, ap₂, _∙_}
 use Rattle.theory.specs.Refusals.{either, refusal}
 use Rattle.theory.proofs.Refusals.{either-zero}
 use borrow.Author.Needs.{needs}
-use Rattle.mittenschist.proofs.route_length_refusal.Statement.{statement}
-use Rattle.mittenschist.proofs.route_length_refusal.Tie as tie
+use Rattle.judging.proofs.route_length_refusal.Statement.{statement}
+use Rattle.judging.proofs.route_length_refusal.Tie as tie
 
 check-leg-table-requires : tie.Need-check-leg-table-requires
 check-leg-table-requires c κs = search needs

@@ -1,11 +1,11 @@
--- `mittenschist::pattern_refusal` meets its contract. Assumes nothing.
+-- `judging::pattern_refusal` meets its contract. Assumes nothing.
 use mathlib.Core.Path.{sym, _∙_}
 use Rattle.theory.specs.Refusals.{refusal}
 use Rattle.theory.proofs.Refusals.{either-zero, applies-first, passed-over}
 use Rattle.refusals.proofs.Counted.{counted}
 use borrow.Author.Needs.{needs}
-use Rattle.mittenschist.proofs.pattern_refusal.Statement.{statement}
-use Rattle.mittenschist.proofs.pattern_refusal.Tie as tie
+use Rattle.judging.proofs.pattern_refusal.Statement.{statement}
+use Rattle.judging.proofs.pattern_refusal.Tie as tie
 
 check-cut-count-requires : tie.Need-check-cut-count-requires
 check-cut-count-requires c κs = search needs

@@ -1,11 +1,11 @@
--- `mittenschist::nearby_refusal` meets its contract. Assumes nothing.
+-- `judging::nearby_refusal` meets its contract. Assumes nothing.
 use mathlib.Core.Path.{sym, ap₂, _∙_}
 use Rattle.theory.specs.Refusals.{number, either, refusal, cut-count, stop-count}
 use Rattle.theory.proofs.Refusals.{either-zero, either-assoc, applies-first, passed-over}
-use Rattle.mittenschist.proofs.NearbyReply.{small-enough}
+use Rattle.judging.proofs.Parts.{small-enough}
 use borrow.Author.Needs.{needs}
-use Rattle.mittenschist.proofs.nearby_refusal.Statement.{statement}
-use Rattle.mittenschist.proofs.nearby_refusal.Tie as tie
+use Rattle.judging.proofs.nearby_refusal.Statement.{statement}
+use Rattle.judging.proofs.nearby_refusal.Tie as tie
 
 check-cut-count-requires : tie.Need-check-cut-count-requires
 check-cut-count-requires c κs = search needs
