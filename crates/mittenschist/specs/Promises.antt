@@ -10,7 +10,8 @@ use Rattle.theory.specs.Moves.{Pattern, patterns, next-cuts}
 use Rattle.theory.specs.Route.{tour-length, reconnected}
 use Rattle.theory.specs.Polish.{move-at, polish, Demand3}
 use Rattle.theory.specs.Tables.{problem, legs-only}
-use Rattle.theory.specs.Refusals.{Rule, refusal, if-taken, cut-count, leg-table, deadline-list, leg-sizes, known-stops, stop-count, pattern-index, cut-positions, known-rounds, round-lists, nearby-input, room, problem-rules}
+use Rattle.theory.specs.Refusals.{Rule, refusal, if-taken, problem-rules}
+use Rattle.judging.specs.Rules.{pattern-rules, next-cut-set-rules, reconnect-rules, route-length-rules, delta-rules, polish-rules, run-rules, nearby-rules, with-room}
 use Rattle.theory.specs.Answers.{reply, step-answer, length-answer, delta-answer, feasibility-answer, listing-answer, Verdict, five-numbers, handed-back}
 use Rattle.moves.specs.Moves.{length-change}
 use Rattle.cuts.specs.Step.{found, or-kept}

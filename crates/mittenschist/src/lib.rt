@@ -1,20 +1,16 @@
 // The entries. Each takes whatever it is handed, judges it, and refuses it or calls the crate below that does the work.
 ghost use mathlib.Core.Path.{_≡_};
 ghost use mathlib.Core.List.{[], _∷_};
-ghost use Prim.Native.Nat.{_+_, _≤_};
+ghost use Prim.Native.Nat.{_+_};
 ghost use Rattle.theory.specs.Route.{tour-length};
 ghost use Rattle.theory.specs.Polish.{move-at};
 ghost use Rattle.theory.specs.Moves.{patterns};
 ghost use Rattle.theory.specs.Tables.{legs-only};
-ghost use Rattle.theory.specs.Refusals.{refusal, problem-rules};
-ghost use Rattle.theory.specs.Answers.{deadline-position};
 ghost use Rattle.cut_moves.specs.Entries.{DoMoveReply, UndoReply, doable-rules};
 ghost use Rattle.moves.specs.Moves.{length-change, pattern-values};
-ghost use Rattle.mittenschist.specs.Promises.{NextCutSetReply, next-cut-set-rules, RouteLengthReply, route-length-rules, pattern-rules, ReconnectionReply, reconnect-rules, ReconnectReply, delta-rules, DeltaReply, FeasibleReply, polish-rules, PolishReply, Written, NextCutSetWritten, FeasibleWritten, doable-values, run-rules, RunReply, nearby-rules, NearbyReply, NearbyWritten, with-room};
-ghost use lib.ListN.{length, drop};
+ghost use Rattle.judging.specs.Rules.{route-length-rules, pattern-rules, delta-rules};
+ghost use Rattle.mittenschist.specs.Promises.{NextCutSetReply, RouteLengthReply, ReconnectionReply, ReconnectReply, DeltaReply, FeasibleReply, PolishReply, Written, NextCutSetWritten, FeasibleWritten, doable-values, RunReply, NearbyReply, NearbyWritten};
 use theory::CutStep;
-use theory::Deadline;
-use theory::Doable;
 use theory::Feasibility;
 use theory::KOptReconnection;
 use theory::LengthDelta;
@@ -134,7 +130,15 @@ pub extern "C" fn mittenschist_polish_route(
 ) -> u32
     ensures { λ r. ⌜ PolishReply k allowance locations (now (legs .entry)) (now (latest .entry)) depot (now (route .entry)) (now (result .entry)) r (now (route .exit)) (now (result .exit)) ⌝ }
 {
-    let refused = judging::polish_refusal(k, locations, legs, latest, depot, &route[..], result.len());
+    let refused = judging::polish_refusal(
+        k,
+        locations,
+        legs,
+        latest,
+        depot,
+        &route[..],
+        result.len(),
+    );
     if refused != 0 {
         return refused;
     }
@@ -145,39 +149,14 @@ pub extern "C" fn mittenschist_polish_route(
 
 // The C functions of the other entries: the same refusals, then 21, and the values into the first places of the lent result.
 
-// One number into the first place of a lent result, or 21.
-fn give(value: u64, result: &mut [u64]) -> u32
-    ensures { λ r. ⌜ Written [] 1 (value ∷ []) (now (result .entry)) r (now (result .exit)) ⌝ }
-{
-    if result.len() < 1 {
-        return 21;
-    }
-    result[0] = value;
-    0
-}
-
-fn give_signed(value: i64, result: &mut [i64]) -> u32
-    ensures { λ r. ⌜ Written [] 1 (value ∷ []) (now (result .entry)) r (now (result .exit)) ⌝ }
-{
-    if result.len() < 1 {
-        return 21;
-    }
-    result[0] = value;
-    0
-}
-
 // k + 1 segment numbers, then the mask. Refuses 1, 6, 21.
 #[no_mangle]
 pub extern "C" fn mittenschist_reconnection_at(k: usize, pattern: usize, result: &mut [u64]) -> u32
     ensures { λ r. ⌜ Written (pattern-rules k pattern) (k + 2) (pattern-values k pattern) (now (result .entry)) r (now (result .exit)) ⌝ }
 {
-    let bad_pattern = judging::pattern_refusal(k, pattern);
-    if bad_pattern != 0 {
-        return bad_pattern;
-    }
-    let bad_room = refusals::check_room(k + 2, result.len());
-    if bad_room != 0 {
-        return bad_room;
+    let refused = judging::pattern_refusal_with_room(k, pattern, result.len());
+    if refused != 0 {
+        return refused;
     }
     moves::put_pattern(k, pattern, result);
     0
@@ -193,18 +172,12 @@ pub extern "C" fn mittenschist_next_cut_set(
 ) -> u32
     ensures { λ r. ⌜ NextCutSetWritten k n (now (cuts .entry)) (now (result .entry)) r (now (cuts .exit)) (now (result .exit)) ⌝ }
 {
-    let bad_cuts = judging::next_cut_set_refusal(k, n, &cuts[..]);
-    let bad_room = refusals::check_room(1, result.len());
-    let refused = refusals::first(bad_cuts, bad_room);
+    let refused = judging::next_cut_set_refusal_with_room(k, n, &cuts[..], result.len());
     if refused != 0 {
         return refused;
     }
-    if cuts::next_cut_set(cuts, n) {
-        result[0] = 1;
-        return 0;
-    }
-    result[0] = 0;
-    0
+    let moved = cuts::next_cut_set(cuts, n);
+    replies::put_flag(moved, result)
 }
 
 // Refuses 1, 5, 6, 7, 21.
@@ -232,10 +205,8 @@ pub extern "C" fn mittenschist_route_length(
 ) -> u32
     ensures { λ r. ⌜ Written (route-length-rules locations (now (legs .entry)) depot (now (route .entry))) 1 (tour-length (legs-only locations (now (legs .entry)) depot) (now (route .entry)) ∷ []) (now (result .entry)) r (now (result .exit)) ⌝ }
 {
-    match route_length(locations, legs, depot, route) {
-        RouteLength::Refused(number) => number,
-        RouteLength::Seconds(seconds) => give(seconds, result),
-    }
+    let answer = route_length(locations, legs, depot, route);
+    replies::put_length(answer, result)
 }
 
 // Refuses 1 to 7, 21.
@@ -252,20 +223,8 @@ pub extern "C" fn mittenschist_delta(
 ) -> u32
     ensures { λ r. ⌜ Written (delta-rules k pattern (now (cuts .entry)) locations (now (legs .entry)) depot (now (route .entry))) 1 (length-change (legs-only locations (now (legs .entry)) depot) (move-at (patterns k) (now (cuts .entry)) pattern) (now (route .entry)) ∷ []) (now (result .entry)) r (now (result .exit)) ⌝ }
 {
-    match delta(k, pattern, cuts, locations, legs, depot, route) {
-        LengthDelta::Refused(number) => number,
-        LengthDelta::Seconds(seconds) => give_signed(seconds, result),
-    }
-}
-
-// The position that says what the deadline check answered for a route of n stops.
-fn position_of(answer: Deadline, n: usize) -> u64
-    ensures { λ r. ⌜ r ≡ deadline-position n answer ⌝ }
-{
-    match answer {
-        Deadline::Kept => n as u64,
-        Deadline::Late(position) => position as u64,
-    }
+    let answer = delta(k, pattern, cuts, locations, legs, depot, route);
+    replies::put_delta(answer, result)
 }
 
 // A late position, or the number of stops where every deadline is kept. Refuses 2, 3, 4, 5, 21.
@@ -280,10 +239,8 @@ pub extern "C" fn mittenschist_route_feasible(
 ) -> u32
     ensures { λ r. ⌜ FeasibleWritten locations (now (legs .entry)) (now (latest .entry)) depot (now (route .entry)) (now (result .entry)) r (now (result .exit)) ⌝ }
 {
-    match route_feasible(locations, legs, latest, depot, route) {
-        Feasibility::Refused(number) => number,
-        Feasibility::Checked(answer) => give(position_of(answer, route.len()), result),
-    }
+    let answer = route_feasible(locations, legs, latest, depot, route);
+    replies::put_feasibility(answer, route.len(), result)
 }
 
 // Applies a pattern at the cuts: the old stops go into the first n journal places. Refuses 1, 5, 6, 7, 8, 21.
@@ -323,11 +280,8 @@ pub extern "C" fn mittenschist_k_opt_is_doable(
 ) -> u32
     ensures { λ r. ⌜ Written (doable-rules k pattern n) 1 (doable-values k round n (now («cut_rounds» .entry)) (now («cut_positions» .entry))) (now (result .entry)) r (now (result .exit)) ⌝ }
 {
-    match cut_moves::is_doable_lists(k, pattern, round, n, cut_rounds, cut_positions) {
-        Doable::Refused(number) => number,
-        Doable::No => give(0, result),
-        Doable::Yes => give(1, result),
-    }
+    let answer = cut_moves::is_doable_lists(k, pattern, round, n, cut_rounds, cut_positions);
+    replies::put_doable(answer, result)
 }
 
 // The run over rounds that lie end to end. Refuses 1, 2, 3, 4, 5, 21. The result receives four numbers a round: state, examined, accepted, applied.
@@ -394,15 +348,6 @@ pub fn nearby_cuts(
     nearby::nearby_cuts(n, distances, k, min_segment_len, max_nearby, sets)
 }
 
-fn put_listing(count: usize, more: u64, result: &mut [u64]) -> u32
-    requires { ⌜ 2 ≤ length (now result) ⌝ }
-    ensures { λ r. ⌜ (r ≡ 0) × (now (result .exit) ≡ count ∷ more ∷ drop 2 (now (result .entry))) ⌝ }
-{
-    result[0] = count as u64;
-    result[1] = more;
-    0
-}
-
 // The same; the result receives the number of sets written, then 0 ended or 1 more. Refuses 1, 5, 9, 21.
 #[no_mangle]
 pub extern "C" fn mittenschist_nearby_cuts(
@@ -416,15 +361,18 @@ pub extern "C" fn mittenschist_nearby_cuts(
 ) -> u32
     ensures { λ r. ⌜ NearbyWritten n (now (distances .entry)) k «min_segment_len» «max_nearby» (now (sets .entry)) (now (result .entry)) r (now (sets .exit)) (now (result .exit)) ⌝ }
 {
-    let bad_input = judging::nearby_refusal(n, distances, k, min_segment_len, max_nearby, sets.len());
-    let bad_room = refusals::check_room(2, result.len());
-    let refused = refusals::first(bad_input, bad_room);
+    let refused = judging::nearby_refusal_with_room(
+        n,
+        distances,
+        k,
+        min_segment_len,
+        max_nearby,
+        sets.len(),
+        result.len(),
+    );
     if refused != 0 {
         return refused;
     }
-    match nearby::nearby_cuts(n, distances, k, min_segment_len, max_nearby, sets) {
-        Listing::Refused(number) => number,
-        Listing::Ended(count) => put_listing(count, 0, result),
-        Listing::More(count) => put_listing(count, 1, result),
-    }
+    let answer = nearby::nearby_cuts(n, distances, k, min_segment_len, max_nearby, sets);
+    replies::put_listing(answer, result)
 }

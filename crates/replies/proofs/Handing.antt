@@ -32,6 +32,13 @@ pub handed-values : {A : Type 0} (values result result′ : List A) → length v
 unfolding either
 handed-values values result result′ h e = record { number-is = rw (le-ltb (length result) (length values) h); result-is = e }
 
+-- Where there is room, the values are handed over.
+pub handed-done : {A : Type 0} (values result result′ : List A) (n : ℕ) → Handed (reply 0 values) result n result′ → length values ≤ length result → (n ≡ 0) × (result′ ≡ values ++ drop (length values) result)
+unfolding either
+handed-done values result result′ n h r =
+    let zero-is : n ≡ 0 = h .number-is ∙ rw (le-ltb (length result) (length values) r) in
+    (zero-is, rw zero-is at (h .result-is))
+
 -- One value in the first place.
 pub first-place : {A : Type 0} (v : A) (result : List A) → 1 ≤ length result → set result 0 v ≡ v ∷ drop 1 result
 first-place v [] h = absurd (omega arith)
