@@ -49,10 +49,7 @@ pub fn next_cut_set(k: usize, n: usize, cuts: &mut [usize]) -> CutStep
     if refused != 0 {
         return CutStep::Refused(refused);
     }
-    if cuts::next_cut_set(cuts, n) {
-        return CutStep::Moved;
-    }
-    CutStep::Last
+    replies::step_of(cuts::next_cut_set(cuts, n))
 }
 
 // The route after the pattern is applied at the cuts, into the first places of out. Refuses 1, 5, 6, 7, 21.

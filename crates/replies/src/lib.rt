@@ -1,9 +1,10 @@
-// The answer of an entry into a lent result: its refusal number; or 21 where the result has too few places; or 0 and the values in the first places.
+// The answer of an entry, and the same into a lent result: its refusal number; or 21 where the result has too few places; or 0 and the values in the first places.
 ghost use mathlib.Core.Path.{_≡_};
 ghost use mathlib.Core.Bool.{cond};
 ghost use mathlib.Core.List.{[], _∷_};
-ghost use Rattle.theory.specs.Answers.{reply, length-answer, delta-answer, feasibility-answer, doable-answer, listing-answer, deadline-position};
+ghost use Rattle.theory.specs.Answers.{reply, step-answer, length-answer, delta-answer, feasibility-answer, doable-answer, listing-answer, deadline-position};
 ghost use Rattle.replies.specs.Handed.{Handed};
+use theory::CutStep;
 use theory::Deadline;
 use theory::Doable;
 use theory::Feasibility;
@@ -50,6 +51,16 @@ pub fn put_flag(flag: bool, result: &mut [u64]) -> u32
         return put_number(1, result);
     }
     put_number(0, result)
+}
+
+// Moved, or none is left.
+pub fn step_of(moved: bool) -> CutStep
+    ensures { λ r. ⌜ step-answer r ≡ reply 0 (cond moved 1 0 ∷ []) ⌝ }
+{
+    if moved {
+        return CutStep::Moved;
+    }
+    CutStep::Last
 }
 
 pub fn put_length(answer: RouteLength, result: &mut [u64]) -> u32
