@@ -1,25 +1,22 @@
--- `rulings::say_route` is safe and ends. Assumes nothing.
+-- `replay::say_stops` is safe and ends. Assumes nothing.
 use Prim.Native.Nat.{_≤_, _-_}
 use mathlib.Core.Path.{_≡_}
 use lib.ListN.{length}
 use borrow.Author.Needs.{needs}
-use Rattle.rulings.proofs.say_route.Statement.{statement}
-use Rattle.rulings.proofs.say_route.Tie as tie
+use Rattle.replay.proofs.say_stops.Statement.{statement}
+use Rattle.replay.proofs.say_stops.Tie as tie
 
 abbrev Inv-loop : tie.InvT-loop
-Inv-loop route i₀ t3 i-end i = (i-end ≡ length route) × (i ≤ i-end)
+Inv-loop word stops i₀ i-end i = (i-end ≡ length stops) × (i ≤ i-end)
 
 abbrev μ-loop : tie.MeasureT-loop
-μ-loop route i₀ t3 i-end i = i-end - i
-
-loop-holds : tie.Need-loop-holds Inv-loop μ-loop
-loop-holds c = search needs
-
-slice-aggregate-say : tie.Need-slice-aggregate-say Inv-loop μ-loop
-slice-aggregate-say c = search needs
+μ-loop word stops i₀ i-end i = i-end - i
 
 say-requires : tie.Need-say-requires Inv-loop μ-loop
 say-requires c κs = search needs
+
+loop-holds : tie.Need-loop-holds Inv-loop μ-loop
+loop-holds c = search needs
 
 mul-say-stop : tie.Need-mul-say-stop Inv-loop μ-loop
 mul-say-stop c = search needs
@@ -42,15 +39,14 @@ loop-again c = search needs
 returns : tie.Need-returns Inv-loop μ-loop
 returns c = search needs
 
-pub say-route-spec : {M : Type 1} → statement M
-say-route-spec =
+pub say-stops-spec : {M : Type 1} → statement M
+say-stops-spec =
     tie.close
     (tie.spec
     Inv-loop
     μ-loop
-    loop-holds
-    slice-aggregate-say
     say-requires
+    loop-holds
     mul-say-stop
     shared-slice-read-say-stop
     say-stop-requires

@@ -1,25 +1,25 @@
--- `rulings::say_result` is safe and ends. Assumes nothing.
+-- `replay::say_numbers` is safe and ends. Assumes nothing.
 use Prim.Native.Nat.{_≤_, _-_}
 use mathlib.Core.Path.{_≡_}
 use lib.ListN.{length}
 use borrow.Author.Needs.{needs}
-use Rattle.rulings.proofs.say_result.Statement.{statement}
-use Rattle.rulings.proofs.say_result.Tie as tie
+use Rattle.replay.proofs.say_numbers.Statement.{statement}
+use Rattle.replay.proofs.say_numbers.Tie as tie
 
 abbrev Inv-loop : tie.InvT-loop
-Inv-loop result i₀ t3 i-end i = (i-end ≡ length result) × (i ≤ i-end)
+Inv-loop word numbers i₀ t4 i-end i = (i-end ≡ length numbers) × (i ≤ i-end)
 
 abbrev μ-loop : tie.MeasureT-loop
-μ-loop result i₀ t3 i-end i = i-end - i
+μ-loop word numbers i₀ t4 i-end i = i-end - i
+
+say-requires : tie.Need-say-requires Inv-loop μ-loop
+say-requires c κs = search needs
 
 loop-holds : tie.Need-loop-holds Inv-loop μ-loop
 loop-holds c = search needs
 
-slice-aggregate-say : tie.Need-slice-aggregate-say Inv-loop μ-loop
-slice-aggregate-say c = search needs
-
-say-requires : tie.Need-say-requires Inv-loop μ-loop
-say-requires c κs = search needs
+slice-aggregate-say-number : tie.Need-slice-aggregate-say-number Inv-loop μ-loop
+slice-aggregate-say-number c = search needs
 
 mul-say-number : tie.Need-mul-say-number Inv-loop μ-loop
 mul-say-number c = search needs
@@ -42,15 +42,15 @@ loop-again c = search needs
 returns : tie.Need-returns Inv-loop μ-loop
 returns c = search needs
 
-pub say-result-spec : {M : Type 1} → statement M
-say-result-spec =
+pub say-numbers-spec : {M : Type 1} → statement M
+say-numbers-spec =
     tie.close
     (tie.spec
     Inv-loop
     μ-loop
-    loop-holds
-    slice-aggregate-say
     say-requires
+    loop-holds
+    slice-aggregate-say-number
     mul-say-number
     shared-slice-read-say-number
     say-number-requires

@@ -1,0 +1,39 @@
+// What the programs that replay runs write: words, and numbers after them.
+
+pub fn say(text: &[u8]) {
+    let _ = io::write_all(1, text);
+}
+
+fn decimal(n: u64) {
+    let _ = io::print_decimal(1, n);
+}
+
+pub fn say_number(word: &[u8], n: u64) {
+    say(word);
+    decimal(n);
+}
+
+pub fn say_numbers(word: &[u8], numbers: &[u64]) {
+    say(word);
+    for i in 0..numbers.len() {
+        say_number(b" ", numbers[i]);
+    }
+}
+
+fn say_stop(n: u32) {
+    say_number(b" ", n as u64);
+}
+
+pub fn say_stops(word: &[u8], stops: &[u32]) {
+    say(word);
+    for i in 0..stops.len() {
+        say_stop(stops[i]);
+    }
+}
+
+pub fn say_places(word: &[u8], places: &[usize]) {
+    say(word);
+    for i in 0..places.len() {
+        say_number(b" ", places[i] as u64);
+    }
+}
