@@ -37,3 +37,20 @@ pub fn say_places(word: &[u8], places: &[usize]) {
         say_number(b" ", places[i] as u64);
     }
 }
+
+// A call's refusal number, or 0, and the numbers of its result.
+pub fn say_result(word: &[u8], refused: u32, result: &[u64]) {
+    say_number(word, refused as u64);
+    say_numbers(b" result", result);
+}
+
+// The same, and the stops of a route.
+pub fn say_route(word: &[u8], refused: u32, route: &[u32]) {
+    say_number(word, refused as u64);
+    say_stops(b"", route);
+}
+
+pub fn end_stops(word: &[u8], stops: &[u32]) {
+    say_stops(word, stops);
+    say(b"\n");
+}

@@ -3,10 +3,8 @@
 
 // What a run answered, the numbers of its rounds, and their stops.
 fn show_run(refused: u32, result: &[u64], stops: &[u32]) {
-    replay::say_number(b"run ", refused as u64);
-    replay::say_numbers(b" result", result);
-    replay::say_stops(b" stops", stops);
-    replay::say(b"\n");
+    replay::say_result(b"run ", refused, result);
+    replay::end_stops(b" stops", stops);
 }
 
 // The pair case of document 01 with an allowance: D, A, B, C, E are 0 to 4.
@@ -58,8 +56,7 @@ fn show_pairs(k: usize, allowance: u64, pin: u8) {
 
 // What a listing answered, its two numbers, and the buffer.
 fn show_listing(refused: u32, result: &[u64], sets: &[usize]) {
-    replay::say_number(b"nearby ", refused as u64);
-    replay::say_numbers(b" result", result);
+    replay::say_result(b"nearby ", refused, result);
     replay::say_places(b" sets", sets);
     replay::say(b"\n");
 }
@@ -117,15 +114,13 @@ fn show_doable(rounds: &[usize], cuts: &[usize]) {
 
 fn show_applied(rounds: &[usize], cuts: &[usize], route: &mut [u32], journal: &mut [u32]) {
     let refused = mittenschist::mittenschist_k_opt_do_move(2, 0, 0, rounds, cuts, route, journal);
-    replay::say_number(b" applied ", refused as u64);
-    replay::say_stops(b"", &route[..]);
+    replay::say_route(b" applied ", refused, &route[..]);
     replay::say_stops(b" journal", &journal[..]);
 }
 
 fn show_undone(route: &mut [u32], journal: &[u32]) {
     let refused = mittenschist::mittenschist_k_opt_undo_move(route, journal);
-    replay::say_number(b" undone ", refused as u64);
-    replay::say_stops(b"", &route[..]);
+    replay::say_route(b" undone ", refused, &route[..]);
     replay::say(b"\n");
 }
 

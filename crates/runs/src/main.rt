@@ -41,10 +41,8 @@ fn show_cut_sets(k: usize, cuts: &mut [usize]) {
 }
 
 fn show_polished(refused: u32, result: &[u64], route: &[u32]) {
-    replay::say_number(b"polish ", refused as u64);
-    replay::say_numbers(b" result", result);
-    replay::say_stops(b" route", route);
-    replay::say(b"\n");
+    replay::say_result(b"polish ", refused, result);
+    replay::end_stops(b" route", route);
 }
 
 // The text case T with another k, allowance, longest leg or deadline of location 1.
