@@ -1,8 +1,9 @@
 // What a call was handed, judged: for each list of rules a function that gives its refusal number, the first in the one order, or 0.
 ghost use mathlib.Core.Path.{_≡_};
-ghost use mathlib.Core.List.{_∷_};
-ghost use Prim.Native.Nat.{_+_};
-ghost use Rattle.theory.specs.Refusals.{refusal, cut-count, problem-rules};
+ghost use mathlib.Core.List.{[], _∷_};
+ghost use Prim.Native.Nat.{_+_, _*_};
+ghost use lib.ListN.{length};
+ghost use Rattle.theory.specs.Refusals.{refusal, cut-count, leg-table, deadline-list, leg-sizes, known-rounds, round-lists, room, problem-rules};
 ghost use Rattle.judging.specs.Rules.{pattern-rules, next-cut-set-rules, reconnect-rules, route-length-rules, delta-rules, polish-rules, run-rules, nearby-rules, with-room};
 
 pub fn pattern_refusal(k: usize, pattern: usize) -> u32
@@ -107,6 +108,31 @@ pub fn polish_refusal(
     refusals::first(bad_question, bad_room)
 }
 
+fn tables_refusal(locations: usize, legs: &[u32], latest: &[u32]) -> u32
+    ensures { λ r. ⌜ r ≡ refusal (leg-table locations (now (legs .entry)) ∷ deadline-list locations (now (latest .entry)) ∷ leg-sizes (now (legs .entry)) ∷ []) ⌝ }
+{
+    let bad_table = refusals::check_leg_table(locations, legs);
+    let bad_latest = refusals::check_deadline_list(locations, latest);
+    let bad_legs = refusals::check_leg_sizes(legs);
+    refusals::first(bad_table, refusals::first(bad_latest, bad_legs))
+}
+
+fn rounds_refusal(
+    locations: usize,
+    stops: &[u32],
+    lengths: &[usize],
+    depots: &[u32],
+    pins: &[u8],
+    lent: usize,
+) -> u32
+    ensures { λ r. ⌜ r ≡ refusal (known-rounds locations (now (depots .entry)) (now (stops .entry)) ∷ round-lists (now (lengths .entry)) (now (depots .entry)) (now (pins .entry)) (length (now (stops .entry))) ∷ room (4 * length (now (lengths .entry))) lent ∷ []) ⌝ }
+{
+    let bad_stops = refusals::check_known_rounds(locations, depots, stops);
+    let bad_rounds = refusals::check_round_lists(lengths, depots, pins, stops.len());
+    let bad_room = refusals::check_room(4 * lengths.len(), lent);
+    refusals::first(bad_stops, refusals::first(bad_rounds, bad_room))
+}
+
 pub fn run_refusal(
     k: usize,
     locations: usize,
@@ -121,15 +147,9 @@ pub fn run_refusal(
     ensures { λ r. ⌜ r ≡ refusal (run-rules k locations (now (legs .entry)) (now (latest .entry)) (now (stops .entry)) (now (lengths .entry)) (now (depots .entry)) (now (pins .entry)) lent) ⌝ }
 {
     let bad_k = refusals::check_cut_count(k);
-    let bad_table = refusals::check_leg_table(locations, legs);
-    let bad_latest = refusals::check_deadline_list(locations, latest);
-    let bad_legs = refusals::check_leg_sizes(legs);
-    let bad_stops = refusals::check_known_rounds(locations, depots, stops);
-    let bad_rounds = refusals::check_round_lists(lengths, depots, pins, stops.len());
-    let bad_room = refusals::check_room(4 * lengths.len(), lent);
-    let bad_lists = refusals::first(bad_stops, refusals::first(bad_rounds, bad_room));
-    let bad_tables = refusals::first(bad_table, refusals::first(bad_latest, bad_legs));
-    refusals::first(bad_k, refusals::first(bad_tables, bad_lists))
+    let bad_tables = tables_refusal(locations, legs, latest);
+    let bad_rounds = rounds_refusal(locations, stops, lengths, depots, pins, lent);
+    refusals::first(bad_k, refusals::first(bad_tables, bad_rounds))
 }
 
 pub fn nearby_refusal(

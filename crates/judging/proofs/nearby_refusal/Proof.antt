@@ -1,8 +1,7 @@
 -- `judging::nearby_refusal` meets its contract. Assumes nothing.
-use mathlib.Core.Path.{sym, ap₂, _∙_}
-use Rattle.theory.specs.Refusals.{number, either, refusal, cut-count, stop-count}
-use Rattle.theory.proofs.Refusals.{either-zero, either-assoc, applies-first, passed-over}
-use Rattle.judging.proofs.Parts.{small-enough}
+use mathlib.Core.Path.{ap₂, _∙_}
+use Rattle.theory.specs.Refusals.{either}
+use Rattle.judging.proofs.Parts.{small-enough, nearby-size, nearby-rest}
 use borrow.Author.Needs.{needs}
 use Rattle.judging.proofs.nearby_refusal.Statement.{statement}
 use Rattle.judging.proofs.nearby_refusal.Tie as tie
@@ -17,10 +16,9 @@ first-requires : tie.Need-first-requires
 first-requires c κs = search needs
 
 returns : tie.Need-returns
-unfolding refusal
 returns c =
     let s = c .before .before .before .before .before in
-    applies-first _ (either (number (cut-count (s .args .k))) (number (stop-count (s .args .n)))) _ (c .before .first .ensures ∙ ap₂ either (c .before .before .before .check-cut-count .ensures) (c .before .before .check-stop-count .ensures)) (c .if1 .taken) ∙ either-assoc (number (cut-count (s .args .k))) (number (stop-count (s .args .n))) _
+    nearby-size (s .args .n) (s .args .distances .now) (s .args .k) (s .args .m) (s .args .neighbours) (s .args .lent) (c .before .first .result) (c .before .first .ensures ∙ ap₂ either (c .before .before .before .check-cut-count .ensures) (c .before .before .check-stop-count .ensures)) (c .if1 .taken)
 
 check-nearby-input-requires : tie.Need-check-nearby-input-requires
 check-nearby-input-requires c κs =
@@ -34,13 +32,11 @@ first-requires-2 : tie.Need-first-requires-2
 first-requires-2 c κs = search needs
 
 returns-2 : tie.Need-returns-2
-unfolding refusal
 returns-2 c =
     let s = c .before .before .before .before .before .before .before .before in
+    let sized = c .before .before .before .before .first .ensures ∙ ap₂ either (c .before .before .before .before .before .before .check-cut-count .ensures) (c .before .before .before .before .before .check-stop-count .ensures) in
     c .first2 .ensures
-    ∙ ap₂ either (c .before .before .check-nearby-input .ensures) (c .before .check-room .ensures ∙ sym (either-zero _))
-    ∙ passed-over _ (either (number (cut-count (s .args .k))) (number (stop-count (s .args .n)))) _ (c .before .before .before .before .first .ensures ∙ ap₂ either (c .before .before .before .before .before .before .check-cut-count .ensures) (c .before .before .before .before .before .check-stop-count .ensures)) (c .before .before .before .if1 .left)
-    ∙ either-assoc (number (cut-count (s .args .k))) (number (stop-count (s .args .n))) _
+    ∙ nearby-rest (s .args .n) (s .args .distances .now) (s .args .k) (s .args .m) (s .args .neighbours) (s .args .lent) (c .before .before .before .before .first .result) sized (c .before .before .before .if1 .left) _ _ (c .before .before .check-nearby-input .ensures) (c .before .check-room .ensures)
 
 pub nearby-refusal-spec : {M : Type 1} → statement M
 nearby-refusal-spec =
