@@ -173,7 +173,7 @@ pub fn nearby_refusal(
     refusals::first(bad_input, bad_room)
 }
 
-// The same of the C functions that write into a lent result before they are done: its room is judged first, and with the last number.
+// The same with the room of the lent result, of the C functions that must know it before they change anything.
 
 // k + 1 segment numbers and a mask.
 pub fn pattern_refusal_with_room(k: usize, pattern: usize, lent: usize) -> u32

@@ -44,7 +44,7 @@ pub fn say_result(word: &[u8], refused: u32, result: &[u64]) {
     say_numbers(b" result", result);
 }
 
-// The same, and the stops of a route.
+// A call's refusal number, or 0, and the stops of a route.
 pub fn say_route(word: &[u8], refused: u32, route: &[u32]) {
     say_number(word, refused as u64);
     say_stops(b"", route);
