@@ -50,7 +50,9 @@ pub fn say_route(word: &[u8], refused: u32, route: &[u32]) {
     say_stops(b"", route);
 }
 
-pub fn end_stops(word: &[u8], stops: &[u32]) {
-    say_stops(word, stops);
+// A line: a call's refusal number and result, and the stops that it left.
+pub fn say_line(word: &[u8], refused: u32, result: &[u64], name: &[u8], stops: &[u32]) {
+    say_result(word, refused, result);
+    say_stops(name, stops);
     say(b"\n");
 }

@@ -1,12 +1,6 @@
 // Replays document 01's runs on the pair loop and on nearby cuts, and worked examples of the rulings on what it leaves open, over the library's own
 // entries, a line each: what was asked, and what came back.
 
-// What a run answered, the numbers of its rounds, and their stops.
-fn show_run(refused: u32, result: &[u64], stops: &[u32]) {
-    replay::say_result(b"run ", refused, result);
-    replay::end_stops(b" stops", stops);
-}
-
 // The pair case of document 01 with an allowance: D, A, B, C, E are 0 to 4.
 fn show_pairs(k: usize, allowance: u64, pin: u8) {
     let legs = [
@@ -51,7 +45,7 @@ fn show_pairs(k: usize, allowance: u64, pin: u8) {
         &[pin],
         &mut result,
     );
-    show_run(refused, &result, &stops);
+    replay::say_line(b"run ", refused, &result, b" stops", &stops);
 }
 
 // What a listing answered, its two numbers, and the buffer.
@@ -102,7 +96,7 @@ fn show_rounds(allowance: u64) {
         &[0, 0, 200],
         &mut result,
     );
-    show_run(refused, &result, &stops);
+    replay::say_line(b"run ", refused, &result, b" stops", &stops);
 }
 
 fn show_doable(rounds: &[usize], cuts: &[usize]) {

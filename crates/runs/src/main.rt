@@ -40,11 +40,6 @@ fn show_cut_sets(k: usize, cuts: &mut [usize]) {
     replay::say(b"\n");
 }
 
-fn show_polished(refused: u32, result: &[u64], route: &[u32]) {
-    replay::say_result(b"polish ", refused, result);
-    replay::end_stops(b" route", route);
-}
-
 // The text case T with another k, allowance, longest leg or deadline of location 1.
 fn show_t(k: usize, allowance: u64, leg: u32, latest: u32) {
     let legs = [0u32, leg, 1, 1, 0, 5, 5, 1, 0];
@@ -61,7 +56,7 @@ fn show_t(k: usize, allowance: u64, leg: u32, latest: u32) {
         &mut route,
         &mut result,
     );
-    show_polished(refused, &result, &route);
+    replay::say_line(b"polish ", refused, &result, b" route", &route);
 }
 
 // A route of one location, as long as the slice.
@@ -79,7 +74,7 @@ fn show_long(route: &mut [u32]) {
         route,
         &mut result,
     );
-    show_polished(refused, &result, &route[..0]);
+    replay::say_line(b"polish ", refused, &result, b" route", &route[..0]);
 }
 
 fn show_patterns() {
