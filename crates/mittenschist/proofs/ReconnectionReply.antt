@@ -10,11 +10,12 @@ use Rattle.theory.proofs.Judged.{cut-count-fine, pattern-fine, room-fine}
 use Rattle.patterns.specs.Enumeration.{Listed, Holds}
 use Rattle.moves.specs.Moves.{Shown}
 use Rattle.judging.specs.Rules.{pattern-rules, with-room}
+use Rattle.replies.specs.Handed.{pattern-refused}
 use Rattle.mittenschist.specs.Promises.{ReconnectionReply, pattern-at}
 use Rattle.theory.proofs.Taken.{refused-kept, taken-done, taken-passes}
 
 module _ (k pattern number : ℕ) (judged : number ≡ refusal (pattern-rules k pattern)) where
-  pub refused : (number ≡ 0 → ⊥) → ReconnectionReply k pattern (record { refusal = number; reconnection = record { «segment_order» = replicate 6 0; «reverse_mask» = 0; len = 0 } })
+  pub refused : (number ≡ 0 → ⊥) → ReconnectionReply k pattern (pattern-refused number)
   refused h =
       record {
         number-is = judged;

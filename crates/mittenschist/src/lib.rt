@@ -12,7 +12,6 @@ ghost use Rattle.judging.specs.Rules.{route-length-rules, pattern-rules, delta-
 ghost use Rattle.mittenschist.specs.Promises.{NextCutSetReply, RouteLengthReply, ReconnectionReply, ReconnectReply, DeltaReply, FeasibleReply, PolishReply, Written, NextCutSetWritten, FeasibleWritten, doable-values, RunReply, NearbyReply, NearbyWritten};
 use theory::CutStep;
 use theory::Feasibility;
-use theory::KOptReconnection;
 use theory::LengthDelta;
 use theory::Listing;
 use theory::ReconnectionAt;
@@ -24,15 +23,7 @@ pub fn reconnection_at(k: usize, pattern: usize) -> ReconnectionAt
 {
     let refused = judging::pattern_refusal(k, pattern);
     if refused != 0 {
-        let none = KOptReconnection {
-            segment_order: [0; 6],
-            reverse_mask: 0,
-            len: 0,
-        };
-        return ReconnectionAt {
-            refusal: refused,
-            reconnection: none,
-        };
+        return replies::no_pattern(refused);
     }
     let found = patterns::pattern_at(k, pattern);
     ReconnectionAt {

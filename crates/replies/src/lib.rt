@@ -3,13 +3,15 @@ ghost use mathlib.Core.Path.{_≡_};
 ghost use mathlib.Core.Bool.{cond};
 ghost use mathlib.Core.List.{[], _∷_};
 ghost use Rattle.theory.specs.Answers.{reply, step-answer, length-answer, delta-answer, feasibility-answer, doable-answer, listing-answer, deadline-position};
-ghost use Rattle.replies.specs.Handed.{Handed};
+ghost use Rattle.replies.specs.Handed.{Handed, pattern-refused};
 use theory::CutStep;
 use theory::Deadline;
 use theory::Doable;
 use theory::Feasibility;
+use theory::KOptReconnection;
 use theory::LengthDelta;
 use theory::Listing;
+use theory::ReconnectionAt;
 use theory::RouteLength;
 
 fn put_number(value: u64, result: &mut [u64]) -> u32
@@ -51,6 +53,21 @@ pub fn put_flag(flag: bool, result: &mut [u64]) -> u32
         return put_number(1, result);
     }
     put_number(0, result)
+}
+
+// No pattern: the refusal number alone.
+pub fn no_pattern(refused: u32) -> ReconnectionAt
+    ensures { λ r. ⌜ r ≡ pattern-refused refused ⌝ }
+{
+    let none = KOptReconnection {
+        segment_order: [0; 6],
+        reverse_mask: 0,
+        len: 0,
+    };
+    ReconnectionAt {
+        refusal: refused,
+        reconnection: none,
+    }
 }
 
 // Moved, or none is left.
