@@ -6,8 +6,7 @@ use Prim.Native.Nat.{ℕ}
 use lib.ListN.{length}
 use Rattle.theory.specs.Tables.{problem, Timed}
 use Rattle.theory.specs.Refusals.{refusal, problem-rules}
-use Rattle.theory.specs.Answers.{Checked, Verdict, deadline-position, reply}
-use Rattle.theory.specs.Answers as answers
+use Rattle.theory.specs.Answers.{Checked, Verdict, deadline-position, feasibility-answer}
 use Rattle.theory.specs.declared.Deadline.{Deadline}
 use Rattle.theory.specs.declared.Deadline.the-variants.{Kept, Late}
 use Rattle.theory.specs.declared.Feasibility.{Feasibility}
@@ -15,9 +14,10 @@ use Rattle.theory.specs.declared.Feasibility.the-variants as Answer
 use Rattle.theory.proofs.Refusals.{known}
 use Rattle.theory.proofs.LastRule.{early}
 use Rattle.theory.proofs.Judged.{measurable-fine, deadlines-fine}
-use Rattle.mittenschist.specs.Promises.{FeasibleReply, Written, FeasibleWritten}
+use Rattle.replies.specs.Handed.{Handed}
+use Rattle.mittenschist.specs.Promises.{FeasibleReply, FeasibleWritten}
 use Rattle.theory.proofs.Taken.{refused-reply, taken-reply, taken-passes}
-use Rattle.mittenschist.proofs.Written.{told-refused, told-values, passed-on, handed-over}
+use Rattle.mittenschist.proofs.Written.{answer-written, not-refused}
 
 module _ (locations : ℕ) (legs latest : List ℕ) (depot : ℕ) (route : List ℕ) (number : ℕ) (judged : number ≡ refusal (problem-rules locations legs latest depot route)) where
   pub refused : (number ≡ 0 → ⊥) → FeasibleReply locations legs latest depot route (Answer.Refused number)
@@ -50,24 +50,13 @@ module _ (locations : ℕ) (legs latest : List ℕ) (depot : ℕ) (route : List 
         by Kept c = inl (refl, c)
         by (Late p) c = inr c
 
-module _ (locations : ℕ) (legs latest : List ℕ) (depot : ℕ) (route result : List ℕ) (answer : Feasibility) (a : FeasibleReply locations legs latest depot route answer) where
-  pub refused-written : (n : ℕ) → answer ≡ Answer.Refused n → FeasibleWritten locations legs latest depot route result n result
-  unfolding early
-  refused-written n e =
-      let r : answers.refused n ≡ reply (refusal (problem-rules locations legs latest depot route)) (a .position ∷ []) = rw e at (a .reply-is) in
-      record {
-        position = a .position;
-        written = passed-on (problem-rules locations legs latest depot route) refl (a .position) result n r;
-        verdict = λ z. absurd (told-refused n (refusal (problem-rules locations legs latest depot route)) (a .position) [] r .1 z);
-      }
-
-  pub checked-written : (d : Deadline) → answer ≡ Answer.Checked d → (v number : ℕ) (result′ : List ℕ) → v ≡ deadline-position (length route) d → Written [] 1 (v ∷ []) result number result′ →
-      FeasibleWritten locations legs latest depot route result number result′
-  unfolding early
-  checked-written d e v number result′ f w =
-      let r : reply 0 (deadline-position (length route) d ∷ []) ≡ reply (refusal (problem-rules locations legs latest depot route)) (a .position ∷ []) = rw e at (a .reply-is) in
-      record {
-        position = a .position;
-        written = handed-over (problem-rules locations legs latest depot route) refl (a .position) result (deadline-position (length route) d) number result′ r (rw f at w);
-        verdict = λ z. a .verdict (told-values (refusal (problem-rules locations legs latest depot route)) (deadline-position (length route) d) (a .position) r .0);
-      }
+pub handed-written : (locations : ℕ) (legs latest : List ℕ) (depot : ℕ) (route result : List ℕ) (answer : Feasibility) → FeasibleReply locations legs latest depot route answer →
+    (n : ℕ) (result′ : List ℕ) → Handed (feasibility-answer (length route) answer) result n result′ → FeasibleWritten locations legs latest depot route result n result′
+unfolding early
+handed-written locations legs latest depot route result answer a n result′ h =
+    let w = answer-written (problem-rules locations legs latest depot route) refl (a .position ∷ []) result n result′ (feasibility-answer (length route) answer) (a .reply-is) h in
+    record {
+      position = a .position;
+      written = w;
+      verdict = λ z. a .verdict (not-refused (problem-rules locations legs latest depot route) refl (a .position ∷ []) result n result′ w z);
+    }

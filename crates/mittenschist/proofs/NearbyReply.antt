@@ -1,24 +1,24 @@
 -- The replies of the entry `nearby_cuts` and of its C function, over plain values. Assumes nothing.
-use mathlib.Core.Path.{_≡_, refl, sym, ap, _∙_}
-use mathlib.Core.Bool.{Bool, true, false, cond}
-use mathlib.Core.List.{List, [], _∷_, _++_}
-use Prim.Native.Nat.{ℕ, suc, _≤_}
-use native.Mathlib.Omega.{arith}
-use lib.Dec.{ltb}
+use mathlib.Core.Path.{_≡_, refl, _∙_, subst}
+use mathlib.Core.List.{List}
+use Prim.Native.Nat.{ℕ, _≤_}
 use lib.Ieee.{Float}
-use lib.ListN.{length, drop}
-use borrow.Author.Tests.{ltb-false}
-use Rattle.theory.specs.Refusals.{Rule, number, either, refusal, cut-count, stop-count, nearby-input, room}
-use Rattle.theory.specs.Answers.{Answer, reply, refused, listing-answer}
+use lib.ListN.{length}
+use Rattle.theory.specs.Refusals.{Rule, refusal}
+use Rattle.theory.specs.Answers.{listing-answer}
 use Rattle.theory.specs.declared.Listing.{Listing}
 use Rattle.theory.specs.declared.Listing.the-variants as Listed
-use Rattle.theory.proofs.Refusals.{Passes, known, passed, either-zero, four-then}
+use Rattle.theory.proofs.Refusals.{Passes, known}
 use Rattle.theory.proofs.Judged.{room-fine}
 use Rattle.theory.proofs.Taken.{refused-reply, taken-reply, refused-kept, taken-done, taken-passes}
 use Rattle.nearby.specs.Walk.{nearby-sets}
 use Rattle.nearby.specs.Listing.{NearbyInput, Lists}
 use Rattle.nearby.proofs.Judged.{nearby-fine}
-use Rattle.mittenschist.specs.Promises.{with-room, nearby-rules, nearby-values, nearby-places, NearbyReply, NearbyWritten}
+use Rattle.judging.specs.Rules.{nearby-rules, with-room}
+use Rattle.replies.specs.Handed.{Handed}
+use Rattle.replies.proofs.Handing.{handed-done}
+use Rattle.mittenschist.specs.Promises.{nearby-values, nearby-places, NearbyReply, NearbyWritten}
+use Rattle.mittenschist.proofs.Written.{nothing-written, values-written}
 
 module _ (n : ℕ) (distances : List Float) (k m neighbours : ℕ) (sets : List ℕ) (number : ℕ) (judged : number ≡ refusal (nearby-rules n distances k m neighbours (length sets))) where
   abbrev rules : List Rule
@@ -45,26 +45,6 @@ module _ (n : ℕ) (distances : List Float) (k m neighbours : ℕ) (sets : List 
           sets-are = l .lent-is ∙ taken-done rules number judged (nearby-places n distances k m neighbours sets) sets h;
         }
 
--- n is judged before n × n is formed.
-pub small-enough : (k n a : ℕ) → a ≡ either (number (cut-count k)) (number (stop-count n)) → a ≡ 0 → n ≤ 512
-small-enough k n a e h = ltb-false 512 n (by (ltb 512 n) (passed (cut-count k .1) 0 (number (stop-count n)) (sym e ∙ h) .1))
-  where
-    by : (b : Bool) → _≡_ {A = ℕ} (cond b 5 0) 0 → b ≡ false
-    by true z = absurd (omega arith)
-    by false z = refl
-
--- The room for the sets, and then the room for the result.
-pub both-rooms : (n : ℕ) (distances : List Float) (k m neighbours sets lent : ℕ) →
-    either (refusal (nearby-rules n distances k m neighbours sets)) (number (room 2 lent)) ≡ refusal (with-room (nearby-rules n distances k m neighbours sets) 2 lent)
-unfolding refusal
-both-rooms n distances k m neighbours sets lent =
-    ap (either (refusal (nearby-rules n distances k m neighbours sets))) (sym (either-zero (number (room 2 lent))))
-    ∙ four-then (number (cut-count k)) (number (stop-count n)) (number (nearby-input n distances m neighbours)) (number (room k sets)) (either (number (room 2 lent)) 0)
-
--- A listing is not refused, and its values can be read off.
-pub never-refused : (q : ℕ) (vs : List ℕ) (v : ℕ) → refused q ≡ reply 0 (v ∷ vs) → ⊥
-never-refused q vs v e = let z : _≡_ {A = ℕ} 0 (suc (length vs)) = ap (λ a. length (a .values)) e in absurd (omega (arith, z))
-
 module _ (n : ℕ) (distances : List Float) (k m neighbours : ℕ) (sets result : List ℕ) (number : ℕ)
     (judged : number ≡ refusal (with-room (nearby-rules n distances k m neighbours (length sets)) 2 (length result))) where
   abbrev asked : List Rule
@@ -73,7 +53,7 @@ module _ (n : ℕ) (distances : List Float) (k m neighbours : ℕ) (sets result 
   pub call-refused : (number ≡ 0 → ⊥) → NearbyWritten n distances k m neighbours sets result number sets result
   call-refused h =
       record {
-        written = record { number-is = judged; result-is = refused-kept asked number judged (nearby-values n distances k m neighbours sets ++ drop 2 result) result h };
+        written = nothing-written (nearby-rules n distances k m neighbours (length sets)) 2 (nearby-values n distances k m neighbours sets) result number judged h;
         sets-are = refused-kept asked number judged (nearby-places n distances k m neighbours sets) sets h;
       }
 
@@ -85,18 +65,14 @@ module _ (n : ℕ) (distances : List Float) (k m neighbours : ℕ) (sets result 
     pub call-fine : NearbyInput n distances k m neighbours (length sets)
     call-fine = nearby-fine k n distances m neighbours (length sets) (passes .0) (passes .1 .0) (passes .1 .1 .0) (passes .1 .1 .1 .0)
 
-    pub call-space : 2 ≤ length result
+    call-space : 2 ≤ length result
     call-space = room-fine 2 (length result) (passes .1 .1 .1 .1 .0)
 
-    pub call-listed : (answer : Listing) (sets′ : List ℕ) → Lists n k m (nearby-sets distances n k m neighbours) sets answer sets′ → (count more : ℕ) →
-        listing-answer answer ≡ reply 0 (count ∷ more ∷ []) → (a : ℕ) (result′ : List ℕ) → a ≡ 0 → result′ ≡ count ∷ more ∷ drop 2 result →
-        NearbyWritten n distances k m neighbours sets result a sets′ result′
-    call-listed answer sets′ l count more e a result′ z w =
-        let values : count ∷ more ∷ [] ≡ nearby-values n distances k m neighbours sets = ap (λ x. x .values) (sym e ∙ l .answer-is) in
+    pub call-listed : (answer : Listing) (sets′ : List ℕ) → Lists n k m (nearby-sets distances n k m neighbours) sets answer sets′ → (a : ℕ) (result′ : List ℕ) →
+        Handed (listing-answer answer) result a result′ → NearbyWritten n distances k m neighbours sets result a sets′ result′
+    call-listed answer sets′ l a result′ handed =
+        let d = handed-done (nearby-values n distances k m neighbours sets) result result′ a (subst (λ x. Handed x result a result′) (l .answer-is) handed) call-space in
         record {
-          written = record {
-            number-is = z ∙ sym h ∙ judged;
-            result-is = w ∙ ap (λ vs. vs ++ drop 2 result) values ∙ taken-done asked number judged (nearby-values n distances k m neighbours sets ++ drop 2 result) result h;
-          };
+          written = values-written (nearby-rules n distances k m neighbours (length sets)) 2 (nearby-values n distances k m neighbours sets) result number judged h a result′ (d .0) (d .1);
           sets-are = l .lent-is ∙ taken-done asked number judged (nearby-places n distances k m neighbours sets) sets h;
         }

@@ -1,10 +1,10 @@
 -- The replies of the entry `next_cut_set` and of its C function, over plain values. Assumes nothing.
-use mathlib.Core.Path.{_≡_, refl, sym, ap, _∙_}
+use mathlib.Core.Path.{_≡_, refl, ap, _∙_}
 use mathlib.Core.Bool.{Bool, cond}
-use mathlib.Core.List.{List, [], _∷_, _++_}
+use mathlib.Core.List.{List, [], _∷_}
 use Prim.Native.Nat.{ℕ, _≤_}
 use native.Mathlib.Omega.{arith}
-use lib.ListN.{length, drop, set}
+use lib.ListN.{length, drop}
 use Rattle.theory.specs.Moves.{next-cuts}
 use Rattle.theory.specs.Tables.{CutSet}
 use Rattle.theory.specs.Refusals.{Rule, refusal}
@@ -14,9 +14,12 @@ use Rattle.theory.specs.declared.CutStep.the-variants.{Refused}
 use Rattle.theory.proofs.Refusals.{Passes, known}
 use Rattle.theory.proofs.Judged.{cuts-fine, room-fine}
 use Rattle.cuts.specs.Step.{found, or-kept, Stepped}
-use Rattle.mittenschist.specs.Promises.{NextCutSetReply, next-cut-set-rules, with-room, step-values, NextCutSetWritten}
+use Rattle.judging.specs.Rules.{next-cut-set-rules, with-room}
+use Rattle.replies.specs.Handed.{Handed}
+use Rattle.replies.proofs.Handing.{handed-done}
+use Rattle.mittenschist.specs.Promises.{NextCutSetReply, step-values, NextCutSetWritten}
 use Rattle.theory.proofs.Taken.{refused-reply, taken-reply, refused-kept, taken-done, taken-passes}
-use Rattle.mittenschist.proofs.Written.{first-place}
+use Rattle.mittenschist.proofs.Written.{nothing-written, values-written}
 
 module _ (k n : ℕ) (cuts : List ℕ) (number : ℕ) (judged : number ≡ refusal (next-cut-set-rules k n cuts)) where
   pub refused : (number ≡ 0 → ⊥) → NextCutSetReply k n cuts (Refused number) cuts
@@ -48,7 +51,7 @@ module _ (k n : ℕ) (cuts result : List ℕ) (number : ℕ) (judged : number �
   pub refused-call : (number ≡ 0 → ⊥) → NextCutSetWritten k n cuts result number cuts result
   refused-call h =
       record {
-        written = record { number-is = judged; result-is = refused-kept asked number judged (step-values n cuts ++ drop 1 result) result h };
+        written = nothing-written (next-cut-set-rules k n cuts) 1 (step-values n cuts) result number judged h;
         cuts-are = refused-kept asked number judged (or-kept (next-cuts n cuts) cuts) cuts h;
       }
 
@@ -62,15 +65,14 @@ module _ (k n : ℕ) (cuts result : List ℕ) (number : ℕ) (judged : number �
         let c = cuts-fine k n cuts (passes .0) (passes .1 .0) (passes .1 .1 .0) in
         record { least = omega (arith, c .many, c .least); most = omega (arith, c .many, c .most); short = c .short; many = refl; rising = c .rising }
 
-    pub space : 1 ≤ length result
+    space : 1 ≤ length result
     space = room-fine 1 (length result) (passes .1 .1 .1 .0)
 
-    pub stepped-call : (b : Bool) (cuts′ : List ℕ) → Stepped n cuts b cuts′ → NextCutSetWritten k n cuts result 0 cuts′ (set result 0 (cond b 1 0))
-    stepped-call b cuts′ s =
+    pub stepped-call : (b : Bool) (cuts′ : List ℕ) → Stepped n cuts b cuts′ → (answer : ℕ) (result′ : List ℕ) → Handed (reply 0 (cond b 1 0 ∷ [])) result answer result′ →
+        NextCutSetWritten k n cuts result answer cuts′ result′
+    stepped-call b cuts′ s answer result′ handed =
+        let d = handed-done (cond b 1 0 ∷ []) result result′ answer handed space in
         record {
-          written = record {
-            number-is = sym h ∙ judged;
-            result-is = first-place (cond b 1 0) result space ∙ ap (λ b. cond b 1 0 ∷ drop 1 result) (s .moved) ∙ taken-done asked number judged (step-values n cuts ++ drop 1 result) result h;
-          };
+          written = values-written (next-cut-set-rules k n cuts) 1 (step-values n cuts) result number judged h answer result′ (d .0) (d .1 ∙ ap (λ b. cond b 1 0 ∷ drop 1 result) (s .moved));
           cuts-are = s .cuts-after ∙ taken-done asked number judged (or-kept (next-cuts n cuts) cuts) cuts h;
         }

@@ -15,7 +15,8 @@ use Rattle.theory.proofs.Refusals.{known}
 use Rattle.theory.proofs.Judged.{room-fine}
 use Rattle.polishing.specs.Loop.{Polishable}
 use Rattle.polishing.proofs.Judged.{polishable-fine}
-use Rattle.mittenschist.specs.Promises.{PolishReply, polish-rules}
+use Rattle.judging.specs.Rules.{polish-rules}
+use Rattle.mittenschist.specs.Promises.{PolishReply}
 use Rattle.theory.proofs.Taken.{refused-kept, taken-done, taken-passes}
 
 -- The numbers of an answer are those of its reply, and the reply can be read off them again.

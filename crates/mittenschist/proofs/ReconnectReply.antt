@@ -10,7 +10,8 @@ use Rattle.theory.specs.Refusals.{refusal}
 use Rattle.theory.proofs.Refusals.{known}
 use Rattle.theory.proofs.Judged.{pattern-fine, cuts-fine, room-fine}
 use Rattle.moves.specs.Moves.{Applicable}
-use Rattle.mittenschist.specs.Promises.{ReconnectReply, reconnect-rules}
+use Rattle.judging.specs.Rules.{reconnect-rules}
+use Rattle.mittenschist.specs.Promises.{ReconnectReply}
 use Rattle.theory.proofs.Taken.{refused-kept, taken-done, taken-passes}
 
 module _ (k pattern : ℕ) (cuts route out : List ℕ) (number : ℕ) (judged : number ≡ refusal (reconnect-rules k pattern cuts (length route) (length out))) where

@@ -1,18 +1,21 @@
 -- The replies of the entry `reconnection_at`, over plain values. Assumes nothing.
 use mathlib.Core.Path.{_≡_, refl, sym, _∙_}
-use mathlib.Core.List.{_++_}
+use mathlib.Core.List.{List, _++_}
 use Prim.Native.Nat.{ℕ, _+_, _-_}
-use lib.ListN.{replicate}
+use lib.ListN.{length, replicate}
 use Rattle.theory.specs.Refusals.{refusal}
 use Rattle.theory.specs.declared.KOptReconnection.{KOptReconnection}
 use Rattle.theory.proofs.Refusals.{known}
-use Rattle.theory.proofs.Judged.{cut-count-fine, pattern-fine}
+use Rattle.theory.proofs.Judged.{cut-count-fine, pattern-fine, room-fine}
 use Rattle.patterns.specs.Enumeration.{Listed, Holds}
-use Rattle.mittenschist.specs.Promises.{ReconnectionReply, pattern-rules, pattern-at}
+use Rattle.moves.specs.Moves.{Shown}
+use Rattle.judging.specs.Rules.{pattern-rules, with-room}
+use Rattle.replies.specs.Handed.{pattern-refused}
+use Rattle.mittenschist.specs.Promises.{ReconnectionReply, pattern-at}
 use Rattle.theory.proofs.Taken.{refused-kept, taken-done, taken-passes}
 
 module _ (k pattern number : ℕ) (judged : number ≡ refusal (pattern-rules k pattern)) where
-  pub refused : (number ≡ 0 → ⊥) → ReconnectionReply k pattern (record { refusal = number; reconnection = record { «segment_order» = replicate 6 0; «reverse_mask» = 0; len = 0 } })
+  pub refused : (number ≡ 0 → ⊥) → ReconnectionReply k pattern (pattern-refused number)
   refused h =
       record {
         number-is = judged;
@@ -37,3 +40,14 @@ module _ (k pattern number : ℕ) (judged : number ≡ refusal (pattern-rules k 
           mask-is = holds .mask ∙ taken-done (pattern-rules k pattern) number judged (pattern-at k pattern .mask) 0 h;
           segments-are = holds .segments ∙ taken-done (pattern-rules k pattern) number judged (k + 1) 0 h;
         }
+
+-- What the C function asks of the crate below.
+pub shown : (k pattern : ℕ) (result : List ℕ) (number : ℕ) → number ≡ refusal (with-room (pattern-rules k pattern) (k + 2) (length result)) → number ≡ 0 → Shown k pattern result
+unfolding known
+shown k pattern result number judged h =
+    let p = taken-passes (with-room (pattern-rules k pattern) (k + 2) (length result)) number judged refl h in
+    let c = cut-count-fine k (p .0) in
+    record {
+      listed = record { cuts = record { least = c .0; most = c .1 }; known = pattern-fine k pattern (p .1 .0) };
+      room = room-fine (k + 2) (length result) (p .1 .1 .0);
+    }

@@ -8,7 +8,8 @@ use Rattle.theory.specs.Refusals.{Rule, refusal}
 use Rattle.theory.proofs.Refusals.{known}
 use Rattle.run.specs.Run.{run, rounds, routes, numbers, Runnable, Ran}
 use Rattle.run.proofs.Judged.{runnable-fine}
-use Rattle.mittenschist.specs.Promises.{RunReply, run-rules}
+use Rattle.judging.specs.Rules.{run-rules}
+use Rattle.mittenschist.specs.Promises.{RunReply}
 use Rattle.theory.proofs.Taken.{refused-kept, taken-done, taken-passes}
 
 module _ (k A locations : ℕ) (legs latest stops lengths depots pins result : List ℕ) (number : ℕ)

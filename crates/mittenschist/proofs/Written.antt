@@ -1,110 +1,64 @@
 -- The C functions that write an entry's values into a lent result, over plain values. Assumes nothing.
-use mathlib.Core.Path.{_≡_, refl, sym, ap, _∙_}
+use mathlib.Core.Path.{_≡_, refl, sym, ap, _∙_, subst}
 use mathlib.Core.Bool.{Bool, true, false, cond}
-use mathlib.Core.List.{List, [], _∷_, _++_}
-use Prim.Native.Nat.{ℕ, zero, suc, _<_, _≤_}
+use mathlib.Core.List.{List, _++_}
+use Prim.Native.Nat.{ℕ, zero, suc}
 use native.Mathlib.Omega.{arith}
-use lib.Dec.{eqb, ltb}
-use lib.ListN.{length, drop, set}
-use borrow.Author.Tests.{lt-ltb, le-ltb, ltb-false}
-use Rattle.theory.specs.Refusals.{Rule, number, either, rules-of, first-in, refusal, room}
-use Rattle.theory.specs.Answers.{Answer, reply, refused}
+use lib.Dec.{eqb}
+use lib.ListN.{length, drop}
+use Rattle.theory.specs.Refusals.{Rule, number, either, refusal, room}
+use Rattle.theory.specs.Answers.{Answer, reply}
 use Rattle.theory.proofs.LastRule.{early, room-last}
-use Rattle.mittenschist.specs.Promises.{with-room, Written}
 use Rattle.theory.proofs.Taken.{refused-kept, taken-done}
+use Rattle.judging.specs.Rules.{with-room}
+use Rattle.replies.specs.Handed.{Handed}
+use Rattle.mittenschist.specs.Promises.{Written}
 
--- What an answer with values says of the number and of the values.
-pub told-refused : {A : Type 0} (n m : ℕ) (v : A) (vs : List A) → refused n ≡ reply m (v ∷ vs) → (n ≡ m) × (n ≡ 0 → ⊥)
-told-refused n zero v vs e = absurd (empty vs (ap (λ a. a .values) e))
-  where
-    empty : {A : Type 0} {v : A} (vs : List A) → _≡_ {A = List A} [] (v ∷ vs) → ⊥
-    empty vs e = let z : _≡_ {A = ℕ} 0 (suc (length vs)) = ap length e in absurd (omega (arith, z))
-told-refused n (suc m) v vs e = let h = ap (λ a. a .number) e in (h, λ z. let x : _≡_ {A = ℕ} (suc m) 0 = sym h ∙ z in absurd (omega (arith, x)))
+-- ---- judged with the room
 
-pub told-values : {A : Type 0} (m : ℕ) (v w : A) → reply 0 (v ∷ []) ≡ reply m (w ∷ []) → (m ≡ 0) × (v ≡ w)
-told-values zero v w e = (refl, ap (λ a. first v (a .values)) e)
-  where
-    first : {A : Type 0} → A → List A → A
-    first d [] = d
-    first d (x ∷ xs) = x
-told-values (suc m) v w e = let h : 0 ≡ suc m = ap (λ a. a .number) e in absurd (omega (arith, h))
+module _ {A : Type 0} (rules : List Rule) (needed : ℕ) (values result : List A) (number : ℕ) (judged : number ≡ refusal (with-room rules needed (length result))) where
+  pub nothing-written : (number ≡ 0 → ⊥) → Written rules needed values result number result
+  nothing-written h =
+      record { number-is = judged; result-is = refused-kept (with-room rules needed (length result)) number judged (values ++ drop needed result) result h }
 
--- One value in the first place.
-pub first-place : {A : Type 0} (v : A) (result : List A) → 1 ≤ length result → set result 0 v ≡ v ∷ drop 1 result
-first-place v [] h = absurd (omega arith)
-first-place v (x ∷ result) h = refl
+  pub values-written : number ≡ 0 → (answer : ℕ) (result′ : List A) → answer ≡ 0 → result′ ≡ values ++ drop needed result → Written rules needed values result answer result′
+  values-written h answer result′ z e =
+      record {
+        number-is = z ∙ sym h ∙ judged;
+        result-is = e ∙ taken-done (with-room rules needed (length result)) number judged (values ++ drop needed result) result h;
+      }
 
--- Two values in the first two.
-pub two-places : (v w : ℕ) (result : List ℕ) → 2 ≤ length result → set (set result 0 v) 1 w ≡ v ∷ w ∷ drop 2 result
-two-places v w [] h = absurd (omega arith)
-two-places v w (x ∷ []) h = absurd (omega arith)
-two-places v w (x ∷ y ∷ result) h = refl
+-- ---- an entry's answer, handed over
 
-stays : (a : ℕ) → (a ≡ 0 → ⊥) → (b : ℕ) → a ≡ either a b
-unfolding either
-stays zero h b = absurd (h refl)
-stays (suc a) h b = refl
+either-way : {A : Type 0} (b : Bool) (x : A) → cond b x x ≡ x
+either-way true x = refl
+either-way false x = refl
 
-pub room-enough : (needed lent a : ℕ) → a ≡ number (room needed lent) → a ≡ 0 → needed ≤ lent
-room-enough needed lent a e z = ltb-false lent needed (by (ltb lent needed) (sym e ∙ z))
-  where
-    by : (b : Bool) → _≡_ {A = ℕ} (cond b 21 0) 0 → b ≡ false
-    by true x = absurd (omega arith)
-    by false x = refl
+module _ {A : Type 0} (rules : List Rule) (before : early rules ≡ true) (values result : List A) (n : ℕ) (result′ : List A) where
+  abbrev asked : List Rule
+  asked = with-room rules (length values) (length result)
 
-alone : (needed lent : ℕ) → refusal (with-room [] needed lent) ≡ number (room needed lent)
-unfolding refusal first-in rules-of either early
-alone needed lent = room-last [] needed lent refl
+  abbrev done : List A
+  done = values ++ drop (length values) result
 
-module _ (rules : List Rule) (needed : ℕ) (number₀ : ℕ) (judged : number₀ ≡ refusal rules) (before : early rules ≡ true) where
-  abbrev asked : ℕ → List Rule
-  asked lent = with-room rules needed lent
-
-  -- An entry that refuses: so does its C function.
-  pub refused-before : {A : Type 0} (values result : List A) → (number₀ ≡ 0 → ⊥) → Written rules needed values result number₀ result
-  refused-before values result h =
-      let n : number₀ ≡ refusal (asked (length result)) = stays number₀ h (number (room needed (length result))) ∙ ap (λ x. either x (number (room needed (length result)))) judged ∙ sym (room-last rules needed (length result) before) in
-      record { number-is = n; result-is = refused-kept (asked (length result)) number₀ n (values ++ drop needed result) result h }
-
-  -- It does not: the room decides.
-  room-decides : (lent : ℕ) → number₀ ≡ 0 → refusal (asked lent) ≡ number (room needed lent)
+  by-number : (m : ℕ) → refusal rules ≡ m → Handed (reply m values) result n result′ → Written rules (length values) values result n result′
   unfolding either
-  room-decides lent h = room-last rules needed lent before ∙ ap (λ x. either x (number (room needed lent))) (sym judged ∙ h)
+  by-number zero z h =
+      let judged : n ≡ refusal asked = h .number-is ∙ ap (λ x. either x (number (room (length values) (length result)))) (sym z) ∙ sym (room-last rules (length values) (length result) before) in
+      record { number-is = judged; result-is = h .result-is ∙ ap (λ x. cond (eqb x 0) done result) judged }
+  by-number (suc m) z h =
+      let judged : n ≡ refusal asked = h .number-is ∙ ap (λ x. either x (number (room (length values) (length result)))) (sym z) ∙ sym (room-last rules (length values) (length result) before) in
+      let some : n ≡ suc m = h .number-is in
+      record { number-is = judged; result-is = h .result-is ∙ either-way (eqb n 0) result ∙ refused-kept asked n judged done result (λ x. omega (arith, some, x)) }
 
-  pub no-room : {A : Type 0} (values result : List A) → number₀ ≡ 0 → length result < needed → Written rules needed values result 21 result
-  no-room values result h t =
-      let n : 21 ≡ refusal (asked (length result)) = sym (room-decides (length result) h ∙ rw (lt-ltb (length result) needed t)) in
-      record { number-is = n; result-is = refused-kept (asked (length result)) 21 n (values ++ drop needed result) result (λ z. omega (arith, z)) }
+  pub answer-written : (a : Answer A) → a ≡ reply (refusal rules) values → Handed a result n result′ → Written rules (length values) values result n result′
+  answer-written a e h = by-number (refusal rules) refl (subst (λ a. Handed a result n result′) e h)
 
-  -- The same as the check of the room says it.
-  pub room-refused : {A : Type 0} (values result : List A) (a : ℕ) → number₀ ≡ 0 → a ≡ number (room needed (length result)) → (a ≡ 0 → ⊥) → Written rules needed values result a result
-  room-refused values result a h e z =
-      let n : a ≡ refusal (asked (length result)) = e ∙ sym (room-decides (length result) h) in
-      record { number-is = n; result-is = refused-kept (asked (length result)) a n (values ++ drop needed result) result z }
-
-  pub values-put : {A : Type 0} (values result result′ : List A) → number₀ ≡ 0 → needed ≤ length result → result′ ≡ values ++ drop needed result → Written rules needed values result 0 result′
-  values-put values result result′ h t e =
-      let n : 0 ≡ refusal (asked (length result)) = sym (room-decides (length result) h ∙ rw (le-ltb (length result) needed t)) in
-      record { number-is = n; result-is = e ∙ taken-done (asked (length result)) 0 n (values ++ drop needed result) result refl }
-
-  -- What was given with no other rule is given with the rules that do not apply.
-  pub given-then : {A : Type 0} (values result result′ : List A) (answer : ℕ) → number₀ ≡ 0 → Written [] needed values result answer result′ → Written rules needed values result answer result′
-  given-then values result result′ answer h w =
-      let same : refusal (with-room [] needed (length result)) ≡ refusal (asked (length result)) = alone needed (length result) ∙ sym (room-decides (length result) h) in
-      record { number-is = w .number-is ∙ same; result-is = w .result-is ∙ ap (λ x. cond (eqb x 0) (values ++ drop needed result) result) same }
-
--- ---- the entries that answer one value
-
-module _ {A : Type 0} (rules : List Rule) (before : early rules ≡ true) (value : A) (result : List A) where
-  -- Refused: the entry's own number.
-  pub passed-on : (n : ℕ) → refused n ≡ reply (refusal rules) (value ∷ []) → Written rules 1 (value ∷ []) result n result
-  passed-on n e =
-      let t = told-refused n (refusal rules) value [] e in
-      refused-before rules 1 n (t .0) before (value ∷ []) result (t .1)
-
-  -- Not refused: its value, if there is room.
-  pub handed-over : (v : A) (answer : ℕ) (result′ : List A) → reply 0 (v ∷ []) ≡ reply (refusal rules) (value ∷ []) → Written [] 1 (v ∷ []) result answer result′ →
-      Written rules 1 (value ∷ []) result answer result′
-  handed-over v answer result′ e w =
-      let t = told-values (refusal rules) v value e in
-      given-then rules 1 0 (sym (t .0)) before (value ∷ []) result result′ answer refl (rw (t .1) at w)
+  -- What was written was not refused.
+  pub not-refused : Written rules (length values) values result n result′ → n ≡ 0 → refusal rules ≡ 0
+  unfolding either
+  not-refused w z = by (refusal rules) (sym (room-last rules (length values) (length result) before) ∙ sym (w .number-is) ∙ z)
+    where
+      by : (m : ℕ) → either m (number (room (length values) (length result))) ≡ 0 → m ≡ 0
+      by zero e = refl
+      by (suc m) e = absurd (omega arith)

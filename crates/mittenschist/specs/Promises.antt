@@ -10,7 +10,8 @@ use Rattle.theory.specs.Moves.{Pattern, patterns, next-cuts}
 use Rattle.theory.specs.Route.{tour-length, reconnected}
 use Rattle.theory.specs.Polish.{move-at, polish, Demand3}
 use Rattle.theory.specs.Tables.{problem, legs-only}
-use Rattle.theory.specs.Refusals.{Rule, refusal, if-taken, cut-count, leg-table, deadline-list, leg-sizes, known-stops, stop-count, pattern-index, cut-positions, known-rounds, round-lists, nearby-input, room, problem-rules}
+use Rattle.theory.specs.Refusals.{Rule, refusal, if-taken, problem-rules}
+use Rattle.judging.specs.Rules.{pattern-rules, next-cut-set-rules, reconnect-rules, route-length-rules, delta-rules, polish-rules, run-rules, nearby-rules, with-room}
 use Rattle.theory.specs.Answers.{reply, step-answer, length-answer, delta-answer, feasibility-answer, listing-answer, Verdict, five-numbers, handed-back}
 use Rattle.moves.specs.Moves.{length-change}
 use Rattle.cuts.specs.Step.{found, or-kept}
@@ -25,19 +26,12 @@ use Rattle.theory.specs.declared.Feasibility.{Feasibility}
 use Rattle.theory.specs.declared.ReconnectionAt.{ReconnectionAt}
 use Rattle.theory.specs.declared.Listing.{Listing}
 
--- The rules of a call that writes its values into a lent result: 21 where that has fewer places than are needed.
-abbrev pub with-room : List Rule → ℕ → ℕ → List Rule
-with-room rules needed lent = rules ++ (room needed lent ∷ [])
-
 -- The refusal number or 0; and the values in the first places of the lent result, whose places beyond keep their contents.
 pub record Written {A : Type 0} (rules : List Rule) (needed : ℕ) (values result : List A) (answer : ℕ) (result′ : List A) : Type 0 where
   pub number-is : answer ≡ refusal (with-room rules needed (length result))
   pub result-is : result′ ≡ if-taken (with-room rules needed (length result)) (values ++ drop needed result) result
 
 -- ---- pattern of an index
-
-abbrev pub pattern-rules : ℕ → ℕ → List Rule
-pattern-rules k pattern = cut-count k ∷ pattern-index k pattern ∷ []
 
 abbrev pub pattern-at : ℕ → ℕ → Pattern
 pattern-at k index = getD (patterns k) index (record { order = []; mask = 0 })
@@ -50,9 +44,6 @@ pub record ReconnectionReply (k pattern : ℕ) (answer : ReconnectionAt) : Type 
   pub segments-are : answer .reconnection .len ≡ if-taken (pattern-rules k pattern) (k + 1) 0
 
 -- ---- next cut set
-
-abbrev pub next-cut-set-rules : ℕ → ℕ → List ℕ → List Rule
-next-cut-set-rules k n cuts = cut-count k ∷ stop-count n ∷ cut-positions k n cuts ∷ []
 
 pub record NextCutSetReply (k n : ℕ) (cuts : List ℕ) (answer : CutStep) (cuts′ : List ℕ) : Type 0 where
   pub reply-is : step-answer answer ≡ reply (refusal (next-cut-set-rules k n cuts)) (cond (found (next-cuts n cuts)) 1 0 ∷ [])
@@ -68,33 +59,16 @@ pub record NextCutSetWritten (k n : ℕ) (cuts result : List ℕ) (answer : ℕ)
 
 -- ---- reconnect
 
-abbrev pub reconnect-rules : ℕ → ℕ → List ℕ → ℕ → ℕ → List Rule
-reconnect-rules k pattern cuts n lent = cut-count k ∷ stop-count n ∷ pattern-index k pattern ∷ cut-positions k n cuts ∷ room n lent ∷ []
-
 pub record ReconnectReply (k pattern : ℕ) (cuts route out : List ℕ) (answer : ℕ) (out′ : List ℕ) : Type 0 where
   pub number-is : answer ≡ refusal (reconnect-rules k pattern cuts (length route) (length out))
   pub out-is : out′ ≡ if-taken (reconnect-rules k pattern cuts (length route) (length out)) (reconnected (move-at (patterns k) cuts pattern) route ++ drop (length route) out) out
 
 -- ---- route length
 
-abbrev pub route-length-rules : ℕ → List ℕ → ℕ → List ℕ → List Rule
-route-length-rules locations legs depot route = leg-table locations legs ∷ leg-sizes legs ∷ known-stops locations depot route ∷ stop-count (length route) ∷ []
-
 pub record RouteLengthReply (locations : ℕ) (legs : List ℕ) (depot : ℕ) (route : List ℕ) (answer : RouteLength) : Type 0 where
   pub reply-is : length-answer answer ≡ reply (refusal (route-length-rules locations legs depot route)) (tour-length (legs-only locations legs depot) route ∷ [])
 
 -- ---- delta
-
-abbrev pub delta-rules : ℕ → ℕ → List ℕ → ℕ → List ℕ → ℕ → List ℕ → List Rule
-delta-rules k pattern cuts locations legs depot route =
-    cut-count k
-    ∷ leg-table locations legs
-    ∷ leg-sizes legs
-    ∷ known-stops locations depot route
-    ∷ stop-count (length route)
-    ∷ pattern-index k pattern
-    ∷ cut-positions k (length route) cuts
-    ∷ []
 
 pub record DeltaReply (k pattern : ℕ) (cuts : List ℕ) (locations : ℕ) (legs : List ℕ) (depot : ℕ) (route : List ℕ) (answer : LengthDelta) : Type 0 where
   pub reply-is : delta-answer answer ≡ reply (refusal (delta-rules k pattern cuts locations legs depot route)) (length-change (legs-only locations legs depot) (move-at (patterns k) cuts pattern) route ∷ [])
@@ -114,17 +88,6 @@ pub record FeasibleWritten (locations : ℕ) (legs latest : List ℕ) (depot : �
 
 -- ---- polishing
 
-abbrev pub polish-rules : ℕ → ℕ → List ℕ → List ℕ → ℕ → List ℕ → ℕ → List Rule
-polish-rules k locations legs latest depot route lent =
-    cut-count k
-    ∷ leg-table locations legs
-    ∷ deadline-list locations latest
-    ∷ leg-sizes legs
-    ∷ known-stops locations depot route
-    ∷ stop-count (length route)
-    ∷ room 5 lent
-    ∷ []
-
 -- Of the slices as they are handed in and as they are handed back: route and result are those of document 01's scan; and demand 3 whenever it returns 0.
 pub record PolishReply (k allowance locations : ℕ) (legs latest : List ℕ) (depot : ℕ) (route result : List ℕ) (answer : ℕ) (route′ result′ : List ℕ) : Type 0 where
   pub number-is : answer ≡ refusal (polish-rules k locations legs latest depot route (length result))
@@ -143,17 +106,6 @@ doable-values k round n rounds positions = cond (doable k round n rounds positio
 
 -- ---- the run
 
-abbrev pub run-rules : ℕ → ℕ → List ℕ → List ℕ → List ℕ → List ℕ → List ℕ → List ℕ → ℕ → List Rule
-run-rules k locations legs latest stops lengths depots pins lent =
-    cut-count k
-    ∷ leg-table locations legs
-    ∷ deadline-list locations latest
-    ∷ leg-sizes legs
-    ∷ known-rounds locations depots stops
-    ∷ round-lists lengths depots pins (length stops)
-    ∷ room (4 * length lengths) lent
-    ∷ []
-
 -- Stops and result are those of document 01's run; and whenever it returns 0 each round holds the same stops, none is reached after a spent one, and with k
 -- from 3 to 5 each that finished is k-optimal (`Ran`).
 pub record RunReply (k allowance locations : ℕ) (legs latest stops lengths depots pins result : List ℕ) (answer : ℕ) (stops′ result′ : List ℕ) : Type 0 where
@@ -167,9 +119,6 @@ pub record RunReply (k allowance locations : ℕ) (legs latest stops lengths dep
   pub ran : answer ≡ 0 → Ran k allowance locations legs latest stops lengths depots pins result stops′ result′
 
 -- ---- nearby cuts
-
-abbrev pub nearby-rules : ℕ → List Float → ℕ → ℕ → ℕ → ℕ → List Rule
-nearby-rules n distances k m neighbours lent = cut-count k ∷ stop-count n ∷ nearby-input n distances m neighbours ∷ room k lent ∷ []
 
 -- The sets that fit, of those of document 01's walk.
 abbrev pub nearby-written : ℕ → List Float → ℕ → ℕ → ℕ → List ℕ → List (List ℕ)

@@ -1,50 +1,6 @@
 // Replays document 01's runs on the pair loop and on nearby cuts, and worked examples of the rulings on what it leaves open, over the library's own
 // entries, a line each: what was asked, and what came back.
 
-fn say(text: &[u8]) {
-    let _ = io::write_all(1, text);
-}
-
-fn say_number(n: u64) {
-    let _ = io::print_decimal(1, n);
-}
-
-fn say_stop(n: u32) {
-    say_number(n as u64);
-}
-
-fn say_result(result: &[u64]) {
-    for i in 0..result.len() {
-        say(b" ");
-        say_number(result[i]);
-    }
-}
-
-fn say_route(route: &[u32]) {
-    for i in 0..route.len() {
-        say(b" ");
-        say_stop(route[i]);
-    }
-}
-
-fn say_places(places: &[usize]) {
-    for i in 0..places.len() {
-        say(b" ");
-        say_number(places[i] as u64);
-    }
-}
-
-// What a run answered, the numbers of its rounds, and their stops.
-fn show_run(refused: u32, result: &[u64], stops: &[u32]) {
-    say(b"run ");
-    say_number(refused as u64);
-    say(b" result");
-    say_result(result);
-    say(b" stops");
-    say_route(stops);
-    say(b"\n");
-}
-
 // The pair case of document 01 with an allowance: D, A, B, C, E are 0 to 4.
 fn show_pairs(k: usize, allowance: u64, pin: u8) {
     let legs = [
@@ -89,10 +45,16 @@ fn show_pairs(k: usize, allowance: u64, pin: u8) {
         &[pin],
         &mut result,
     );
-    show_run(refused, &result, &stops);
+    replay::say_line(b"run ", refused, &result, b" stops", &stops);
 }
 
-// A listing of nearby sets: what it answers, the two numbers, and the buffer.
+// What a listing answered, its two numbers, and the buffer.
+fn show_listing(refused: u32, result: &[u64], sets: &[usize]) {
+    replay::say_result(b"nearby ", refused, result);
+    replay::say_places(b" sets", sets);
+    replay::say(b"\n");
+}
+
 fn show_nearby(n: usize, distances: &[f64], k: usize, neighbours: usize, sets: &mut [usize]) {
     let mut result = [9u64; 2];
     let refused = mittenschist::mittenschist_nearby_cuts(
@@ -104,20 +66,18 @@ fn show_nearby(n: usize, distances: &[f64], k: usize, neighbours: usize, sets: &
         sets,
         &mut result,
     );
-    say(b"nearby ");
-    say_number(refused as u64);
-    say(b" result");
-    say_result(&result);
-    say(b" sets");
-    say_places(&sets[..]);
-    say(b"\n");
+    show_listing(refused, &result, &sets[..]);
 }
 
-// The nearby cases of document 01, five positions and three cuts, and others on the same tables: d is the distance from 1 to 3.
-fn show_five(d: f64, neighbours: usize, sets: &mut [usize]) {
+// The nearby cases of document 01, five positions and three cuts, and others on the same tables: d is the distance from 1 to 3, and so many places are lent.
+fn show_five(d: f64, neighbours: usize, places: usize) {
     let mut distances = [2.0f64; 25];
     distances[8] = d;
-    show_nearby(5, &distances, 3, neighbours, sets);
+    let mut sets = [99usize; 13];
+    if places > 13 {
+        return;
+    }
+    show_nearby(5, &distances, 3, neighbours, &mut sets[..places]);
 }
 
 // Three rounds of one location: the first takes 70 candidates with k = 3, the second is short, the third pinned.
@@ -136,55 +96,37 @@ fn show_rounds(allowance: u64) {
         &[0, 0, 200],
         &mut result,
     );
-    show_run(refused, &result, &stops);
+    replay::say_line(b"run ", refused, &result, b" stops", &stops);
 }
 
-// Undone with the first n places of a journal.
-fn show_undone(route: &mut [u32], journal: &[u32], n: usize) {
-    if journal.len() < n {
-        return;
-    }
-    let undone = mittenschist::mittenschist_k_opt_undo_move(route, &journal[..n]);
-    say(b" undone ");
-    say_number(undone as u64);
-    say_route(&route[..]);
-    say(b"\n");
+fn show_doable(rounds: &[usize], cuts: &[usize]) {
+    let mut result = [9u64; 1];
+    let refused = mittenschist::mittenschist_k_opt_is_doable(2, 0, 0, 4, rounds, cuts, &mut result);
+    replay::say_number(b"doable ", refused as u64);
+    replay::say_numbers(b"", &result);
 }
 
-// A move applied at two cuts, and undone with the first places of its journal.
+fn show_applied(rounds: &[usize], cuts: &[usize], route: &mut [u32], journal: &mut [u32]) {
+    let refused = mittenschist::mittenschist_k_opt_do_move(2, 0, 0, rounds, cuts, route, journal);
+    replay::say_route(b" applied ", refused, &route[..]);
+    replay::say_stops(b" journal", &journal[..]);
+}
+
+fn show_undone(route: &mut [u32], journal: &[u32]) {
+    let refused = mittenschist::mittenschist_k_opt_undo_move(route, journal);
+    replay::say_route(b" undone ", refused, &route[..]);
+    replay::say(b"\n");
+}
+
+// A move at two cuts: whether it can be done, applied, and undone with the first places of its journal.
 fn show_move(round: usize, first: usize, second: usize) {
     let mut route = [11u32, 12, 13, 14];
     let mut journal = [0u32; 6];
-    let mut result = [9u64; 1];
     let rounds = [0, round];
     let cuts = [first, second];
-    let judged = mittenschist::mittenschist_k_opt_is_doable(
-        2,
-        0,
-        0,
-        4,
-        &rounds,
-        &cuts,
-        &mut result,
-    );
-    say(b"doable ");
-    say_number(judged as u64);
-    say_result(&result);
-    let applied = mittenschist::mittenschist_k_opt_do_move(
-        2,
-        0,
-        0,
-        &rounds,
-        &cuts,
-        &mut route,
-        &mut journal,
-    );
-    say(b" applied ");
-    say_number(applied as u64);
-    say_route(&route);
-    say(b" journal");
-    say_route(&journal);
-    show_undone(&mut route, &journal, 4);
+    show_doable(&rounds, &cuts);
+    show_applied(&rounds, &cuts, &mut route, &mut journal);
+    show_undone(&mut route, &journal[..4]);
 }
 
 fn show_pair_allowances() {
@@ -209,13 +151,13 @@ fn show_moves() {
 }
 
 fn show_listings() {
-    show_five(1.0, 4, &mut [99usize; 12]);
-    show_five(2.0, 4, &mut [99usize; 12]);
-    show_five(2.0, 4, &mut [99usize; 13]);
-    show_five(2.0, 4, &mut [99usize; 3]);
-    show_five(2.0, 4, &mut [99usize; 2]);
-    show_five(2.0, 1, &mut [99usize; 3]);
-    show_five(0.0 / 0.0, 4, &mut [99usize; 3]);
+    show_five(1.0, 4, 12);
+    show_five(2.0, 4, 12);
+    show_five(2.0, 4, 13);
+    show_five(2.0, 4, 3);
+    show_five(2.0, 4, 2);
+    show_five(2.0, 1, 3);
+    show_five(0.0 / 0.0, 4, 3);
 }
 
 fn main() {

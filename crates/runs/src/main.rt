@@ -1,20 +1,8 @@
 // Replays document 01's runs on patterns, cut sets and polishing over the library's own entries, a line each: what was asked, and what came back.
 use theory::CutStep;
 
-fn say(text: &[u8]) {
-    let _ = io::write_all(1, text);
-}
-
-fn say_number(n: u64) {
-    let _ = io::print_decimal(1, n);
-}
-
 fn say_byte(n: u8) {
-    say_number(n as u64);
-}
-
-fn say_stop(n: u32) {
-    say_number(n as u64);
+    replay::say_number(b"", n as u64);
 }
 
 // A pattern: its refusal number, order and mask.
@@ -22,18 +10,16 @@ fn show_pattern(k: usize, index: usize) {
     let found = mittenschist::reconnection_at(k, index);
     let pattern = found.reconnection;
     let order = pattern.segment_order;
-    say(b"pattern ");
-    say_number(found.refusal as u64);
-    say(b" order ");
+    replay::say_number(b"pattern ", found.refusal as u64);
+    replay::say(b" order ");
     say_byte(order[0]);
     say_byte(order[1]);
     say_byte(order[2]);
     say_byte(order[3]);
     say_byte(order[4]);
     say_byte(order[5]);
-    say(b" mask ");
-    say_number(pattern.reverse_mask as u64);
-    say(b"\n");
+    replay::say_number(b" mask ", pattern.reverse_mask as u64);
+    replay::say(b"\n");
 }
 
 // Steps through the cut sets of four stops, at most 100 of them, and counts them.
@@ -50,33 +36,8 @@ fn count_cut_sets(k: usize, cuts: &mut [usize]) -> u64 {
 }
 
 fn show_cut_sets(k: usize, cuts: &mut [usize]) {
-    say(b"cut sets ");
-    say_number(count_cut_sets(k, cuts));
-    say(b"\n");
-}
-
-fn say_result(result: &[u64]) {
-    for i in 0..result.len() {
-        say(b" ");
-        say_number(result[i]);
-    }
-}
-
-fn say_route(route: &[u32]) {
-    for i in 0..route.len() {
-        say(b" ");
-        say_stop(route[i]);
-    }
-}
-
-fn show_polished(refused: u32, result: &[u64], route: &[u32]) {
-    say(b"polish ");
-    say_number(refused as u64);
-    say(b" result");
-    say_result(result);
-    say(b" route");
-    say_route(route);
-    say(b"\n");
+    replay::say_number(b"cut sets ", count_cut_sets(k, cuts));
+    replay::say(b"\n");
 }
 
 // The text case T with another k, allowance, longest leg or deadline of location 1.
@@ -95,7 +56,7 @@ fn show_t(k: usize, allowance: u64, leg: u32, latest: u32) {
         &mut route,
         &mut result,
     );
-    show_polished(refused, &result, &route);
+    replay::say_line(b"polish ", refused, &result, b" route", &route);
 }
 
 // A route of one location, as long as the slice.
@@ -113,7 +74,7 @@ fn show_long(route: &mut [u32]) {
         route,
         &mut result,
     );
-    show_polished(refused, &result, &route[..0]);
+    replay::say_line(b"polish ", refused, &result, b" route", &route[..0]);
 }
 
 fn show_patterns() {

@@ -1,26 +1,8 @@
 // The text program's function from bytes to bytes: it reads a question, judges it, polishes it and prints the answer.
 use reading::Reading;
 use theory::Polished;
-ghost use mathlib.Core.Path.{_≡_};
-ghost use mathlib.Core.List.{_∷_};
-ghost use Rattle.theory.specs.Refusals.{refusal, cut-count, problem-rules};
 ghost use Rattle.printing.specs.Answer.{answer-text, Printed};
 ghost use Rattle.text.specs.Program.{program, question-text, polished-text, Room, Printable, question-of, Work, Shown};
-
-fn question_refusal(
-    k: usize,
-    locations: usize,
-    legs: &[u32],
-    latest: &[u32],
-    depot: u32,
-    route: &[u32],
-) -> u32
-    ensures { λ r. ⌜ r ≡ refusal (cut-count k ∷ problem-rules locations (now (legs .entry)) (now (latest .entry)) depot (now (route .entry))) ⌝ }
-{
-    let bad_k = refusals::check_cut_count(k);
-    let bad_problem = refusals::check_problem(locations, legs, latest, depot, route);
-    refusals::first(bad_k, bad_problem)
-}
 
 // Any answer has room.
 fn print_numbers(
@@ -66,7 +48,7 @@ fn answer_question(
     requires { ⌜ Room (now out) ⌝ }
     ensures { λ r. ⌜ Printed (question-text (question-of k allowance locations (now (legs .entry)) (now (latest .entry)) depot (now (stops .entry)))) (now (out .entry)) (now (out .exit)) r ⌝ }
 {
-    let refused = question_refusal(k, locations, legs, latest, depot, &stops[..]);
+    let refused = judging::question_refusal(k, locations, legs, latest, depot, &stops[..]);
     if refused != 0 {
         return printing::print_refusal(refused, out);
     }

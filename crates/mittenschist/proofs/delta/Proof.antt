@@ -1,6 +1,6 @@
 -- `mittenschist::delta` meets its contract. Assumes nothing.
 use Rattle.mittenschist.proofs.DeltaReply.{refused, fine, changed}
-use mathlib.Core.Path.{_≡_, _∙_}
+use mathlib.Core.Path.{_≡_}
 use mir.Syntax.{w64}
 use mir.Val.{toZ, ofZ}
 use borrow.Author.Needs.{needs}
@@ -27,7 +27,7 @@ returns-2 c =
     let r = c .before .before .delta-refusal in
     let s = c .before .before .before .before .before .before in
     let same : toZ w64 (ofZ w64 (c .delta-pattern .result)) ≡ c .delta-pattern .result = search needs in
-    changed (s .args .k) (s .args .pattern) (s .args .cuts .now) (s .args .locations) (s .args .legs .now) (s .args .depot) (s .args .route .now) (r .result) (r .ensures) (c .before .if1 .left) _ (same ∙ c .delta-pattern .ensures)
+    changed (s .args .k) (s .args .pattern) (s .args .cuts .now) (s .args .locations) (s .args .legs .now) (s .args .depot) (s .args .route .now) (r .result) (r .ensures) (c .before .if1 .left) (toZ w64 (ofZ w64 (c .delta-pattern .result))) (rw same (c .delta-pattern .ensures))
 
 pub delta-spec : {M : Type 1} → statement M
 delta-spec = tie.close (tie.spec delta-refusal-requires returns delta-pattern-requires returns-2)

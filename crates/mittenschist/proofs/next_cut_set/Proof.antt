@@ -1,5 +1,4 @@
 -- `mittenschist::next_cut_set` meets its contract. Assumes nothing.
-use mathlib.Core.Path.{refl}
 use borrow.Author.Needs.{needs}
 use Rattle.mittenschist.proofs.NextCutSet.{refused, fine, stepped}
 use Rattle.mittenschist.proofs.next_cut_set.Statement.{statement}
@@ -24,20 +23,14 @@ next-cut-set-requires c κs =
 same-length-2 : tie.Need-same-length-2
 same-length-2 c = search needs
 
+step-of-requires : tie.Need-step-of-requires
+step-of-requires c κs = search needs
+
 returns-2 : tie.Need-returns-2
 returns-2 c =
     let s = c .before .before .before .before .before .before .before .before .before in
     let r = c .before .before .before .before .before .before .next-cut-set-refusal in
-    stepped (s .args .k) (s .args .n) (s .args .cuts .now) (r .result) (r .ensures) (c .before .before .before .before .before .if1 .left) _ _ _ refl (rw (c .if2 .taken) at (c .before .before .before .next-cut-set .ensures))
-
-same-length-3 : tie.Need-same-length-3
-same-length-3 c = search needs
-
-returns-3 : tie.Need-returns-3
-returns-3 c =
-    let s = c .before .before .before .before .before .before .before .before .before in
-    let r = c .before .before .before .before .before .before .next-cut-set-refusal in
-    stepped (s .args .k) (s .args .n) (s .args .cuts .now) (r .result) (r .ensures) (c .before .before .before .before .before .if1 .left) _ _ _ refl (rw (c .if2 .left) at (c .before .before .before .next-cut-set .ensures))
+    stepped (s .args .k) (s .args .n) (s .args .cuts .now) (r .result) (r .ensures) (c .before .before .before .before .before .if1 .left) _ _ _ (c .step-of .ensures) (c .before .before .before .next-cut-set .ensures)
 
 pub next-cut-set-spec : {M : Type 1} → statement M
 next-cut-set-spec =
@@ -47,7 +40,6 @@ next-cut-set-spec =
     same-length
     returns
     next-cut-set-requires
+    step-of-requires
     same-length-2
-    returns-2
-    same-length-3
-    returns-3)
+    returns-2)

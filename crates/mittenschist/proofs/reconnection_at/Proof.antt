@@ -7,11 +7,14 @@ use Rattle.mittenschist.proofs.reconnection_at.Tie as tie
 pattern-refusal-requires : tie.Need-pattern-refusal-requires
 pattern-refusal-requires c κs = search needs
 
+no-pattern-requires : tie.Need-no-pattern-requires
+no-pattern-requires c κs = search needs
+
 returns : tie.Need-returns
 returns c =
-    let r = c .before .pattern-refusal in
-    let s = c .before .before in
-    refused (s .args .k) (s .args .pattern) (r .result) (r .ensures) (c .if1 .taken)
+    let r = c .before .before .pattern-refusal in
+    let s = c .before .before .before in
+    rw (c .no-pattern .ensures) (refused (s .args .k) (s .args .pattern) (r .result) (r .ensures) (c .before .if1 .taken))
 
 pattern-at-requires : tie.Need-pattern-at-requires
 pattern-at-requires c κs =
@@ -27,4 +30,4 @@ returns-2 c =
 
 pub reconnection-at-spec : {M : Type 1} → statement M
 reconnection-at-spec =
-    tie.close (tie.spec pattern-refusal-requires returns pattern-at-requires returns-2)
+    tie.close (tie.spec pattern-refusal-requires no-pattern-requires returns pattern-at-requires returns-2)

@@ -1,0 +1,19 @@
+-- An answer that is handed over in a lent result.
+use mathlib.Core.Path.{_≡_}
+use mathlib.Core.Bool.{cond}
+use mathlib.Core.List.{List, _++_}
+use Prim.Native.Nat.{ℕ}
+use lib.Dec.{eqb}
+use lib.ListN.{length, drop, replicate}
+use Rattle.theory.specs.Refusals.{either, number, room}
+use Rattle.theory.specs.Answers.{Answer}
+use Rattle.theory.specs.declared.ReconnectionAt.{ReconnectionAt}
+
+-- The answer's own number, else that of the room for its values; and where both are 0 the values in the first places, whose places beyond keep their contents.
+pub record Handed {A : Type 0} (a : Answer A) (result : List A) (answer : ℕ) (result′ : List A) : Type 0 where
+  pub number-is : answer ≡ either (a .number) (number (room (length (a .values)) (length result)))
+  pub result-is : result′ ≡ cond (eqb answer 0) (a .values ++ drop (length (a .values)) result) result
+
+-- A refused call has no pattern: its places are 0, and there is no segment.
+abbrev pub pattern-refused : ℕ → ReconnectionAt
+pattern-refused n = record { refusal = n; reconnection = record { «segment_order» = replicate 6 0; «reverse_mask» = 0; len = 0 } }
