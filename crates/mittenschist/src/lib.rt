@@ -1,5 +1,4 @@
 // The entries. Each takes whatever it is handed, judges it, and refuses it or calls the crate below that does the work.
-ghost use mathlib.Core.Path.{_≡_};
 ghost use mathlib.Core.List.{[], _∷_};
 ghost use Prim.Native.Nat.{_+_};
 ghost use Rattle.theory.specs.Route.{tour-length};

@@ -1,14 +1,14 @@
 -- Answers handed over, over plain values. Assumes nothing.
-use mathlib.Core.Path.{_≡_, refl, sym, ap, _∙_}
+use mathlib.Core.Path.{_≡_, refl, sym, _∙_}
 use mathlib.Core.Bool.{Bool, true, false, cond}
 use mathlib.Core.List.{List, [], _∷_, _++_}
-use Prim.Native.Nat.{ℕ, zero, suc, _<_, _≤_}
+use Prim.Native.Nat.{ℕ, _<_, _≤_}
 use native.Mathlib.Omega.{arith}
 use lib.Dec.{eqb}
 use lib.ListN.{length, drop, set}
 use borrow.Author.Tests.{lt-ltb, le-ltb}
 use Rattle.theory.specs.Refusals.{either, number, room}
-use Rattle.theory.specs.Answers.{Answer, reply, refused}
+use Rattle.theory.specs.Answers.{reply, refused}
 use Rattle.theory.proofs.Refusals.{either-zero}
 use Rattle.replies.specs.Handed.{Handed}
 

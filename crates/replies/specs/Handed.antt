@@ -1,4 +1,4 @@
--- An answer that is handed over in a lent result.
+-- What an answer is handed over as: in a lent result, or without a pattern.
 use mathlib.Core.Path.{_≡_}
 use mathlib.Core.Bool.{cond}
 use mathlib.Core.List.{List, _++_}

@@ -1,5 +1,5 @@
 -- `judging::pattern_refusal_with_room` meets its contract. Assumes nothing.
-use mathlib.Core.Path.{refl, ap, _∙_}
+use mathlib.Core.Path.{refl}
 use Prim.Native.Nat.{_+_}
 use native.Mathlib.Omega.{arith}
 use Rattle.theory.proofs.LastRule.{early}
