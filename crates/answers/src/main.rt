@@ -1,39 +1,6 @@
 // Replays the stored answers of the unchanged Rust: the file stdout beside src/ is written from them by tools/store-answers, and this program
 // prints what the library answers for the same inputs, which both draw by the rule of `next`, `draw` and `fill`.
 
-fn say(text: &[u8]) {
-    let _ = io::write_all(1, text);
-}
-
-fn say_number(n: u64) {
-    let _ = io::print_decimal(1, n);
-}
-
-fn say_stop(n: u32) {
-    say_number(n as u64);
-}
-
-fn say_result(result: &[u64]) {
-    for i in 0..result.len() {
-        say(b" ");
-        say_number(result[i]);
-    }
-}
-
-fn say_route(route: &[u32]) {
-    for i in 0..route.len() {
-        say(b" ");
-        say_stop(route[i]);
-    }
-}
-
-fn say_places(places: &[usize]) {
-    for i in 0..places.len() {
-        say(b" ");
-        say_number(places[i] as u64);
-    }
-}
-
 // The number that follows.
 fn next(state: u16) -> u16 {
     ((state as u32 * 25173 + 13849) % 65536) as u16
@@ -89,12 +56,10 @@ fn show_polish(seed: u16, route: &mut [u32]) {
         route,
         &mut result,
     );
-    say(b"polish ");
-    say_number(refused as u64);
-    say_result(&result);
-    say(b" route");
-    say_route(&route[..]);
-    say(b"\n");
+    replay::say_number(b"polish ", refused as u64);
+    replay::say_numbers(b"", &result);
+    replay::say_stops(b" route", &route[..]);
+    replay::say(b"\n");
 }
 
 // Three rounds; the middle one is short, and pinned for every other four seeds.
@@ -119,12 +84,10 @@ fn show_run(seed: u16) {
         &[0, pin, 0],
         &mut result,
     );
-    say(b"run ");
-    say_number(refused as u64);
-    say_result(&result);
-    say(b" stops");
-    say_route(&stops);
-    say(b"\n");
+    replay::say_number(b"run ", refused as u64);
+    replay::say_numbers(b"", &result);
+    replay::say_stops(b" stops", &stops);
+    replay::say(b"\n");
 }
 
 // Twelve positions; distances to 7, so that many are equal.
@@ -142,12 +105,10 @@ fn show_nearby(seed: u16) {
         &mut sets,
         &mut result,
     );
-    say(b"nearby ");
-    say_number(refused as u64);
-    say_result(&result);
-    say(b" sets");
-    say_places(&sets);
-    say(b"\n");
+    replay::say_number(b"nearby ", refused as u64);
+    replay::say_numbers(b"", &result);
+    replay::say_places(b" sets", &sets);
+    replay::say(b"\n");
 }
 
 fn show_move(k: usize, pattern: usize, rounds: &[usize], cuts: &[usize]) {
@@ -162,13 +123,10 @@ fn show_move(k: usize, pattern: usize, rounds: &[usize], cuts: &[usize]) {
         &mut route,
         &mut journal,
     );
-    say(b"move ");
-    say_number(refused as u64);
-    say(b" route");
-    say_route(&route);
-    say(b" journal");
-    say_route(&journal);
-    say(b"\n");
+    replay::say_number(b"move ", refused as u64);
+    replay::say_stops(b" route", &route);
+    replay::say_stops(b" journal", &journal);
+    replay::say(b"\n");
 }
 
 fn show_moves(i: u16) {
