@@ -22,24 +22,8 @@ const RUST_FILES: [(&str, &str); 7] = [
 /// Included as it stands in a module that has the names it uses, as the Rust does.
 const INCLUDED: (&str, &str) = ("iter", "heuristic/selector/move_selector/iter.rs");
 
-/// The crates of the scan, low to high.
-const SCAN_CRATES: [&str; 15] = [
-    "theory",
-    "patterns",
-    "cuts",
-    "reconnection",
-    "costs",
-    "deadlines",
-    "joints",
-    "shared",
-    "room",
-    "walking",
-    "dues",
-    "search",
-    "stretches",
-    "scanning",
-    "polishing",
-];
+/// The crate of polishing: the scan is this one and those below it.
+const POLISHING: &str = "polishing";
 
 /// Where the scan counts the cut sets passed over, and what is put behind it.
 const PASSED: &str = "examined += over;";
@@ -59,7 +43,7 @@ fn prepare() -> Result<(), String> {
     let beside = PathBuf::from(variable("CARGO_MANIFEST_DIR")?);
     println!("cargo:rerun-if-changed=build.rs");
     name_sources(&beside.join("../../../shared/docs/src"))?;
-    write_scan(&beside.join("../../crates"))
+    write_scan(&beside.join("../.."))
 }
 
 fn variable(name: &str) -> Result<String, String> {
@@ -100,12 +84,10 @@ fn write_down(module: &str, declaration: &str) -> Result<(), String> {
 }
 
 /// The scan's crates as modules.
-fn write_scan(crates: &Path) -> Result<(), String> {
+fn write_scan(root: &Path) -> Result<(), String> {
     let mut modules = String::new();
-    for name in SCAN_CRATES {
-        let path = found(&crates.join(name).join("src/lib.rt"))?;
-        let source =
-            fs::read_to_string(&path).map_err(|fault| format!("{}: {fault}", path.display()))?;
+    for name in crates_below(&read(&root.join("crates.txt"))?) {
+        let source = read(&root.join("crates").join(&name).join("src/lib.rt"))?;
         modules += &format!("pub mod {name} {{\nuse super::*;\n{}}}\n", code_of(&source));
     }
     if modules.matches(PASSED).count() != 1 {
@@ -130,4 +112,24 @@ fn code_of(source: &str) -> String {
         None => format!("{line}\n"),
     })
     .collect()
+}
+
+fn read(path: &Path) -> Result<String, String> {
+    fs::read_to_string(found(path)?).map_err(|fault| format!("{}: {fault}", path.display()))
+}
+
+/// Polishing and the crates that it needs, from the list that names each crate and those it uses, low to high.
+fn crates_below(list: &str) -> Vec<String> {
+    let mut needed = vec![POLISHING];
+    let lines = list.lines().filter(|line| !line.starts_with('#'));
+    for (name, uses) in lines.rev().filter_map(|line| line.split_once(':')) {
+        if needed.contains(&name) {
+            needed.extend(uses.split_whitespace());
+        }
+    }
+    let listed = list.lines().filter_map(|line| line.split_once(':'));
+    listed
+        .filter(|(name, _)| needed.contains(name))
+        .map(|(name, _)| name.to_string())
+        .collect()
 }
