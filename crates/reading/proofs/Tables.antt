@@ -10,13 +10,13 @@ use lib.ListN.{length, take, drop, length-append, length-take, length-drop, take
 use lib.Seq.{take-at, drop-at, take-all}
 use Rattle.decimal.specs.Text.{ascii, line, Small}
 use Rattle.lines.specs.Reading.{before, row}
-use Rattle.lines.proofs.Numbers.{same-read}
+use Rattle.tokens.proofs.Numbers.{same-read}
 use Rattle.lines.proofs.Lines.{before-sound, first-read, row-sound, row-complete}
 use Rattle.lines.proofs.Places.{before-none, before-before}
 use Rattle.reading.specs.Question.{legs-lines}
 use Rattle.lines.specs.Told.{row-told}
-use Rattle.lines.specs.declared.Place.{Place}
-use Rattle.lines.specs.declared.Place.the-variants as P
+use Rattle.tokens.specs.declared.Place.{Place}
+use Rattle.tokens.specs.declared.Place.the-variants as P
 use Rattle.reading.specs.Reading.{rows, tables}
 use Rattle.reading.specs.Told.{tables-told}
 

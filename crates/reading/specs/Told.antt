@@ -6,8 +6,8 @@ use Prim.Native.Nat.{ℕ, _*_, _≤_}
 use lib.ListN.{length, take, drop}
 use Rattle.reading.specs.Question.{Question}
 use Rattle.reading.specs.Reading.{Heading, read}
-use Rattle.lines.specs.declared.Place.{Place}
-use Rattle.lines.specs.declared.Place.the-variants as P
+use Rattle.tokens.specs.declared.Place.{Place}
+use Rattle.tokens.specs.declared.Place.the-variants as P
 use Rattle.reading.specs.declared.Start.{Start}
 use Rattle.reading.specs.declared.Start.the-variants as S
 use Rattle.reading.specs.declared.Reading.{Reading}

@@ -1,10 +1,10 @@
 // The text program's question, read from bytes. No entry: the program above calls it.
 use lines::Entries;
-use lines::Number;
-use lines::Place;
 use lines::read_line;
 use lines::read_row;
 use lines::read_value;
+use tokens::Number;
+use tokens::Place;
 ghost use mathlib.Core.Path.{_≡_};
 ghost use lib.ListN.{length, drop};
 ghost use Rattle.lines.specs.Told.{row-told};

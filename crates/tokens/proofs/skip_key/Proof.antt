@@ -1,13 +1,13 @@
--- `lines::skip_key` meets its contract: what is left of the key is skipped from the place reached. Assumes nothing.
+-- `tokens::skip_key` meets its contract: what is left of the key is skipped from the place reached. Assumes nothing.
 use Prim.Native.Nat.{_≤_, _-_}
 use mathlib.Core.Path.{_≡_, refl, _∙_}
 use lib.ListN.{length, drop}
-use Rattle.lines.specs.Reading.{after}
-use Rattle.lines.proofs.Places.{key-next, key-ends, key-differs, key-whole}
+use Rattle.tokens.specs.Tokens.{after}
+use Rattle.tokens.proofs.Places.{key-next, key-ends, key-differs, key-whole}
 use native.Mathlib.Omega.{arith}
 use borrow.Author.Needs.{needs}
-use Rattle.lines.proofs.skip_key.Statement.{statement}
-use Rattle.lines.proofs.skip_key.Tie as tie
+use Rattle.tokens.proofs.skip_key.Statement.{statement}
+use Rattle.tokens.proofs.skip_key.Tie as tie
 
 abbrev Inv-loop : tie.InvT-loop
 Inv-loop text at key at₀ i₀ at' i = (i ≤ length key) × (after key (drop at text) ≡ after (drop i key) (drop at' text))

@@ -1,10 +1,10 @@
--- `lines::byte_at` meets its contract. Assumes nothing.
+-- `tokens::byte_at` meets its contract. Assumes nothing.
 use mathlib.Core.Path.{sym, _∙_}
 use lib.ListN.{List·getD-eq-default}
-use Rattle.lines.proofs.Places.{front-place}
+use Rattle.tokens.proofs.Places.{front-place}
 use borrow.Author.Needs.{needs}
-use Rattle.lines.proofs.byte_at.Statement.{statement}
-use Rattle.lines.proofs.byte_at.Tie as tie
+use Rattle.tokens.proofs.byte_at.Statement.{statement}
+use Rattle.tokens.proofs.byte_at.Tie as tie
 
 shared-slice-read-result : tie.Need-shared-slice-read-result
 shared-slice-read-result c = search needs

@@ -1,12 +1,12 @@
--- `lines::digit_at` meets its contract. Assumes nothing.
+-- `tokens::digit_at` meets its contract. Assumes nothing.
 use mathlib.Core.Path.{sym, ap, _∙_}
 use lib.ListN.{drop}
 use Prim.Native.Nat.{ℕ, _-_}
-use Rattle.lines.proofs.Places.{digit-low, digit-high, digit-between}
+use Rattle.tokens.proofs.Places.{digit-low, digit-high, digit-between}
 use native.Mathlib.Omega.{arith}
 use borrow.Author.Needs.{needs}
-use Rattle.lines.proofs.digit_at.Statement.{statement}
-use Rattle.lines.proofs.digit_at.Tie as tie
+use Rattle.tokens.proofs.digit_at.Statement.{statement}
+use Rattle.tokens.proofs.digit_at.Tie as tie
 
 byte-at-requires : tie.Need-byte-at-requires
 byte-at-requires c κs = search needs

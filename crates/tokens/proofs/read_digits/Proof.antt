@@ -1,14 +1,14 @@
--- `lines::read_digits` meets its contract: what is left is read to the same number. Assumes nothing.
+-- `tokens::read_digits` meets its contract: what is left is read to the same number. Assumes nothing.
 use Prim.Native.Nat.{_≤_, _-_}
 use mathlib.Core.Path.{_≡_, refl, _∙_}
 use lib.ListN.{length, drop}
-use Rattle.lines.specs.Reading.{digit, digits-after}
-use Rattle.lines.proofs.Numbers.{after-none}
-use Rattle.lines.proofs.Places.{digit-within, after-longer, after-too-large}
+use Rattle.tokens.specs.Tokens.{digit, digits-after}
+use Rattle.tokens.proofs.Numbers.{after-none}
+use Rattle.tokens.proofs.Places.{digit-within, after-longer, after-too-large}
 use native.Mathlib.Omega.{arith}
 use borrow.Author.Needs.{needs}
-use Rattle.lines.proofs.read_digits.Statement.{statement}
-use Rattle.lines.proofs.read_digits.Tie as tie
+use Rattle.tokens.proofs.read_digits.Statement.{statement}
+use Rattle.tokens.proofs.read_digits.Tie as tie
 
 abbrev Inv-loop : tie.InvT-loop
 Inv-loop text at first value₀ at₀ digit₀ value at' d =

@@ -1,11 +1,11 @@
--- `lines::read_number` meets its contract. Assumes nothing.
+-- `tokens::read_number` meets its contract. Assumes nothing.
 use mathlib.Core.Path.{sym, _∙_}
 use lib.ListN.{drop}
-use Rattle.lines.proofs.Places.{digit-within, number-zero-at, number-longer, number-none}
+use Rattle.tokens.proofs.Places.{digit-within, number-zero-at, number-longer, number-none}
 use native.Mathlib.Omega.{arith}
 use borrow.Author.Needs.{needs}
-use Rattle.lines.proofs.read_number.Statement.{statement}
-use Rattle.lines.proofs.read_number.Tie as tie
+use Rattle.tokens.proofs.read_number.Statement.{statement}
+use Rattle.tokens.proofs.read_number.Tie as tie
 
 digit-at-requires : tie.Need-digit-at-requires
 digit-at-requires c κs = search needs

@@ -11,7 +11,7 @@ use borrow.Author.Tests.{ltb-true, ltb-false, leb-true, leb-false, eqb-true, eqb
 use lib.Seq.{append-snoc}
 use Rattle.decimal.specs.Decimal.{digits, leading-within}
 use Rattle.decimal.proofs.Digits.{leading-none, digits-one, digits-more, leading-digits}
-use Rattle.lines.specs.Reading.{front, digit, digits-after, number}
+use Rattle.tokens.specs.Tokens.{front, digit, digits-after, number}
 
 -- The byte in front is the digit's, where the digit is one.
 pub digit-front : (t : List ℕ) → digit t < 10 → front t ≡ 48 + digit t
