@@ -13,7 +13,8 @@ use Rattle.theory.specs.Tables.{problem, CutSet}
 use Rattle.costs.proofs.Segments.{cut-below, segment-is, segment-filled}
 use Rattle.joints.specs.States.{state-count, placed-in}
 use Rattle.joints.proofs.States.{part-at, halves}
-use Rattle.dues.specs.Due.{Due, SegmentDues, Spannable, DuesFillable, SegmentsDue, DuesOf}
+use Rattle.growth.specs.Due.{Due, SegmentDues, Spannable}
+use Rattle.dues.specs.Due.{DuesFillable, SegmentsDue, DuesOf}
 
 pub no-dues : (P : Problem) (cs r D : List ℕ) → length D ≡ 9 → SegmentsDue P cs r 0 D
 no-dues P cs r D h = record { places = h; each = λ i l m. absurd (omega arith) }

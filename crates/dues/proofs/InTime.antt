@@ -21,7 +21,8 @@ use Rattle.joints.specs.States.{state-count, state-of, placed-in, states, row}
 use Rattle.joints.specs.JointTable.{cell, JointRow, JointTable}
 use Rattle.joints.proofs.States.{state-below, placed-states}
 use Rattle.joints.proofs.Chain.{full-part}
-use Rattle.dues.specs.Due.{in-time, Due, DuesOf}
+use Rattle.growth.specs.Due.{Due}
+use Rattle.dues.specs.Due.{in-time, DuesOf}
 
 -- ---- along the row
 

@@ -17,7 +17,7 @@ use Rattle.theory.proofs.Clock.{on-time}
 use Rattle.theory.proofs.Costs.{path-append, backward-inner}
 use Rattle.costs.proofs.Segments.{last-placed}
 use Rattle.deadlines.proofs.Walking.{on-time-append}
-use Rattle.dues.specs.Due.{Due, SegmentDues, Spannable, Growable}
+use Rattle.growth.specs.Due.{Due, SegmentDues, Spannable, Growable}
 
 -- ---- numbers
 

@@ -1,13 +1,13 @@
--- `dues::grow_dues` meets its contract. The invariant: the dues are those of the segment up to here. Assumes nothing.
+-- `growth::grow_dues` meets its contract. The invariant: the dues are those of the segment up to here. Assumes nothing.
 use mathlib.Core.Path.{_≡_}
 use Prim.Native.Nat.{_-_, _≤_}
 use lib.Seq.{slice}
 use Rattle.theory.specs.Tables.{problem}
-use Rattle.dues.specs.Due.{SegmentDues}
+use Rattle.growth.specs.Due.{SegmentDues}
 use native.Mathlib.Omega.{arith}
 use borrow.Author.Needs.{needs}
-use Rattle.dues.proofs.grow_dues.Statement.{statement}
-use Rattle.dues.proofs.grow_dues.Tie as tie
+use Rattle.growth.proofs.grow_dues.Statement.{statement}
+use Rattle.growth.proofs.grow_dues.Tie as tie
 
 abbrev Inv-loop : tie.InvT-loop
 Inv-loop locations legs latest route backward start from to straight reversed dues₀ upto₀ dues upto =

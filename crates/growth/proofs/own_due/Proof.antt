@@ -1,9 +1,9 @@
--- `dues::own_due` meets its contract. Assumes nothing.
+-- `growth::own_due` meets its contract. Assumes nothing.
 use mathlib.Core.Path.{refl}
 use native.Mathlib.Omega.{arith}
 use borrow.Author.Needs.{needs}
-use Rattle.dues.proofs.own_due.Statement.{statement}
-use Rattle.dues.proofs.own_due.Tie as tie
+use Rattle.growth.proofs.own_due.Statement.{statement}
+use Rattle.growth.proofs.own_due.Tie as tie
 
 mul-result : tie.Need-mul-result
 mul-result c = search needs

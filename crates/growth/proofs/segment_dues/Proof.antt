@@ -1,9 +1,9 @@
--- `dues::segment_dues` meets its contract. Assumes nothing.
-use Rattle.dues.proofs.Growth.{alone}
+-- `growth::segment_dues` meets its contract. Assumes nothing.
+use Rattle.growth.proofs.Growth.{alone}
 use native.Mathlib.Omega.{arith}
 use borrow.Author.Needs.{needs}
-use Rattle.dues.proofs.segment_dues.Statement.{statement}
-use Rattle.dues.proofs.segment_dues.Tie as tie
+use Rattle.growth.proofs.segment_dues.Statement.{statement}
+use Rattle.growth.proofs.segment_dues.Tie as tie
 
 mul-own-due : tie.Need-mul-own-due
 mul-own-due c = search needs

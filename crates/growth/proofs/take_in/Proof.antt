@@ -1,10 +1,10 @@
--- `dues::take_in` meets its contract. Assumes nothing.
+-- `growth::take_in` meets its contract. Assumes nothing.
 use Prim.Native.Nat.{_-_}
-use Rattle.dues.proofs.Growth.{rises, grown}
+use Rattle.growth.proofs.Growth.{rises, grown}
 use native.Mathlib.Omega.{arith}
 use borrow.Author.Needs.{needs}
-use Rattle.dues.proofs.take_in.Statement.{statement}
-use Rattle.dues.proofs.take_in.Tie as tie
+use Rattle.growth.proofs.take_in.Statement.{statement}
+use Rattle.growth.proofs.take_in.Tie as tie
 
 sub-last : tie.Need-sub-last
 sub-last c = search needs
