@@ -1,14 +1,14 @@
--- `reading::read_rows` meets its contract: the rows that stand in legs come before those still to be read. Assumes nothing.
+-- `tables::read_rows` meets its contract: the rows that stand in legs come before those still to be read. Assumes nothing.
 use Prim.Native.Nat.{_≤_, _-_, _+_, _*_}
 use mathlib.Core.Path.{_≡_, refl, _∙_}
 use lib.ListN.{length, take, drop}
 use Rattle.lines.specs.Reading.{row}
-use Rattle.reading.specs.Reading.{rows}
-use Rattle.reading.proofs.Tables.{rows-to-come, row-within, rows-begin, rows-break, rows-more, rows-whole, part-length}
+use Rattle.tables.specs.Tables.{rows}
+use Rattle.tables.proofs.Rows.{rows-to-come, row-within, rows-begin, rows-break, rows-more, rows-whole, part-length}
 use native.Mathlib.Omega.{arith}
 use borrow.Author.Needs.{needs}
-use Rattle.reading.proofs.read_rows.Statement.{statement}
-use Rattle.reading.proofs.read_rows.Tie as tie
+use Rattle.tables.proofs.read_rows.Statement.{statement}
+use Rattle.tables.proofs.read_rows.Tie as tie
 
 abbrev Inv-loop : tie.InvT-loop
 Inv-loop text at locations legs₀ at₀ row₀ t10 legs at' i =

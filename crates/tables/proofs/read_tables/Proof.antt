@@ -1,9 +1,9 @@
--- `reading::read_tables` meets its contract. Assumes nothing.
+-- `tables::read_tables` meets its contract. Assumes nothing.
 use lib.ListN.{drop}
-use Rattle.reading.proofs.Tables.{legs-missing, latest-told}
+use Rattle.tables.proofs.Rows.{legs-missing, latest-told}
 use borrow.Author.Needs.{needs}
-use Rattle.reading.proofs.read_tables.Statement.{statement}
-use Rattle.reading.proofs.read_tables.Tie as tie
+use Rattle.tables.proofs.read_tables.Statement.{statement}
+use Rattle.tables.proofs.read_tables.Tie as tie
 
 read-rows-requires : tie.Need-read-rows-requires
 read-rows-requires c κs = search needs
