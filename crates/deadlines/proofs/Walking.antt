@@ -10,13 +10,20 @@ use lib.ListN.{length, getD, drop}
 use lib.Seq.{drop-cons}
 use borrow.Author.Tests.{le-leb, lt-leb}
 use Rattle.theory.specs.Route.{Problem, path, reverse-if}
-use Rattle.theory.specs.Costs.{last-of}
+use Rattle.theory.specs.Costs.{last-of, first-of, inner}
 use Rattle.theory.specs.Tables.{Stops, problem}
 use Rattle.theory.proofs.Clock.{on-time, clock-step}
 use Rattle.theory.proofs.Costs.{path-append}
 use Rattle.reconnection.proofs.Reversal.{getD-reverse}
 use Rattle.deadlines.specs.declared.Walked.{Walked}
 use Rattle.deadlines.specs.Walk.{Walks}
+
+-- ---- the way along a part: to its first stop, then inside it
+
+pub path-in : (d : ℕ → ℕ → ℕ) (a : ℕ) (xs : List ℕ) → 0 < length xs → path d a xs ≡ d a (first-of xs 0) + inner d xs
+unfolding path first-of inner
+path-in d a [] h = absurd (omega arith)
+path-in d a (x ∷ xs) h = refl
 
 -- ---- the stops of a part as it is placed
 

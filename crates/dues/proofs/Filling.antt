@@ -1,19 +1,19 @@
 -- The dues of the middle segments in their places, segment by segment, are those of the states. Assumes nothing.
-use mathlib.Core.Path.{_≡_, sym, ap, _∙_}
+use mathlib.Core.Path.{_≡_, _∙_}
 use mathlib.Core.Bool.{Bool, true, false, cond}
-use mathlib.Core.List.{List, []}
-use Prim.Native.Nat.{ℕ, suc, _+_, _-_, _*_, _/_, _%_, _≤_, _<_}
+use mathlib.Core.List.{List}
+use Prim.Native.Nat.{ℕ, _+_, _-_, _*_, _/_, _%_, _≤_, _<_}
 use native.Mathlib.Decide.{ℕ-discrete}
 use native.Mathlib.Omega.{arith}
 use lib.Dec.{eqb}
 use lib.ListN.{length, getD, set, length-set}
 use lib.Seq.{slice, getD-set-same, getD-set-other}
-use Rattle.theory.specs.Route.{Problem, segments, reverse-if}
-use Rattle.theory.specs.Tables.{problem, CutSet}
+use Rattle.theory.specs.Route.{Problem, reverse-if}
+use Rattle.theory.specs.Tables.{CutSet}
 use Rattle.costs.proofs.Segments.{cut-below, segment-is, segment-filled}
-use Rattle.joints.specs.States.{state-count, placed-in}
 use Rattle.joints.proofs.States.{part-at, halves}
-use Rattle.dues.specs.Due.{Due, SegmentDues, Spannable, DuesFillable, SegmentsDue, DuesOf}
+use Rattle.growth.specs.Due.{Due, SegmentDues, Spannable}
+use Rattle.dues.specs.Due.{DuesFillable, SegmentsDue, DuesOf}
 
 pub no-dues : (P : Problem) (cs r D : List ℕ) → length D ≡ 9 → SegmentsDue P cs r 0 D
 no-dues P cs r D h = record { places = h; each = λ i l m. absurd (omega arith) }

@@ -9,7 +9,8 @@ use lib.Seq.{slice, drop-cons, drop-length, length-take-le, getD-take, getD-appe
 use Rattle.theory.specs.Route.{Problem}
 use Rattle.theory.specs.Tables.{problem, CutSet}
 use Rattle.costs.proofs.Segments.{segment-filled, last-cut}
-use Rattle.dues.specs.Due.{SegmentDues, GrowableTo, DuesFillable, SegmentsDue, DuesOf, DuesReach, DuesHeld, DuesReachable, DuesReached}
+use Rattle.growth.specs.Due.{SegmentDues, GrowableTo}
+use Rattle.dues.specs.Due.{DuesFillable, SegmentsDue, DuesOf, DuesReach, DuesHeld, DuesReachable, DuesReached}
 use Rattle.dues.proofs.Filling.{more-dues, dues-of}
 
 -- ---- the first cuts and the last

@@ -16,12 +16,13 @@ use Rattle.theory.proofs.Clock.{on-time}
 use Rattle.theory.proofs.Index.{getD-map}
 use Rattle.theory.proofs.Orders.{in-range}
 use Rattle.costs.proofs.Orders.{middle-is, pattern-middle}
-use Rattle.deadlines.proofs.Walking.{on-time-append}
+use Rattle.deadlines.proofs.Walking.{path-in, on-time-append}
 use Rattle.joints.specs.States.{state-count, state-of, placed-in, states, row}
 use Rattle.joints.specs.JointTable.{cell, JointRow, JointTable}
 use Rattle.joints.proofs.States.{state-below, placed-states}
 use Rattle.joints.proofs.Chain.{full-part}
-use Rattle.dues.specs.Due.{in-time, Due, DuesOf}
+use Rattle.growth.specs.Due.{Due}
+use Rattle.dues.specs.Due.{in-time, DuesOf}
 
 -- ---- along the row
 
@@ -41,11 +42,6 @@ unfolding in-time
 no-states J D rows a t at end whole e so-far = so-far ∙ rw (e, slice-empty end rows)
 
 -- ---- as a middle
-
-pub path-in : (d : ℕ → ℕ → ℕ) (a : ℕ) (xs : List ℕ) → 0 < length xs → path d a xs ≡ d a (first-of xs 0) + inner d xs
-unfolding path first-of inner
-path-in d a [] h = absurd (omega arith)
-path-in d a (x ∷ xs) h = refl
 
 last-any : (a b : ℕ) (xs : List ℕ) → 0 < length xs → last-of a xs ≡ last-of b xs
 unfolding last-of

@@ -1,4 +1,3 @@
-pub mod Growth
 pub mod InTime
 pub mod Filling
 pub mod Held

@@ -10,8 +10,9 @@ use lib.ListN.{length, getD, drop}
 use borrow.Author.Tests.{eqb-true, eq-eqb, ne-eqb}
 use Rattle.decimal.specs.Decimal.{digits}
 use Rattle.decimal.specs.Text.{further, listed, line, Small}
-use Rattle.lines.specs.Reading.{choose, front, digit, number, before, entries, entries-or-none, after, line-of, row, value}
-use Rattle.lines.proofs.Numbers.{same-read, number-sound, number-complete, number-front}
+use Rattle.tokens.specs.Tokens.{choose, front, digit, number, after}
+use Rattle.tokens.proofs.Numbers.{same-read, number-sound, number-complete, number-front}
+use Rattle.lines.specs.Reading.{before, entries, entries-or-none, line-of, row, value}
 
 front-cons : (b : ℕ) (t : List ℕ) → 0 < b → front t ≡ b → t ≡ b ∷ drop 1 t
 front-cons b [] p e = absurd (omega arith)

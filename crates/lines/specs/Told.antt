@@ -4,20 +4,10 @@ use mathlib.Core.List.{List}
 use mathlib.Core.Option.{Option, none, some}
 use Prim.Native.Nat.{ℕ, _≤_}
 use lib.ListN.{length, take, drop}
-use Rattle.lines.specs.declared.Number.{Number}
-use Rattle.lines.specs.declared.Number.the-variants as N
-use Rattle.lines.specs.declared.Place.{Place}
-use Rattle.lines.specs.declared.Place.the-variants as P
+use Rattle.tokens.specs.declared.Place.{Place}
+use Rattle.tokens.specs.declared.Place.the-variants as P
 use Rattle.lines.specs.declared.Entries.{Entries}
 use Rattle.lines.specs.declared.Entries.the-variants as E
-
-abbrev pub number-told : List ℕ → Number → Option (ℕ × List ℕ)
-number-told t N.Missing = none
-number-told t (N.Read v next) = some (v, drop next t)
-
-abbrev pub place-told : List ℕ → Place → Option (List ℕ)
-place-told t P.Nowhere = none
-place-told t (P.At next) = some (drop next t)
 
 -- The entries stand at the start of `out`.
 abbrev pub entries-told : List ℕ → List ℕ → Entries → Option (List ℕ × List ℕ)

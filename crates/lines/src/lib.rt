@@ -1,83 +1,19 @@
 // Lines of numbers, read from bytes. No entry: the crates above call it.
+use tokens::Number;
+use tokens::Place;
+use tokens::byte_at;
+use tokens::read_number;
+use tokens::skip_key;
 ghost use mathlib.Core.Path.{_≡_};
-ghost use Prim.Native.Nat.{_≤_};
 ghost use lib.ListN.{length, drop};
-ghost use Rattle.lines.specs.Reading.{front, digit, digits-after, number, entries, entries-or-none, after, line-of, row, value};
-ghost use Rattle.lines.specs.Told.{number-told, place-told, row-told, Listed};
-
-// A number and the place after it.
-pub enum Number {
-    Read(u32, usize),
-    Missing,
-}
-
-// A place of the text.
-pub enum Place {
-    At(usize),
-    Nowhere,
-}
+ghost use Rattle.tokens.specs.Told.{number-told};
+ghost use Rattle.lines.specs.Reading.{entries, entries-or-none, line-of, row, value};
+ghost use Rattle.lines.specs.Told.{row-told, Listed};
 
 // How many entries a line has, and the place after it.
 pub enum Entries {
     Read(usize, usize),
     Malformed,
-}
-
-// The byte at a place; 0 past the end.
-fn byte_at(text: &[u8], at: usize) -> u8
-    ensures { λ r. ⌜ r ≡ front (drop at (now (text .entry))) ⌝ }
-{
-    if at < text.len() {
-        return text[at];
-    }
-    0
-}
-
-// The digit at a place; 10 where none stands.
-fn digit_at(text: &[u8], at: usize) -> u64
-    ensures { λ r. ⌜ r ≡ digit (drop at (now (text .entry))) ⌝ }
-{
-    let byte = byte_at(text, at);
-    if byte < b'0' {
-        return 10;
-    }
-    if byte > b'9' {
-        return 10;
-    }
-    (byte - b'0') as u64
-}
-
-// The number that begins with `first`, whose further digits stand at `at`.
-fn read_digits(text: &[u8], at: usize, first: u64) -> Number
-    requires { ⌜ first ≤ 9 ⌝ }
-    ensures { λ r. ⌜ digits-after first (drop at (now (text .entry))) ≡ number-told (now (text .entry)) r ⌝ }
-{
-    let mut value = first;
-    let mut at = at;
-    let mut digit = digit_at(text, at);
-    while digit < 10 {
-        value = value * 10 + digit;
-        if value > 4294967295 {
-            return Number::Missing;
-        }
-        at += 1;
-        digit = digit_at(text, at);
-    }
-    Number::Read(value as u32, at)
-}
-
-// The number at a place.
-fn read_number(text: &[u8], at: usize) -> Number
-    ensures { λ r. ⌜ number (drop at (now (text .entry))) ≡ number-told (now (text .entry)) r ⌝ }
-{
-    let first = digit_at(text, at);
-    if first == 0 {
-        return Number::Read(0, at + 1);
-    }
-    if first < 10 {
-        return read_digits(text, at + 1, first);
-    }
-    Number::Missing
 }
 
 // Numbers with commas between, up to the line's end, into out.
@@ -112,25 +48,6 @@ fn read_list(text: &[u8], at: usize, out: &mut [u32]) -> Entries
         return Entries::Read(0, at + 1);
     }
     read_entries(text, at, out)
-}
-
-// The place after a key.
-fn skip_key(text: &[u8], at: usize, key: &[u8]) -> Place
-    ensures { λ r. ⌜ after (now (key .entry)) (drop at (now (text .entry))) ≡ place-told (now (text .entry)) r ⌝ }
-{
-    let mut at = at;
-    let mut i = 0;
-    while i < key.len() {
-        if at >= text.len() {
-            return Place::Nowhere;
-        }
-        if text[at] != key[i] {
-            return Place::Nowhere;
-        }
-        at += 1;
-        i += 1;
-    }
-    Place::At(at)
 }
 
 // A line of numbers into out.

@@ -9,7 +9,8 @@ use lib.Seq.{drop-cons, take-at, length-take-le}
 use borrow.Author.Tests.{le-leb, lt-leb}
 use Rattle.decimal.specs.Text.{ascii}
 use Rattle.lines.specs.Reading.{line-of}
-use Rattle.reading.specs.Reading.{Heading, header, tables, question, read}
+use Rattle.tables.specs.Tables.{tables}
+use Rattle.reading.specs.Reading.{Heading, header, question, read}
 
 pub too-long : (t : List ℕ) → 60000 < length t → read t ≡ none
 unfolding read

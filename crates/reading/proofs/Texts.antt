@@ -13,7 +13,8 @@ use Rattle.decimal.specs.Decimal.{digits}
 use Rattle.decimal.specs.Text.{ascii, further, listed, line, Small}
 use Rattle.decimal.proofs.Digits.{digits-some}
 use Rattle.reading.specs.Question.{Question, legs-lines, written, Held}
-use Rattle.reading.specs.Reading.{Heading, header, tables, ended, question, read}
+use Rattle.tables.specs.Tables.{tables}
+use Rattle.reading.specs.Reading.{Heading, header, ended, question, read}
 use Rattle.lines.specs.Reading.{line-of}
 use Rattle.lines.proofs.Lines.{first-read, line-sound, line-complete}
 use Rattle.reading.proofs.Heading.{headed, header-sound, header-complete}

@@ -2,18 +2,13 @@
 use mathlib.Core.Bool.{_&&_, cond}
 use mathlib.Core.List.{List, [], _∷_}
 use mathlib.Core.Option.{Option, none, some, bind}
-use Prim.Native.Nat.{ℕ, zero, suc}
+use Prim.Native.Nat.{ℕ}
 use lib.Dec.{leb}
 use lib.ListN.{length}
 use Rattle.decimal.specs.Text.{ascii}
-use Rattle.lines.specs.Reading.{before, line-of, row, value}
+use Rattle.lines.specs.Reading.{line-of, value}
+use Rattle.tables.specs.Tables.{tables}
 use Rattle.reading.specs.Question.{Question}
-
--- The lines of the legs.
-unfoldable pub rows : ℕ → ℕ → List ℕ → Option (List ℕ × List ℕ)
-unfolding row bind before
-rows zero width t = some ([], t)
-rows (suc m) width t = bind (row (ascii "legs=") width t) (λ r. before (r .0) (rows m width (r .1)))
 
 pub record Heading : Type 0 where
   pub k : ℕ
@@ -33,12 +28,6 @@ header t =
     (leb 1 (locations .0) && leb (locations .0) 96)
     (some (record { k = k .0; allowance = allowance .0; locations = locations .0; depot = depot .0 }, depot .1))
     none))))
-
--- The legs and the deadlines.
-unfoldable pub tables : ℕ → List ℕ → Option ((List ℕ × List ℕ) × List ℕ)
-unfolding rows row bind
-tables locations t =
-    bind (rows locations locations t) (λ legs. bind (row (ascii "latest=") locations (legs .1)) (λ latest. some ((legs .0, latest .0), latest .1)))
 
 -- The rest must be nothing.
 abbrev pub ended : {A : Type 0} → A → List ℕ → Option A

@@ -6,8 +6,6 @@ use Prim.Native.Nat.{ℕ, _*_, _≤_}
 use lib.ListN.{length, take, drop}
 use Rattle.reading.specs.Question.{Question}
 use Rattle.reading.specs.Reading.{Heading, read}
-use Rattle.lines.specs.declared.Place.{Place}
-use Rattle.lines.specs.declared.Place.the-variants as P
 use Rattle.reading.specs.declared.Start.{Start}
 use Rattle.reading.specs.declared.Start.the-variants as S
 use Rattle.reading.specs.declared.Reading.{Reading}
@@ -16,10 +14,6 @@ use Rattle.reading.specs.declared.Reading.the-variants as R
 abbrev pub start-told : List ℕ → Start → Option (Heading × List ℕ)
 start-told t S.Malformed = none
 start-told t (S.Read h next) = some (record { k = h .k; allowance = h .allowance; locations = h .locations; depot = h .depot }, drop next t)
-
-abbrev pub tables-told : List ℕ → (legs latest : List ℕ) → Place → Option ((List ℕ × List ℕ) × List ℕ)
-tables-told t legs latest P.Nowhere = none
-tables-told t legs latest (P.At next) = some ((legs, latest), drop next t)
 
 -- The question that an answer and the lent places tell: the first locations * locations, locations and stops of them.
 abbrev pub question-told : Reading → (legs latest stops : List ℕ) → Option Question
@@ -39,14 +33,6 @@ question-told (R.Question h count) legs latest stops =
 abbrev pub stop-count : Reading → ℕ
 stop-count R.Malformed = 0
 stop-count (R.Question h count) = count
-
--- Lent places for the legs, and for both tables, of a question.
-pub record Square (locations : ℕ) (legs : List ℕ) : Type 0 where
-  pub square : length legs ≡ locations * locations
-
-pub record Tables (locations : ℕ) (legs latest : List ℕ) : Type 0 where
-  pub square : Square locations legs
-  pub deadlines : length latest ≡ locations
 
 -- Lent places for the largest question: 96 rows of 96 legs, and as many stops as 60,000 bytes can hold.
 pub record Lent (legs latest stops : List ℕ) : Type 0 where

@@ -1,15 +1,13 @@
 // The text program's question, read from bytes. No entry: the program above calls it.
 use lines::Entries;
-use lines::Number;
-use lines::Place;
 use lines::read_line;
-use lines::read_row;
 use lines::read_value;
+use tables::read_tables;
+use tokens::Number;
+use tokens::Place;
 ghost use mathlib.Core.Path.{_≡_};
-ghost use lib.ListN.{length, drop};
-ghost use Rattle.lines.specs.Told.{row-told};
-ghost use Rattle.reading.specs.Reading.{rows, header, tables};
-ghost use Rattle.reading.specs.Told.{start-told, tables-told, Square, Tables, Lent, Answered};
+ghost use Rattle.reading.specs.Reading.{header};
+ghost use Rattle.reading.specs.Told.{start-told, Lent, Answered};
 
 // The numbers of a question: the values of its first four lines.
 pub struct Header {
@@ -64,42 +62,6 @@ fn read_header(text: &[u8]) -> Start
         },
         rest,
     )
-}
-
-// The lines of the legs, row after row.
-fn read_rows(text: &[u8], at: usize, locations: usize, legs: &mut [u32]) -> Place
-    requires { ⌜ Square locations (now legs) ⌝ }
-    ensures { λ r. ⌜ rows locations locations (drop at (now (text .entry))) ≡ row-told (now (text .entry)) (now (legs .exit)) r ⌝ }
-{
-    let mut at = at;
-    let mut row = 0;
-    while row < locations {
-        let start = row * locations;
-        let end = start + locations;
-        let Place::At(next) = read_row(text, at, b"legs=", &mut legs[start..end]) else {
-            return Place::Nowhere;
-        };
-        at = next;
-        row += 1;
-    }
-    Place::At(at)
-}
-
-// The legs and the deadlines.
-fn read_tables(
-    text: &[u8],
-    at: usize,
-    locations: usize,
-    legs: &mut [u32],
-    latest: &mut [u32],
-) -> Place
-    requires { ⌜ Tables locations (now legs) (now latest) ⌝ }
-    ensures { λ r. ⌜ tables locations (drop at (now (text .entry))) ≡ tables-told (now (text .entry)) (now (legs .exit)) (now (latest .exit)) r ⌝ }
-{
-    let Place::At(next) = read_rows(text, at, locations, legs) else {
-        return Place::Nowhere;
-    };
-    read_row(text, next, b"latest=", latest)
 }
 
 // The whole text: its tables and stops into the lent places, its numbers as the answer.

@@ -48,7 +48,7 @@ more-filled {locations} {legs} {from} {entries} {inside} {a} {b} {before} {table
 
 -- ---- row by row
 
-module _ {locations : ℕ} {legs : List ℕ} {head p : ℕ} {entries exits inside table₀ : List ℕ} (given : Fixable locations legs head p entries exits inside table₀) where
+module _ {locations : ℕ} {legs : List ℕ} {p : ℕ} {entries exits inside table₀ : List ℕ} (given : Fixable locations legs p entries exits inside table₀) where
   pub row-fits : (from a : ℕ) {table : List ℕ} → from < locations → a < 10 → a ≢ 8 → Padded table → FixedRowFits locations legs from (p + 1) entries inside a table
   row-fits from a f l n t =
       record {
@@ -67,35 +67,35 @@ module _ {locations : ℕ} {legs : List ℕ} {head p : ℕ} {entries exits insid
       }
 
   -- A filled row, cell by cell.
-  row-is : {before after : List ℕ} (from a b : ℕ) → FixedRow locations legs from (p + 1) entries inside a before after → ((c : ℕ) → 16 * a + (p + 1) ≤ c → c < 16 * a + 16 → getD before c 0 ≡ 0) → a ≢ p →
+  row-is : {before after : List ℕ} (head from a b : ℕ) → FixedRow locations legs from (p + 1) entries inside a before after → ((c : ℕ) → 16 * a + (p + 1) ≤ c → c < 16 * a + 16 → getD before c 0 ≡ 0) → a ≢ p →
       from ≡ cond (eqb a 9) head (getD exits a 0) → b < 16 → cell after a b ≡ fixed-cell locations legs p head entries exits inside a b
-  row-is {before} {after} from a b w blank n e h = by (decLt p b)
+  row-is {before} {after} head from a b w blank n e h = by (decLt p b)
     where
       by : Dec (p < b) → cell after a b ≡ fixed-cell locations legs p head entries exits inside a b
       by (yes l) = rw (lt-ltb p b l) (w .others (16 * a + b) (inr (omega arith)) ∙ blank (16 * a + b) (omega arith) (omega arith))
       by (no l) = rw (le-ltb p b (omega arith), ne-eqb a p n, ← e) (w .next b (omega arith))
 
-  pub no-rows : FixedRows locations legs head p entries exits inside 0 table₀
-  no-rows = record { padded = given .padded; filled = λ x b h. absurd (omega arith); blank = λ c h. given .blank c }
+  pub no-rows : FixedRows locations legs p entries exits inside 0 table₀
+  no-rows = record { padded = given .padded; filled = λ head x b h. absurd (omega arith); blank = λ c h. given .blank c }
 
-  pub more-rows : {before after : List ℕ} (a from : ℕ) → a < p → from ≡ getD exits a 0 → FixedRows locations legs head p entries exits inside a before →
-      FixedRow locations legs from (p + 1) entries inside a before after → FixedRows locations legs head p entries exits inside (a + 1) after
+  pub more-rows : {before after : List ℕ} (a from : ℕ) → a < p → from ≡ getD exits a 0 → FixedRows locations legs p entries exits inside a before →
+      FixedRow locations legs from (p + 1) entries inside a before after → FixedRows locations legs p entries exits inside (a + 1) after
   more-rows {before} {after} a from l e w f =
       let n : a ≢ 9 = λ (q : a ≡ 9). omega (arith, given .last) in
       record {
         padded = f .padded;
-        filled = λ x b h k. by x b k (ℕ-discrete x a) h;
+        filled = λ head x b h k. by head x b k (ℕ-discrete x a) h;
         blank = λ c h. f .others c (inr (omega (arith, given .last))) ∙ w .blank c (omega arith);
       }
     where
-      by : (x b : ℕ) → b < 16 → Dec (x ≡ a) → x < a + 1 → cell after x b ≡ fixed-cell locations legs p head entries exits inside x b
-      by x b k (yes q) h =
-          rw q (row-is from a b f (λ c m o. w .blank c (omega arith)) (λ z. omega arith) (e ∙ rw (ne-eqb a 9 (λ (z : a ≡ 9). omega (arith, given .last)))) k)
-      by x b k (no q) h = f .others (16 * x + b) (inl (omega arith)) ∙ w .filled x b (omega arith) k
+      by : (head x b : ℕ) → b < 16 → Dec (x ≡ a) → x < a + 1 → cell after x b ≡ fixed-cell locations legs p head entries exits inside x b
+      by head x b k (yes q) h =
+          rw q (row-is head from a b f (λ c m o. w .blank c (omega arith)) (λ z. omega arith) (e ∙ rw (ne-eqb a 9 (λ (z : a ≡ 9). omega (arith, given .last)))) k)
+      by head x b k (no q) h = f .others (16 * x + b) (inl (omega arith)) ∙ w .filled head x b (omega arith) k
 
-  pub whole : {t₁ t₂ t₃ : List ℕ} (from : ℕ) → from ≡ getD exits (p + 1) 0 → FixedRows locations legs head p entries exits inside p t₁ → FixedRow locations legs from (p + 1) entries inside (p + 1) t₁ t₂ →
+  pub whole : {head : ℕ} {t₁ t₂ t₃ : List ℕ} (from : ℕ) → from ≡ getD exits (p + 1) 0 → FixedRows locations legs p entries exits inside p t₁ → FixedRow locations legs from (p + 1) entries inside (p + 1) t₁ t₂ →
       FixedRow locations legs head (p + 1) entries inside 9 t₂ t₃ → FixedTable locations legs head p entries exits inside t₃
-  whole {t₁} {t₂} {t₃} from e w f g =
+  whole {head} {t₁} {t₂} {t₃} from e w f g =
       record {
         padded = g .padded;
         filled = λ a b k h. by a b h k;
@@ -107,7 +107,7 @@ module _ {locations : ℕ} {legs : List ℕ} {head p : ℕ} {entries exits insid
 
       by : (a b : ℕ) → b < 16 → (a < suc (suc p)) ⊎ (a ≡ 9) → cell t₃ a b ≡ fixed-cell locations legs p head entries exits inside a b
       by a b h (inr q) =
-          rw q (row-is head 9 b g (λ c m o. f .others c (inr (omega (arith, given .last))) ∙ w .blank c (omega (arith, given .last))) (λ (z : 9 ≡ p). omega (arith, given .last)) refl h)
+          rw q (row-is head head 9 b g (λ c m o. f .others c (inr (omega (arith, given .last))) ∙ w .blank c (omega (arith, given .last))) (λ (z : 9 ≡ p). omega (arith, given .last)) refl h)
       by a b h (inl l) = early a b (omega arith) h ∙ low (ℕ-discrete a p) (ℕ-discrete a (p + 1))
         where
           low : Dec (a ≡ p) → Dec (a ≡ p + 1) → cell t₂ a b ≡ fixed-cell locations legs p head entries exits inside a b
@@ -117,5 +117,5 @@ module _ {locations : ℕ} {legs : List ℕ} {head p : ℕ} {entries exits insid
               nothing (yes m) = rw (lt-ltb p b m)
               nothing (no m) = rw (le-ltb p b (omega arith), eq-eqb a p q)
           low (no q) (yes y) =
-              rw y (row-is from (p + 1) b f (λ c m o. w .blank c (omega arith)) (λ (z : p + 1 ≡ p). omega arith) (e ∙ rw (ne-eqb (p + 1) 9 (λ (z : p + 1 ≡ 9). omega (arith, given .last)))) h)
-          low (no q) (no y) = f .others (16 * a + b) (inl (omega arith)) ∙ w .filled a b (omega arith) h
+              rw y (row-is head from (p + 1) b f (λ c m o. w .blank c (omega arith)) (λ (z : p + 1 ≡ p). omega arith) (e ∙ rw (ne-eqb (p + 1) 9 (λ (z : p + 1 ≡ 9). omega (arith, given .last)))) h)
+          low (no q) (no y) = f .others (16 * a + b) (inl (omega arith)) ∙ w .filled head a b (omega arith) h

@@ -101,19 +101,20 @@ module _ {locations : ℕ} {legs : List ℕ} {depot : ℕ} {r forwards backwards
 
   module _ {entries exits inside : List ℕ} (e : StateEnds r forwards backwards cuts (state-count (length cuts)) entries exits inside) (head : ℕ)
       (head-is : head ≡ last-of depot (getD (segments 0 cuts r) 0 [])) where
-    pub fixable : Fixable locations legs head (2 * (length cuts - 2)) entries exits inside (replicate 160 0)
-    fixable =
-        record {
-          last = omega (arith, few .1);
-          leg-table = given .cut .measurable .table;
-          head-known = rw head-is (head-below joinable);
-          places = e .places;
-          entries-known = λ s h. let l : s < state-count (length cuts) = omega (arith, few .0) in rw (e .entry s l) (entry-known joinable s l);
-          exits-known = λ s h. let l : s < state-count (length cuts) = omega (arith, few .0) in rw (e .exit s l) (exit-known joinable s l);
-          inside-small = λ s h. let l : s < state-count (length cuts) = omega (arith, few .0) in rw (e .legs s l) (inside-small joinable s l);
-          padded = no-cells;
-          blank = zero-at 160;
-        }
+    pub fixable : Fixable locations legs (2 * (length cuts - 2)) entries exits inside (replicate 160 0) × (head < locations)
+    fixable = (
+      record {
+        last = omega (arith, few .1);
+        leg-table = given .cut .measurable .table;
+        places = e .places;
+        entries-known = λ s h. let l : s < state-count (length cuts) = omega (arith, few .0) in rw (e .entry s l) (entry-known joinable s l);
+        exits-known = λ s h. let l : s < state-count (length cuts) = omega (arith, few .0) in rw (e .exit s l) (exit-known joinable s l);
+        inside-small = λ s h. let l : s < state-count (length cuts) = omega (arith, few .0) in rw (e .legs s l) (inside-small joinable s l);
+        padded = no-cells;
+        blank = zero-at 160;
+      },
+      rw head-is (head-below joinable),
+    )
 
     abbrev T : ℕ → ℕ → ℕ
     T = fixed-by (leg locations legs) (placed-in cuts r) (2 * (length cuts - 2)) (head-end (legs-only locations legs depot) r cuts)

@@ -76,10 +76,9 @@ pub record FixedRow (locations : ℕ) (legs : List ℕ) (from count : ℕ) (entr
   pub others : (c : ℕ) → (c < 16 * a) ⊎ (16 * a + count ≤ c) → getD after c 0 ≡ getD before c 0
 
 -- What the table is filled from, and an empty table.
-pub record Fixable (locations : ℕ) (legs : List ℕ) (head p : ℕ) (entries exits inside table : List ℕ) : Type 0 where
+pub record Fixable (locations : ℕ) (legs : List ℕ) (p : ℕ) (entries exits inside table : List ℕ) : Type 0 where
   pub last : p ≤ 6
   pub leg-table : LegTable locations legs
-  pub head-known : head < locations
   pub places : EndPlaces entries exits inside
   pub entries-known : (s : ℕ) → s < suc p → getD entries s 0 < locations
   pub exits-known : (s : ℕ) → s < suc (suc p) → getD exits s 0 < locations
@@ -87,10 +86,10 @@ pub record Fixable (locations : ℕ) (legs : List ℕ) (head p : ℕ) (entries e
   pub padded : Padded table
   pub blank : (c : ℕ) → getD table c 0 ≡ 0
 
--- The rows below a are filled, and the others are empty.
-pub record FixedRows (locations : ℕ) (legs : List ℕ) (head p : ℕ) (entries exits inside : List ℕ) (a : ℕ) (table : List ℕ) : Type 0 where
+-- The rows below a are filled, whatever the head, and the others are empty.
+pub record FixedRows (locations : ℕ) (legs : List ℕ) (p : ℕ) (entries exits inside : List ℕ) (a : ℕ) (table : List ℕ) : Type 0 where
   pub padded : Padded table
-  pub filled : (x b : ℕ) → x < a → b < 16 → cell table x b ≡ fixed-cell locations legs p head entries exits inside x b
+  pub filled : (head x b : ℕ) → x < a → b < 16 → cell table x b ≡ fixed-cell locations legs p head entries exits inside x b
   pub blank : (c : ℕ) → 16 * a ≤ c → getD table c 0 ≡ 0
 
 -- The shared table: the rows of the states and of the head.

@@ -117,15 +117,14 @@ fn fill_fixed_row(
 fn fill_fixed_rows(
     locations: usize,
     legs: &[u32],
-    head: u32,
     p: usize,
     entries: &[u32; 8],
     exits: &[u32; 8],
     inside: &[u64; 8],
     table: &mut [u64; 160],
 )
-    requires { ⌜ Fixable locations (now legs) head p (now entries) (now exits) (now inside) (now table) ⌝ }
-    ensures { λ _. ⌜ FixedRows locations (now (legs .entry)) head p (now (entries .entry)) (now (exits .entry)) (now (inside .entry)) p (now (table .exit)) ⌝ }
+    requires { ⌜ Fixable locations (now legs) p (now entries) (now exits) (now inside) (now table) ⌝ }
+    ensures { λ _. ⌜ FixedRows locations (now (legs .entry)) p (now (entries .entry)) (now (exits .entry)) (now (inside .entry)) p (now (table .exit)) ⌝ }
 {
     let mut a = 0;
     while a < p {
@@ -145,10 +144,10 @@ fn fill_fixed(
     inside: &[u64; 8],
     table: &mut [u64; 160],
 )
-    requires { ⌜ Fixable locations (now legs) head p (now entries) (now exits) (now inside) (now table) ⌝ }
+    requires { ⌜ Fixable locations (now legs) p (now entries) (now exits) (now inside) (now table) × (head < locations) ⌝ }
     ensures { λ _. ⌜ FixedTable locations (now (legs .entry)) head p (now (entries .entry)) (now (exits .entry)) (now (inside .entry)) (now (table .exit)) ⌝ }
 {
-    fill_fixed_rows(locations, legs, head, p, entries, exits, inside, table);
+    fill_fixed_rows(locations, legs, p, entries, exits, inside, table);
     let back = p + 1;
     fill_fixed_row(
         locations,

@@ -1,7 +1,7 @@
 -- When the head is left, from the leg to its first stop and the running sum at its last. Assumes nothing.
-use mathlib.Core.Path.{_≡_, refl, sym, ap, _∙_}
+use mathlib.Core.Path.{_≡_, sym, ap, _∙_}
 use mathlib.Core.Bool.{false}
-use mathlib.Core.List.{List, [], _∷_}
+use mathlib.Core.List.{List}
 use Prim.Native.Nat.{ℕ, suc, _+_, _-_, _≤_, _<_}
 use native.Mathlib.Omega.{arith}
 use lib.ListN.{length, getD, take}
@@ -10,13 +10,9 @@ use Rattle.theory.specs.Route.{path, reverse-if}
 use Rattle.theory.specs.Costs.{first-of, inner, forward}
 use Rattle.costs.specs.RouteCosts.{leg, Leg}
 use Rattle.costs.proofs.Segments.{cut-below, first-placed}
+use Rattle.deadlines.proofs.Walking.{path-in}
 use Rattle.walking.specs.Parts.{head, HeadTimed, HeadClock}
 use Rattle.walking.proofs.Parts.{head-lent}
-
-path-in : (d : ℕ → ℕ → ℕ) (a : ℕ) (xs : List ℕ) → 0 < length xs → path d a xs ≡ d a (first-of xs 0) + inner d xs
-unfolding path first-of inner
-path-in d a [] h = absurd (omega arith)
-path-in d a (x ∷ xs) h = refl
 
 module _ {locations : ℕ} {legs : List ℕ} {depot : ℕ} {r sums cs : List ℕ} (given : HeadTimed locations legs depot r sums cs) where
   pub first-within : getD cs 0 0 ≤ length r

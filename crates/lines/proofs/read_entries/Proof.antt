@@ -3,8 +3,10 @@ use Prim.Native.Nat.{_≤_, _-_}
 use mathlib.Core.Path.{_≡_, refl, sym, _∙_}
 use mathlib.Core.Option.{some}
 use lib.ListN.{length, drop, length-set}
-use Rattle.lines.specs.Reading.{number, entries}
-use Rattle.lines.proofs.Places.{front-within, to-come, entries-begin, entries-full, entries-break, entry-last, entry-more, entry-breaks}
+use Rattle.tokens.specs.Tokens.{number}
+use Rattle.tokens.proofs.Places.{front-within}
+use Rattle.lines.specs.Reading.{entries}
+use Rattle.lines.proofs.Places.{to-come, entries-begin, entries-full, entries-break, entry-last, entry-more, entry-breaks}
 use native.Mathlib.Omega.{arith}
 use borrow.Author.Needs.{needs}
 use Rattle.lines.proofs.read_entries.Statement.{statement}

@@ -1,7 +1,8 @@
 -- `lines::read_list` meets its contract. Assumes nothing.
 use mathlib.Core.Path.{sym, _∙_}
 use lib.ListN.{length, drop}
-use Rattle.lines.proofs.Places.{front-within, list-empty, list-entries}
+use Rattle.tokens.proofs.Places.{front-within}
+use Rattle.lines.proofs.Places.{list-empty, list-entries}
 use native.Mathlib.Omega.{arith}
 use borrow.Author.Needs.{needs}
 use Rattle.lines.proofs.read_list.Statement.{statement}

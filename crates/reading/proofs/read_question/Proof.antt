@@ -6,7 +6,8 @@ use lib.ListN.{length, take, drop}
 use lib.Seq.{length-take-le}
 use Rattle.decimal.specs.Text.{ascii}
 use Rattle.lines.specs.Reading.{line-of}
-use Rattle.reading.specs.Reading.{header, tables}
+use Rattle.tables.specs.Tables.{tables}
+use Rattle.reading.specs.Reading.{header}
 use Rattle.reading.proofs.Heading.{header-sound}
 use Rattle.reading.proofs.Answers.{too-long, header-missing, tables-missing, round-missing, more-left, question-read, front-part, cells-few}
 use native.Mathlib.Omega.{arith}

@@ -21,17 +21,17 @@ element-copy-out-fill-fixed-row c = search needs
 fill-fixed-row-requires : tie.Need-fill-fixed-row-requires
 fill-fixed-row-requires c κs =
     let s = c .before .before .before .before .before in
-    row-fits (s .pre) _ _ (s .pre .exits-known _ (omega arith)) (omega (arith, s .pre .last)) (λ q. omega (arith, s .pre .last)) (c .before .before .fill-fixed-rows .ensures .padded)
+    row-fits (s .pre .0) _ _ (s .pre .0 .exits-known _ (omega arith)) (omega (arith, s .pre .0 .last)) (λ q. omega (arith, s .pre .0 .last)) (c .before .before .fill-fixed-rows .ensures .padded)
 
 fill-fixed-row-requires-2 : tie.Need-fill-fixed-row-requires-2
 fill-fixed-row-requires-2 c κs =
     let s = c .before .before .before .before .before .before .before in
-    row-fits (s .pre) _ 9 (s .pre .head-known) (omega arith) (λ q. omega arith) (c .before .fill-fixed-row .ensures .padded)
+    row-fits (s .pre .0) _ 9 (s .pre .1) (omega arith) (λ q. omega arith) (c .before .fill-fixed-row .ensures .padded)
 
 returns : tie.Need-returns
 returns c =
     let s = c .before .before .before .before .before .before .before .before in
-    whole (s .pre) _ refl (c .before .before .before .before .before .fill-fixed-rows .ensures) (c .before .before .fill-fixed-row .ensures) (c .fill-fixed-row2 .ensures)
+    whole (s .pre .0) _ refl (c .before .before .before .before .before .fill-fixed-rows .ensures) (c .before .before .fill-fixed-row .ensures) (c .fill-fixed-row2 .ensures)
 
 pub fill-fixed-spec : {M : Type 1} → statement M
 fill-fixed-spec =

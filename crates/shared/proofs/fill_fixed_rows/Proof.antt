@@ -9,10 +9,10 @@ use Rattle.shared.proofs.fill_fixed_rows.Statement.{statement}
 use Rattle.shared.proofs.fill_fixed_rows.Tie as tie
 
 abbrev Inv-loop : tie.InvT-loop
-Inv-loop locations legs head p entries exits inside table₀ a₀ table a = (a ≤ p) × FixedRows locations legs head p entries exits inside a table
+Inv-loop locations legs p entries exits inside table₀ a₀ table a = (a ≤ p) × FixedRows locations legs p entries exits inside a table
 
 abbrev μ-loop : tie.MeasureT-loop
-μ-loop locations legs head p entries exits inside table₀ a₀ table a = p - a
+μ-loop locations legs p entries exits inside table₀ a₀ table a = p - a
 
 loop-holds : tie.Need-loop-holds Inv-loop μ-loop
 loop-holds c = (omega arith, no-rows (c .before .pre))

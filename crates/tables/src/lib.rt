@@ -1,0 +1,43 @@
+// The legs and the deadlines of a question, read from bytes into lent places. No entry: crate reading calls it.
+use lines::read_row;
+use tokens::Place;
+ghost use mathlib.Core.Path.{_≡_};
+ghost use lib.ListN.{drop};
+ghost use Rattle.lines.specs.Told.{row-told};
+ghost use Rattle.tables.specs.Tables.{rows, tables, tables-told, Square, Tables};
+
+// The lines of the legs, row after row.
+fn read_rows(text: &[u8], at: usize, locations: usize, legs: &mut [u32]) -> Place
+    requires { ⌜ Square locations (now legs) ⌝ }
+    ensures { λ r. ⌜ rows locations locations (drop at (now (text .entry))) ≡ row-told (now (text .entry)) (now (legs .exit)) r ⌝ }
+{
+    let mut at = at;
+    let mut row = 0;
+    while row < locations {
+        let start = row * locations;
+        let end = start + locations;
+        let Place::At(next) = read_row(text, at, b"legs=", &mut legs[start..end]) else {
+            return Place::Nowhere;
+        };
+        at = next;
+        row += 1;
+    }
+    Place::At(at)
+}
+
+// The legs and the deadlines.
+pub fn read_tables(
+    text: &[u8],
+    at: usize,
+    locations: usize,
+    legs: &mut [u32],
+    latest: &mut [u32],
+) -> Place
+    requires { ⌜ Tables locations (now legs) (now latest) ⌝ }
+    ensures { λ r. ⌜ tables locations (drop at (now (text .entry))) ≡ tables-told (now (text .entry)) (now (legs .exit)) (now (latest .exit)) r ⌝ }
+{
+    let Place::At(next) = read_rows(text, at, locations, legs) else {
+        return Place::Nowhere;
+    };
+    read_row(text, next, b"latest=", latest)
+}
