@@ -9,8 +9,9 @@ use lib.Seq.{slice, slice-cons, slice-empty}
 use Rattle.theory.specs.Route.{Problem, segments, reverses, reverse-if, placed}
 use Rattle.theory.specs.Costs.{last-of, first-of, inner, through}
 use Rattle.theory.specs.Tables.{legs-only}
-use Rattle.costs.specs.declared.Placed.{Placed}
-use Rattle.costs.specs.RouteCosts.{tail-start, PlacedAfter}
+use Rattle.deltas.specs.declared.Placed.{Placed}
+use Rattle.costs.specs.RouteCosts.{tail-start}
+use Rattle.deltas.specs.Deltas.{PlacedAfter}
 
 -- From a stop through the segments that an order still has at the place p.
 abbrev pub rest-of : Problem → List ℕ → List ℕ → List ℕ → ℕ → ℕ → ℕ → ℕ

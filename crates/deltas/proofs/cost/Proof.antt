@@ -1,15 +1,16 @@
--- `costs::cost` meets its contract. The invariant: what is added up so far, with the way through the segments still to place, is the whole way.
+-- `deltas::cost` meets its contract. The invariant: what is added up so far, with the way through the segments still to place, is the whole way.
 use mathlib.Core.Path.{_≡_, ap}
 use Prim.Native.Nat.{_+_, _-_, _*_, _≤_, _<_}
 use native.Mathlib.Omega.{arith}
 use lib.ListN.{length}
 use borrow.Author.Needs.{needs}
 use Rattle.theory.specs.Tables.{legs-only}
-use Rattle.costs.specs.RouteCosts.{leg, cost-of}
+use Rattle.costs.specs.RouteCosts.{leg}
+use Rattle.deltas.specs.Deltas.{cost-of}
 use Rattle.costs.proofs.Segments.{head-known, tail-known}
-use Rattle.costs.proofs.Through.{rest-of, last-rest, place-next}
-use Rattle.costs.proofs.cost.Statement.{statement}
-use Rattle.costs.proofs.cost.Tie as tie
+use Rattle.deltas.proofs.Through.{rest-of, last-rest, place-next}
+use Rattle.deltas.proofs.cost.Statement.{statement}
+use Rattle.deltas.proofs.cost.Tie as tie
 
 abbrev Inv-loop : tie.InvT-loop
 Inv-loop locations legs depot route forward backward cuts order mask total₀ previous₀ position₀ total previous position =

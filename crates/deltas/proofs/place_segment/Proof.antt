@@ -1,8 +1,8 @@
--- `costs::place_segment` meets its contract: a middle segment lies between two cuts.
+-- `deltas::place_segment` meets its contract: a middle segment lies between two cuts.
 use borrow.Author.Needs.{needs}
 use Rattle.costs.proofs.Segments.{cut-below, segment-is, segment-filled}
-use Rattle.costs.proofs.place_segment.Statement.{statement}
-use Rattle.costs.proofs.place_segment.Tie as tie
+use Rattle.deltas.proofs.place_segment.Statement.{statement}
+use Rattle.deltas.proofs.place_segment.Tie as tie
 
 sub-start : tie.Need-sub-start
 sub-start c = search needs

@@ -1,10 +1,11 @@
--- `costs::place` meets its contract, reversed and not.
+-- `deltas::place` meets its contract, reversed and not.
 use mathlib.Core.Bool.{true, false}
 use native.Mathlib.Omega.{arith}
 use borrow.Author.Needs.{needs}
-use Rattle.costs.proofs.Placing.{inner-asked, inner-small, placed-after}
-use Rattle.costs.proofs.place.Statement.{statement}
-use Rattle.costs.proofs.place.Tie as tie
+use Rattle.costs.proofs.Placing.{inner-asked, inner-small}
+use Rattle.deltas.proofs.PlacedSegment.{placed-after}
+use Rattle.deltas.proofs.place.Statement.{statement}
+use Rattle.deltas.proofs.place.Tie as tie
 
 mul-front : tie.Need-mul-front
 mul-front c = search needs

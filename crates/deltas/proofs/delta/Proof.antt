@@ -1,11 +1,11 @@
--- `costs::delta` meets its contract: the costs of the pattern's order and of the standing one differ as the lengths do.
+-- `deltas::delta` meets its contract: the costs of the pattern's order and of the standing one differ as the lengths do.
 use mathlib.Core.Path.{_∙_}
 use native.Mathlib.Omega.{arith}
 use borrow.Author.Needs.{needs}
-use Rattle.costs.proofs.Signed.{difference-fits, difference-is}
-use Rattle.costs.proofs.LengthDelta.{standing-costable, pattern-costable, delta-is}
-use Rattle.costs.proofs.delta.Statement.{statement}
-use Rattle.costs.proofs.delta.Tie as tie
+use Rattle.deltas.proofs.Signed.{difference-fits, difference-is}
+use Rattle.deltas.proofs.LengthDelta.{standing-costable, pattern-costable, delta-is}
+use Rattle.deltas.proofs.delta.Statement.{statement}
+use Rattle.deltas.proofs.delta.Tie as tie
 
 slice-aggregate-cost : tie.Need-slice-aggregate-cost
 slice-aggregate-cost c = search needs

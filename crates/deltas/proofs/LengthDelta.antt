@@ -15,9 +15,10 @@ use borrow.Author.Needs.{sfits-of}
 use Rattle.theory.specs.Route.{Problem, tour-length}
 use Rattle.theory.specs.Tables.{legs-only}
 use Rattle.theory.proofs.Delta.{even-head, small-tail, delta-through}
-use Rattle.costs.specs.RouteCosts.{Middle, Costable, cost-of, Cost, Deltable, reconnected-at, delta-of}
+use Rattle.costs.specs.RouteCosts.{Middle}
+use Rattle.deltas.specs.Deltas.{Costable, cost-of, Cost, Deltable, reconnected-at, delta-of}
 use Rattle.costs.proofs.Orders.{middle-is, pattern-middle, standing, standing-middle, standing-order}
-use Rattle.costs.proofs.Signed.{same-difference, negative}
+use Rattle.deltas.proofs.Signed.{same-difference, negative}
 
 module _ {locations : ℕ} {legs : List ℕ} {depot : ℕ} {route forward-sums backward-sums cuts order : List ℕ} {mask : ℕ}
     (d : Deltable locations legs depot route forward-sums backward-sums cuts order mask) where
