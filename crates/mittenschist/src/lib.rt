@@ -434,8 +434,8 @@ fn run_refusal(
     let bad_table = refusals::check_leg_table(locations, legs);
     let bad_latest = refusals::check_deadline_list(locations, latest);
     let bad_legs = refusals::check_leg_sizes(legs);
-    let bad_stops = refusals::check_known_rounds(locations, depots, stops);
-    let bad_rounds = refusals::check_round_lists(lengths, depots, pins, stops.len());
+    let bad_stops = round_refusals::check_known_rounds(locations, depots, stops);
+    let bad_rounds = round_refusals::check_round_lists(lengths, depots, pins, stops.len());
     let bad_room = refusals::check_room(4 * lengths.len(), lent);
     let bad_lists = refusals::first(bad_stops, refusals::first(bad_rounds, bad_room));
     let bad_tables = refusals::first(bad_table, refusals::first(bad_latest, bad_legs));
@@ -504,7 +504,7 @@ fn nearby_refusal(
     if bad_size != 0 {
         return bad_size;
     }
-    let bad_input = refusals::check_nearby_input(n, distances, m, neighbours);
+    let bad_input = round_refusals::check_nearby_input(n, distances, m, neighbours);
     let bad_room = refusals::check_room(k, lent);
     refusals::first(bad_input, bad_room)
 }

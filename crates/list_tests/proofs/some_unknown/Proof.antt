@@ -1,15 +1,15 @@
--- `refusals::some_unknown` meets its contract. The invariant: the test of the whole is that of the rest. Assumes nothing.
+-- `list_tests::some_unknown` meets its contract. The invariant: the test of the whole is that of the rest. Assumes nothing.
 use Prim.Native.Nat.{_≤_, _-_}
 use mathlib.Core.Path.{_≡_, refl}
 use lib.Dec.{leb}
 use lib.ListN.{length, drop}
 use borrow.Author.Tests.{le-leb, lt-leb}
 use Rattle.theory.specs.Refusals.{some}
-use Rattle.refusals.proofs.Tests.{some-more, some-here, some-none}
+use Rattle.list_tests.proofs.Tests.{some-more, some-here, some-none}
 use native.Mathlib.Omega.{arith}
 use borrow.Author.Needs.{needs}
-use Rattle.refusals.proofs.some_unknown.Statement.{statement}
-use Rattle.refusals.proofs.some_unknown.Tie as tie
+use Rattle.list_tests.proofs.some_unknown.Statement.{statement}
+use Rattle.list_tests.proofs.some_unknown.Tie as tie
 
 abbrev Inv-loop : tie.InvT-loop
 Inv-loop stops locations i₀ i = (i ≤ length stops) × (some (λ x. leb locations x) stops ≡ some (λ x. leb locations x) (drop i stops))

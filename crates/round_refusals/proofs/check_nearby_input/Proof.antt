@@ -1,11 +1,11 @@
--- `refusals::check_nearby_input` meets its contract. Assumes nothing.
+-- `round_refusals::check_nearby_input` meets its contract. Assumes nothing.
 use mathlib.Core.Path.{sym, _∙_}
 use borrow.Author.Tests.{lt-ltb, le-ltb, ne-eqb, eq-eqb}
 use native.Mathlib.Nat.{mul-le-mul}
 use native.Mathlib.Omega.{arith}
 use borrow.Author.Needs.{needs}
-use Rattle.refusals.proofs.check_nearby_input.Statement.{statement}
-use Rattle.refusals.proofs.check_nearby_input.Tie as tie
+use Rattle.round_refusals.proofs.check_nearby_input.Statement.{statement}
+use Rattle.round_refusals.proofs.check_nearby_input.Tie as tie
 
 returns : tie.Need-returns
 returns c = simp (lt-ltb _ _ (c .if1 .taken))

@@ -13,8 +13,8 @@ use lib.ListN.{length, getD, drop, drop-of-length-le}
 use lib.Seq.{drop-cons}
 use Rattle.theory.specs.Moves.{total}
 use Rattle.theory.proofs.Judged.{none-at}
-use Rattle.theory.specs.Refusals.{some, rises, either, no-number}
-use Rattle.refusals.specs.Rounds.{ShortRounds}
+use Rattle.theory.specs.Refusals.{some, rises, no-number}
+use Rattle.list_tests.specs.Rounds.{ShortRounds}
 
 some-drop : {A : Type 0} (z : A) (t : A → Bool) (l : List A) (i : ℕ) → i < length l → some t (drop i l) ≡ (t (getD l i z) || some t (drop (i + 1) l))
 unfolding some
@@ -84,13 +84,3 @@ rises-end l i h pos e = sym (e ∙ short (drop (i - 1) l) (few l (i - 1) (omega 
     short [] h = unfold rises in refl
     short (x ∷ []) h = unfold rises in refl
     short (x ∷ y ∷ l) h = absurd (omega arith)
-
-pub either-none : (a b : ℕ) → a ≡ 0 → b ≡ either a b
-unfolding either
-either-none zero b h = refl
-either-none (suc a) b h = absurd (omega arith)
-
-pub either-some : (a b : ℕ) → (a ≡ 0 → ⊥) → a ≡ either a b
-unfolding either
-either-some zero b h = absurd (h refl)
-either-some (suc a) b h = refl

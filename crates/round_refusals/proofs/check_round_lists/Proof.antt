@@ -1,10 +1,10 @@
--- `refusals::check_round_lists` meets its contract. Assumes nothing.
+-- `round_refusals::check_round_lists` meets its contract. Assumes nothing.
 use mathlib.Core.Path.{sym, ap, _∙_}
 use borrow.Author.Tests.{lt-ltb, le-ltb, ne-eqb, eq-eqb}
-use Rattle.refusals.proofs.Tests.{rounds-short}
+use Rattle.list_tests.proofs.Tests.{rounds-short}
 use borrow.Author.Needs.{needs}
-use Rattle.refusals.proofs.check_round_lists.Statement.{statement}
-use Rattle.refusals.proofs.check_round_lists.Tie as tie
+use Rattle.round_refusals.proofs.check_round_lists.Statement.{statement}
+use Rattle.round_refusals.proofs.check_round_lists.Tie as tie
 
 returns : tie.Need-returns
 returns c = simp (lt-ltb _ _ (c .if1 .taken))

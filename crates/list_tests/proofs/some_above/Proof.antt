@@ -1,15 +1,15 @@
--- `refusals::some_above` meets its contract. The invariant: the test of the whole is that of the rest. Assumes nothing.
+-- `list_tests::some_above` meets its contract. The invariant: the test of the whole is that of the rest. Assumes nothing.
 use Prim.Native.Nat.{_≤_, _-_}
 use mathlib.Core.Path.{_≡_, refl}
 use lib.Dec.{ltb}
 use lib.ListN.{length, drop}
 use borrow.Author.Tests.{lt-ltb, le-ltb}
 use Rattle.theory.specs.Refusals.{some}
-use Rattle.refusals.proofs.Tests.{some-more, some-here, some-none}
+use Rattle.list_tests.proofs.Tests.{some-more, some-here, some-none}
 use native.Mathlib.Omega.{arith}
 use borrow.Author.Needs.{needs}
-use Rattle.refusals.proofs.some_above.Statement.{statement}
-use Rattle.refusals.proofs.some_above.Tie as tie
+use Rattle.list_tests.proofs.some_above.Statement.{statement}
+use Rattle.list_tests.proofs.some_above.Tie as tie
 
 abbrev Inv-loop : tie.InvT-loop
 Inv-loop entries limit i₀ i = (i ≤ length entries) × (some (λ x. ltb limit x) entries ≡ some (λ x. ltb limit x) (drop i entries))

@@ -1,8 +1,8 @@
--- `refusals::check_known_rounds` meets its contract. Assumes nothing.
+-- `round_refusals::check_known_rounds` meets its contract. Assumes nothing.
 use mathlib.Core.Path.{sym, _∙_}
 use borrow.Author.Needs.{needs}
-use Rattle.refusals.proofs.check_known_rounds.Statement.{statement}
-use Rattle.refusals.proofs.check_known_rounds.Tie as tie
+use Rattle.round_refusals.proofs.check_known_rounds.Statement.{statement}
+use Rattle.round_refusals.proofs.check_known_rounds.Tie as tie
 
 some-unknown-requires : tie.Need-some-unknown-requires
 some-unknown-requires c κs = search needs

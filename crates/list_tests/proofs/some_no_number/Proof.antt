@@ -1,14 +1,14 @@
--- `refusals::some_no_number` meets its contract. The invariant: the test of the whole is that of the rest. Assumes nothing.
+-- `list_tests::some_no_number` meets its contract. The invariant: the test of the whole is that of the rest. Assumes nothing.
 use Prim.Native.Nat.{_≤_, _-_}
 use mathlib.Core.Path.{_≡_, refl}
 use lib.Ieee.{nan}
 use lib.ListN.{length, drop}
 use Rattle.theory.specs.Refusals.{some, no-number}
-use Rattle.refusals.proofs.Tests.{some-more, some-here, some-none, differs, equals}
+use Rattle.list_tests.proofs.Tests.{some-more, some-here, some-none, differs, equals}
 use native.Mathlib.Omega.{arith}
 use borrow.Author.Needs.{needs}
-use Rattle.refusals.proofs.some_no_number.Statement.{statement}
-use Rattle.refusals.proofs.some_no_number.Tie as tie
+use Rattle.list_tests.proofs.some_no_number.Statement.{statement}
+use Rattle.list_tests.proofs.some_no_number.Tie as tie
 
 abbrev Inv-loop : tie.InvT-loop
 Inv-loop distances i₀ i = (i ≤ length distances) × (some no-number distances ≡ some no-number (drop i distances))
