@@ -1,6 +1,5 @@
 // One small check for each refusal number: the number where its rule applies to the raw input, else 0. No entry: the crates above call them.
 ghost use mathlib.Core.Path.{_≡_};
-ghost use lib.ListN.{length};
 ghost use Rattle.theory.specs.Refusals.{either, number, cut-count, leg-table, deadline-list, leg-sizes, known-stops, stop-count, pattern-index, cut-positions, room, refusal, problem-rules, cut-lists, own-round, journal-length};
 ghost use Rattle.patterns.specs.Enumeration.{CutCount};
 

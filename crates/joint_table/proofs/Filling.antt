@@ -9,10 +9,11 @@ use lib.ListN.{length, getD, set, length-set}
 use lib.Seq.{getD-set-same, getD-set-other}
 use Rattle.theory.specs.Costs.{first-of, inner}
 use Rattle.costs.specs.RouteCosts.{leg}
 use Rattle.joints.specs.States.{state-count, placed-in}
-use Rattle.joints.specs.JointTable.{cell, Padded, JointRow, JointTable, Joinable, StateEnds, Fillable, FilledRow, FilledStates}
+use Rattle.joints.specs.JointTable.{cell, Padded, JointRow, JointTable, Joinable, StateEnds, Fillable}
+use Rattle.joint_table.specs.Filling.{FilledRow, FilledStates}
 use Rattle.joints.proofs.Rows.{set-small}
 use Rattle.joints.proofs.Ends.{inside-is, inside-small, entry-known, exit-known}
 
 padded-set : (table : List ℕ) (a b v : ℕ) → Padded table → a ≢ 8 → b < 16 → v ≤ 2 ^ 40 → Padded (set table (16 * a + b) v)
 padded-set table a b v p n h s =

@@ -1,14 +1,14 @@
--- `joints::fill_states` meets its contract. The invariant: the rows below a are filled. Assumes nothing.
+-- `joint_table::fill_states` meets its contract. The invariant: the rows below a are filled. Assumes nothing.
 use mathlib.Core.Path.{_≡_, refl}
 use Prim.Native.Nat.{ℕ, _-_, _≤_, _<_}
 use native.Mathlib.Omega.{arith}
 use borrow.Author.Needs.{needs}
 use lib.ListN.{getD}
 use Rattle.costs.specs.RouteCosts.{leg}
 use Rattle.joints.specs.JointTable.{Padded, JointRow}
-use Rattle.joints.proofs.Filling.{rows-more}
-use Rattle.joints.proofs.fill_states.Statement.{statement}
-use Rattle.joints.proofs.fill_states.Tie as tie
+use Rattle.joint_table.proofs.Filling.{rows-more}
+use Rattle.joint_table.proofs.fill_states.Statement.{statement}
+use Rattle.joint_table.proofs.fill_states.Tie as tie
 
 abbrev Inv-loop : tie.InvT-loop
 Inv-loop locations legs tail count entries exits inside joint₀ a₀ joint a =

@@ -1,10 +1,10 @@
--- `joints::state` meets its contract: one case for each direction. Assumes nothing.
+-- `pattern_rows::state` meets its contract: one case for each direction. Assumes nothing.
 use mathlib.Core.Path.{sym, _∙_}
 use native.Mathlib.Omega.{arith}
 use borrow.Author.Needs.{needs}
-use Rattle.joints.proofs.States.{reversed-state, straight-state}
-use Rattle.joints.proofs.state.Statement.{statement}
-use Rattle.joints.proofs.state.Tie as tie
+use Rattle.pattern_rows.proofs.Rows.{reversed-state, straight-state}
+use Rattle.pattern_rows.proofs.state.Statement.{statement}
+use Rattle.pattern_rows.proofs.state.Tie as tie
 
 should-reverse-requires : tie.Need-should-reverse-requires
 should-reverse-requires c κs = search needs

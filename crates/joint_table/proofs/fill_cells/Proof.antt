@@ -1,12 +1,12 @@
--- `joints::fill_cells` meets its contract. The invariant: the row's cells below b are filled, and the other rows are as they were. Assumes nothing.
+-- `joint_table::fill_cells` meets its contract. The invariant: the row's cells below b are filled, and the other rows are as they were. Assumes nothing.
 use Prim.Native.Nat.{_+_, _-_, _^_, _≤_}
 use native.Mathlib.Omega.{arith}
 use borrow.Author.Needs.{needs}
 use lib.ListN.{getD}
 use Rattle.costs.specs.RouteCosts.{leg}
-use Rattle.joints.proofs.Filling.{Cells, cells-none, cells-more, cells-all, tail-padded, tail-others}
-use Rattle.joints.proofs.fill_cells.Statement.{statement}
-use Rattle.joints.proofs.fill_cells.Tie as tie
+use Rattle.joint_table.proofs.Filling.{Cells, cells-none, cells-more, cells-all, tail-padded, tail-others}
+use Rattle.joint_table.proofs.fill_cells.Statement.{statement}
+use Rattle.joint_table.proofs.fill_cells.Tie as tie
 
 abbrev Inv-loop : tie.InvT-loop
 Inv-loop locations legs from tail count entries inside a joint₀ row b₀ joint b = (b ≤ count) × Cells (leg locations legs) (λ s. getD entries s 0) (λ s. getD inside s 0) from a joint₀ joint b

@@ -1,8 +1,8 @@
--- `joints::put_row` meets its contract: four stores are one row. Assumes nothing.
+-- `pattern_rows::put_row` meets its contract: four stores are one row. Assumes nothing.
 use native.Mathlib.Omega.{arith}
-use Rattle.joints.proofs.Rows.{row-put}
-use Rattle.joints.proofs.put_row.Statement.{statement}
-use Rattle.joints.proofs.put_row.Tie as tie
+use Rattle.pattern_rows.proofs.Rows.{row-put}
+use Rattle.pattern_rows.proofs.put_row.Statement.{statement}
+use Rattle.pattern_rows.proofs.put_row.Tie as tie
 
 mul-at : tie.Need-mul-at
 mul-at c = omega arith

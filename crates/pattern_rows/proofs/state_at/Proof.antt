@@ -1,10 +1,10 @@
--- `joints::state_at` meets its contract: a middle segment's state, or the tail. Assumes nothing.
+-- `pattern_rows::state_at` meets its contract: a middle segment's state, or the tail. Assumes nothing.
 use Prim.Native.Nat.{_+_}
 use native.Mathlib.Omega.{arith}
 use borrow.Author.Tests.{lt-ltb, le-ltb}
 use borrow.Author.Needs.{needs}
-use Rattle.joints.proofs.state_at.Statement.{statement}
-use Rattle.joints.proofs.state_at.Tie as tie
+use Rattle.pattern_rows.proofs.state_at.Statement.{statement}
+use Rattle.pattern_rows.proofs.state_at.Tie as tie
 
 add-if1 : tie.Need-add-if1
 add-if1 c = search needs

@@ -1,11 +1,11 @@
--- `joints::fill_joint` meets its contract: the states' rows and the head's row are the table. Assumes nothing.
+-- `joint_table::fill_joint` meets its contract: the states' rows and the head's row are the table. Assumes nothing.
 use mathlib.Core.Path.{refl}
 use native.Mathlib.Omega.{arith}
 use borrow.Author.Needs.{needs}
 use Rattle.joints.proofs.Ends.{ends-fillable, head-below, tail-below}
-use Rattle.joints.proofs.Filling.{fillable, exits-known, whole-table}
-use Rattle.joints.proofs.fill_joint.Statement.{statement}
-use Rattle.joints.proofs.fill_joint.Tie as tie
+use Rattle.joint_table.proofs.Filling.{fillable, exits-known, whole-table}
+use Rattle.joint_table.proofs.fill_joint.Statement.{statement}
+use Rattle.joint_table.proofs.fill_joint.Tie as tie
 
 fill-ends-requires : tie.Need-fill-ends-requires
 fill-ends-requires c κs =

@@ -1,14 +1,14 @@
--- `joints::fill_rows` meets its contract. The invariant: the first i rows are those of the first i patterns. Assumes nothing.
+-- `pattern_rows::fill_rows` meets its contract. The invariant: the first i rows are those of the first i patterns. Assumes nothing.
 use mathlib.Core.Path.{_≡_}
 use Prim.Native.Nat.{_+_, _-_, _*_, _≤_}
 use native.Mathlib.Omega.{arith}
 use borrow.Author.Needs.{needs}
 use lib.ListN.{length}
 use Rattle.theory.proofs.Rows.{lent-within}
 use Rattle.joints.specs.States.{StateRows}
-use Rattle.joints.proofs.Rows.{no-rows, row-segments, more-rows}
-use Rattle.joints.proofs.fill_rows.Statement.{statement}
-use Rattle.joints.proofs.fill_rows.Tie as tie
+use Rattle.pattern_rows.proofs.Rows.{no-rows, row-segments, more-rows}
+use Rattle.pattern_rows.proofs.fill_rows.Statement.{statement}
+use Rattle.pattern_rows.proofs.fill_rows.Tie as tie
 
 abbrev Inv-loop : tie.InvT-loop
 Inv-loop k orders masks rows₀ width i₀ rows i = (i ≤ length masks) × StateRows k orders masks i rows
