@@ -9,8 +9,8 @@ use lib.Seq.{sets, sets-eq, drop-cons, take-suc-set, getD-take, take-append-le, 
 use Rattle.theory.specs.Moves.{picks, orders}
 use Rattle.theory.proofs.Moves.{length-picks}
 use Rattle.theory.proofs.Index.{picks-at}
-use Rattle.patterns.specs.Rows.{rows, permutations}
-use Rattle.patterns.proofs.Stores.{sets-append, sets-cons}
+use Rattle.permutations.specs.Rows.{rows, permutations}
+use Rattle.permutations.proofs.Stores.{sets-append, sets-cons}
 
 rows-append : (front : List ℕ) (xs ys : List (List ℕ)) → rows front (xs ++ ys) ≡ rows front xs ++ rows front ys
 unfolding rows flatten

@@ -25,10 +25,3 @@ sets-first l xs n e h = sets-eq xs l 0 (omega arith) ∙ ap (λ (i : ℕ). xs ++
 pub store-next : (l part : List ℕ) (at j : ℕ) → j < length part →
     sets (set l (at + j) (getD part j 0)) (at + (j + 1)) (drop (j + 1) part) ≡ sets l (at + j) (drop j part)
 store-next l part at j h = rw (add-one j, add-suc at j, drop-cons part j 0 h)
-
--- An order: segment 0, the middle ones, segment k.
-pub stored-order : (out middle : List ℕ) (at k : ℕ) → length middle + 1 ≡ k →
-    set (sets (set out at 0) (at + 1) middle) (at + k) k ≡ sets out at (0 ∷ (middle ++ (k ∷ [])))
-stored-order out middle at k h =
-    let e : at + k ≡ suc at + length middle = omega arith in
-    rw (add-one at) (ap (λ (i : ℕ). set (sets (set out at 0) (suc at) middle) i k) e ∙ sym (sets-append (set out at 0) (suc at) middle (k ∷ [])))

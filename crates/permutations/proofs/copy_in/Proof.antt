@@ -6,9 +6,9 @@ use native.Mathlib.Omega.{arith}
 use lib.ListN.{length, drop, length-set}
 use lib.Seq.{sets, drop-length}
 use borrow.Author.Needs.{needs}
-use Rattle.patterns.proofs.Stores.{store-next}
-use Rattle.patterns.proofs.copy_in.Statement.{statement}
-use Rattle.patterns.proofs.copy_in.Tie as tie
+use Rattle.permutations.proofs.Stores.{store-next}
+use Rattle.permutations.proofs.copy_in.Statement.{statement}
+use Rattle.permutations.proofs.copy_in.Tie as tie
 
 abbrev Inv-loop : tie.InvT-loop
 Inv-loop part out₀ at j₀ j-end out j = (j ≤ length part) × (j-end ≡ length part) × (length out ≡ length out₀) × (sets out (at + j) (drop j part) ≡ sets out₀ at part)

@@ -5,8 +5,8 @@ use native.Mathlib.Omega.{arith}
 use lib.ListN.{length, drop, length-drop}
 use lib.Seq.{sets, take-all}
 use borrow.Author.Needs.{needs}
-use Rattle.patterns.proofs.remove.Statement.{statement}
-use Rattle.patterns.proofs.remove.Tie as tie
+use Rattle.permutations.proofs.remove.Statement.{statement}
+use Rattle.permutations.proofs.remove.Tie as tie
 
 add-next : tie.Need-add-next
 add-next c = search needs

@@ -8,15 +8,15 @@ use lib.Seq.{sets}
 use borrow.Author.Needs.{needs}
 use borrow.Fn.Kinds.{In}
 use borrow.Fn.PlainCycle.{Measures, is, falls, and}
-use Rattle.patterns.specs.Rows.{permutations}
-use Rattle.patterns.proofs.Permutations.{rows-from, none-left, rows-first, rows-last, turn-room, turn-after, turn-written}
-use Rattle.patterns.proofs.+generate_permutations.{statement}
-use Rattle.patterns.proofs.+generate_permutations.Tie.{close}
-use Rattle.patterns.proofs.generate_permutations.Reads as generate-permutations
-use Rattle.patterns.proofs.generate_permutations.Kinds as generate-permutations-kinds
-use Rattle.patterns.proofs.+generate_permutations.Lts-generate_permutations as generate-permutations-lts
-use Rattle.patterns.proofs.copy_in.Reads as copy-in-reads
-use Rattle.patterns.proofs.remove.Reads as remove-reads
+use Rattle.permutations.specs.Rows.{permutations}
+use Rattle.permutations.proofs.Permutations.{rows-from, none-left, rows-first, rows-last, turn-room, turn-after, turn-written}
+use Rattle.permutations.proofs.+generate_permutations.{statement}
+use Rattle.permutations.proofs.+generate_permutations.Tie.{close}
+use Rattle.permutations.proofs.generate_permutations.Reads as generate-permutations
+use Rattle.permutations.proofs.generate_permutations.Kinds as generate-permutations-kinds
+use Rattle.permutations.proofs.+generate_permutations.Lts-generate_permutations as generate-permutations-lts
+use Rattle.permutations.proofs.copy_in.Reads as copy-in-reads
+use Rattle.permutations.proofs.remove.Reads as remove-reads
 
 abbrev μ-generate-permutations : Measures 1 generate-permutations-kinds.ps ℕ
 μ-generate-permutations κs a = a .1 .0
