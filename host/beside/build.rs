@@ -23,14 +23,17 @@ const RUST_FILES: [(&str, &str); 7] = [
 const INCLUDED: (&str, &str) = ("iter", "heuristic/selector/move_selector/iter.rs");
 
 /// The crates of the scan, low to high.
-const SCAN_CRATES: [&str; 15] = [
+const SCAN_CRATES: [&str; 18] = [
     "theory",
+    "permutations",
     "patterns",
     "cuts",
     "reconnection",
     "costs",
     "deadlines",
     "joints",
+    "joint_table",
+    "pattern_rows",
     "shared",
     "room",
     "walking",
