@@ -43,11 +43,11 @@ pub fn k_opt_is_doable(
     if positions.len() != k {
         return false;
     }
-    if refusals::some_beyond(positions, n) {
+    if list_tests::some_beyond(positions, n) {
         return false;
     }
-    if refusals::some_other(rounds, round) {
+    if list_tests::some_other(rounds, round) {
         return true;
     }
-    refusals::strictly_rising(positions)
+    list_tests::strictly_rising(positions)
 }

@@ -3,7 +3,4 @@ pub mod Length
 pub mod Sums
 pub mod Segments
 pub mod Placing
-pub mod Through
 pub mod Orders
-pub mod Signed
-pub mod LengthDelta

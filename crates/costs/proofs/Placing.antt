@@ -1,5 +1,5 @@
--- A segment placed after a stop: its seconds from the leg to it and the running sums of its direction.
-use mathlib.Core.Path.{_≡_, sym}
+-- A segment read off the running sums of its direction.
+use mathlib.Core.Path.{_≡_}
 use mathlib.Core.Bool.{Bool, true, false, cond}
 use mathlib.Core.List.{List}
 use Prim.Native.Nat.{ℕ, suc, _+_, _-_, _*_, _≤_, _<_}
@@ -9,13 +9,12 @@ use lib.Seq.{slice}
 use Rattle.theory.specs.Route.{reverse-if}
 use Rattle.theory.specs.Costs.{inner}
 use Rattle.theory.proofs.Delta.{placed-inner}
-use Rattle.costs.specs.RouteCosts.{leg, running, Leg, Sums, Spanned, RouteCosts, PlacedAfter}
-use Rattle.costs.proofs.Segments.{first-placed, last-placed}
+use Rattle.costs.specs.RouteCosts.{leg, running, Sums, Spanned, RouteCosts}
 
--- Reversed, a segment is read off the backward sums, entered at its last stop and left at its first.
+-- Reversed, a segment is read off the backward sums.
 module _ {locations : ℕ} {legs route forward-sums backward-sums : List ℕ} (costs : RouteCosts locations legs route forward-sums backward-sums)
     (b : Bool) (start end : ℕ) (h : start < end) (k : end ≤ length route) where
-  abbrev sums : List ℕ
+  abbrev pub sums : List ℕ
   sums = cond b backward-sums forward-sums
 
   held : Sums route (running b (leg locations legs) route) sums
@@ -35,19 +34,3 @@ module _ {locations : ℕ} {legs route forward-sums backward-sums : List ℕ} (c
 
   pub inner-small : getD sums (end - 1) 0 - getD sums start 0 ≤ 511 * 1000000
   inner-small = omega (arith, held .small (end - 1) (omega arith), costs .stops .short)
-
-  pub placed-after : (reversed : Bool) (previous v w : ℕ) → reversed ≡ b → Leg locations legs previous (cond b (getD route (end - 1) 0) (getD route start 0)) v →
-      w ≡ getD sums (end - 1) 0 - getD sums start 0 →
-      PlacedAfter locations legs previous (reverse-if reversed (slice start end route)) (record { seconds = v + w; last = cond b (getD route start 0) (getD route (end - 1) 0) })
-  placed-after reversed previous v w e leg-is w-is =
-      rw e
-      (record {
-        seconds = rw (first-placed route start end h k b previous) (omega (arith, leg-is .is, inner-sum));
-        small = omega (arith, leg-is .small, inner-small);
-        last = sym (last-placed route start end h k b previous);
-        known = known-end b;
-      })
-    where
-      known-end : (c : Bool) → cond c (getD route start 0) (getD route (end - 1) 0) < locations
-      known-end true = costs .stops .known start (omega arith)
-      known-end false = costs .stops .known (end - 1) (omega arith)

@@ -2,4 +2,3 @@ pub mod States
 pub mod Chain
 pub mod Rows
 pub mod Ends
-mod Filling

@@ -1,7 +1,6 @@
 -- The joint table of a cut set: what it costs to go on from one state to another, shared by all patterns on the cut set.
 use mathlib.Core.Path.{_≡_}
 use mathlib.Core.Bool.{cond}
-use mathlib.Core.Logic.{_≢_}
 use mathlib.Core.List.{List, [], _∷_}
 use Prim.Native.Nat.{ℕ, _+_, _-_, _*_, _/_, _%_, _^_, _≤_, _<_}
 use lib.Dec.{eqb}
@@ -132,29 +131,3 @@ pub record Fillable (locations : ℕ) (legs : List ℕ) (tail count : ℕ) (entr
   pub inside-places : length inside ≡ 8
   pub entries-known : (s : ℕ) → s < count → getD entries s 0 < locations
   pub inside-small : (s : ℕ) → s < count → getD inside s 0 ≤ 1000000 * 512
-
--- A row that can be filled: not the tail's.
-pub record FillableRow (locations : ℕ) (legs : List ℕ) (from tail count : ℕ) (entries inside : List ℕ) (a : ℕ) (table : List ℕ) : Type 0 where
-  pub fillable : Fillable locations legs tail count entries inside
-  pub padded : Padded table
-  pub from-known : from < locations
-  pub within : a < 10
-  pub not-tail : a ≢ 8
-
--- Row a filled, and the other rows as they were.
-pub record FilledRow (locations : ℕ) (legs : List ℕ) (from tail count : ℕ) (entries inside : List ℕ) (a : ℕ) (before after : List ℕ) : Type 0 where
-  pub padded : Padded after
-  pub filled : JointRow (leg locations legs) (λ s. getD entries s 0) (λ s. getD inside s 0) count tail after a from
-  pub others : (x y : ℕ) → y < 16 → x ≢ a → cell after x y ≡ cell before x y
-
--- With the exits of the states, whose rows can be filled.
-pub record FillableStates (locations : ℕ) (legs : List ℕ) (tail count : ℕ) (entries exits inside : List ℕ) (table : List ℕ) : Type 0 where
-  pub fillable : Fillable locations legs tail count entries inside
-  pub padded : Padded table
-  pub exit-places : length exits ≡ 8
-  pub exits-known : (s : ℕ) → s < count → getD exits s 0 < locations
-
--- The rows of the states filled.
-pub record FilledStates (locations : ℕ) (legs : List ℕ) (tail count : ℕ) (entries exits inside : List ℕ) (after : List ℕ) : Type 0 where
-  pub padded : Padded after
-  pub each : (a : ℕ) → a < count → JointRow (leg locations legs) (λ s. getD entries s 0) (λ s. getD inside s 0) count tail after a (getD exits a 0)

@@ -9,8 +9,7 @@ use lib.ListN.{length, getD, replicate}
 use lib.Seq.{slice}
 use Rattle.theory.specs.Moves.{Pattern, upfrom}
 use Rattle.theory.specs.Route.{segments, reverses, reverse-if}
-use Rattle.theory.specs.Tables.{PatternRows, pattern-rows}
-use Rattle.costs.specs.RouteCosts.{Middle}
+use Rattle.theory.specs.Tables.{pattern-rows}
 
 -- How many states the middle segments of k cuts have.
 abbrev pub state-count : ℕ → ℕ
@@ -37,31 +36,6 @@ standing-row k = map (state-of 0) (upfrom 1 (k - 1)) ++ replicate (5 - k) 8
 -- Row i of rows of four.
 abbrev pub row : List ℕ → ℕ → List ℕ
 row rows i = slice (4 * i) (4 * i + 4) rows
-
--- The segment's state as code has it.
-pub record StateAt (mask segment r : ℕ) : Type 0 where
-  pub is : r ≡ state-of mask segment
-  pub small : r < 8
-
--- The places 1 to k - 1 of an order for k cuts hold middle segments.
-pub record MiddleOrder (k : ℕ) (order : List ℕ) : Type 0 where
-  pub least : 2 ≤ k
-  pub most : k ≤ 5
-  pub middle : Middle k order
-
--- Row i put into its place.
-pub record RowPut (k : ℕ) (order : List ℕ) (mask i : ℕ) (before after : List ℕ) : Type 0 where
-  pub places : length after ≡ 1532
-  pub put : row after i ≡ states k order mask
-  pub others : (x : ℕ) → x < i → row after x ≡ row before x
-  pub small : (c : ℕ) → c < 4 * (i + 1) → (c < 4 * i → getD before c 0 ≤ 8) → getD after c 0 ≤ 8
-
--- Room for the rows of a list of patterns.
-pub record Rowable (k : ℕ) (orders masks rows : List ℕ) : Type 0 where
-  pub least : 2 ≤ k
-  pub most : k ≤ 5
-  pub patterns : PatternRows k orders masks
-  pub places : length rows ≡ 1532
 
 -- The pattern of an index, as `move-at` has it.
 abbrev pub pattern-row : ℕ → List ℕ → List ℕ → ℕ → Pattern

@@ -127,8 +127,8 @@ fn rounds_refusal(
 ) -> u32
     ensures { λ r. ⌜ r ≡ refusal (known-rounds locations (now (depots .entry)) (now (stops .entry)) ∷ round-lists (now (lengths .entry)) (now (depots .entry)) (now (pins .entry)) (length (now (stops .entry))) ∷ room (4 * length (now (lengths .entry))) lent ∷ []) ⌝ }
 {
-    let bad_stops = refusals::check_known_rounds(locations, depots, stops);
-    let bad_rounds = refusals::check_round_lists(lengths, depots, pins, stops.len());
+    let bad_stops = round_refusals::check_known_rounds(locations, depots, stops);
+    let bad_rounds = round_refusals::check_round_lists(lengths, depots, pins, stops.len());
     let bad_room = refusals::check_room(4 * lengths.len(), lent);
     refusals::first(bad_stops, refusals::first(bad_rounds, bad_room))
 }
@@ -168,7 +168,7 @@ pub fn nearby_refusal(
     if bad_size != 0 {
         return bad_size;
     }
-    let bad_input = refusals::check_nearby_input(n, distances, m, neighbours);
+    let bad_input = round_refusals::check_nearby_input(n, distances, m, neighbours);
     let bad_room = refusals::check_room(k, lent);
     refusals::first(bad_input, bad_room)
 }

@@ -64,7 +64,7 @@ pub fn delta_pattern(
     let mut backward = [0u64; 512];
     costs::forward_sums(locations, legs, route, &mut forward);
     costs::backward_sums(locations, legs, route, &mut backward);
-    costs::delta(
+    deltas::delta(
         locations,
         legs,
         depot,

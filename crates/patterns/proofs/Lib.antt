@@ -1,7 +1,5 @@
 -- The laws that the proofs of `patterns` and those of its callers share.
-pub mod Stores
 pub mod Strides
-pub mod Permutations
 pub mod Counts
 pub mod Turn
 pub mod Enumeration

@@ -5,10 +5,12 @@ use Prim.Native.Nat.{ℕ, zero, suc, _+_, _-_, _*_, _/_, _%_, _^_, _≤_, _<_}
 use native.Mathlib.Numerals.{add-one}
 use native.Mathlib.Nat.{suc-mul, mul-le-mul-right, div-lt-iff-lt-mul, mod-lt}
 use native.Mathlib.Omega.{arith}
-use lib.ListN.{length, getD, take, drop, length-append, take-append-drop}
+use lib.ListN.{length, getD, take, drop, set, length-append, take-append-drop}
+use lib.Seq.{sets}
 use lib.Pow.{pow-pos, pow-mono}
 use Rattle.theory.specs.Moves.{Pattern, patterns, factorial}
 use Rattle.theory.proofs.Index.{pattern-at}
+use Rattle.permutations.proofs.Stores.{sets-append}
 use Rattle.patterns.specs.Enumeration.{no-pattern, pattern}
 use Rattle.patterns.specs.Turn.{middle-orders, Ready}
 use Rattle.patterns.proofs.Strides.{length-flatten, row-at}
@@ -63,3 +65,10 @@ module _ (k index r : ℕ) (permutations orders₀ masks₀ : List ℕ) (ready :
 
   pub mask-is : 2 * ((index + 1) % r) ≡ pattern k index .mask
   mask-is = rw er (sym (ap (λ (p : Pattern). p .mask) is))
+
+-- An order: segment 0, the middle ones, segment k.
+pub stored-order : (out middle : List ℕ) (at k : ℕ) → length middle + 1 ≡ k →
+    set (sets (set out at 0) (at + 1) middle) (at + k) k ≡ sets out at (0 ∷ (middle ++ (k ∷ [])))
+stored-order out middle at k h =
+    let e : at + k ≡ suc at + length middle = omega arith in
+    rw (add-one at) (ap (λ (i : ℕ). set (sets (set out at 0) (suc at) middle) i k) e ∙ sym (sets-append (set out at 0) (suc at) middle (k ∷ [])))

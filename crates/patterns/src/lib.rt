@@ -1,62 +1,12 @@
 // The reconnection patterns for k cuts, after k_opt_reconnection.rs: an order of the k + 1 segments and a reversal mask each. No entry is here.
 ghost use mathlib.Core.Path.{_≡_};
 ghost use mathlib.Core.List.{_++_, _∷_, []};
-ghost use Prim.Native.Nat.{_+_, _-_, _*_, _^_, _≤_, _<_};
-ghost use lib.ListN.{length, drop};
+ghost use Prim.Native.Nat.{_-_, _^_};
+ghost use lib.ListN.{length};
 ghost use lib.Seq.{sets};
 ghost use Rattle.theory.specs.Moves.{patterns};
-ghost use Rattle.patterns.specs.Rows.{RowRoom, Permuted};
 ghost use Rattle.patterns.specs.Enumeration.{CutCount, PatternRoom, Enumerated, pattern, Listed, Holds};
 ghost use Rattle.patterns.specs.Turn.{OrderRoom, Ready, Put};
-
-// A part into out from `at` on.
-fn copy_in(part: &[u8], out: &mut [u8], at: usize)
-    requires { ⌜ at + length (now part) ≤ length (now out) ⌝ }
-    ensures { λ _. ⌜ now (out .exit) ≡ sets (now (out .entry)) at (now (part .entry)) ⌝ }
-{
-    for j in 0..part.len() {
-        out[at + j] = part[j];
-    }
-}
-
-// The items with those after i moved up by one: the one at i is gone, and the last stands twice.
-fn remove(items: [u8; 4], i: usize) -> [u8; 4]
-    requires { ⌜ i < 4 ⌝ }
-    ensures { λ r. ⌜ r ≡ sets items i (drop (i + 1) items) ⌝ }
-{
-    let mut rest = items;
-    let next = i + 1;
-    copy_in(&items[next..], &mut rest, i);
-    rest
-}
-
-// Takes out one of the `left` items and orders the rest: each order behind the first `depth` of the row, into out from `at` on. Answers where the next row begins.
-fn generate_permutations(
-    items: [u8; 4],
-    left: usize,
-    row: [u8; 4],
-    depth: usize,
-    out: &mut [u8],
-    at: usize,
-) -> usize
-    requires { ⌜ RowRoom items left row depth (now out) at ⌝ }
-    ensures { λ r. ⌜ Permuted items left row depth (now (out .entry)) at r (now (out .exit)) ⌝ }
-{
-    if left == 0 {
-        copy_in(&row[..depth], out, at);
-        return at + depth;
-    }
-    let mut next = at;
-    let mut i = 0;
-    while i < left {
-        let mut longer = row;
-        longer[depth] = items[i];
-        let rest = remove(items, i);
-        next = generate_permutations(rest, left - 1, longer, depth + 1, out, next);
-        i += 1;
-    }
-    next
-}
 
 // The reversals of the middle segments: 2 to the k - 1.
 fn reversal_count(k: usize) -> usize
@@ -90,7 +40,7 @@ fn put_order(middle: &[u8], k: usize, out: &mut [u8], at: usize)
     ensures { λ _. ⌜ now (out .exit) ≡ sets (now (out .entry)) at (0 ∷ (now (middle .entry) ++ (k ∷ []))) ⌝ }
 {
     out[at] = 0;
-    copy_in(middle, out, at + 1);
+    permutations::copy_in(middle, out, at + 1);
     out[at + k] = k as u8;
 }
 
@@ -114,7 +64,14 @@ pub fn enumerate_reconnections(k: usize, orders: &mut [u8], masks: &mut [u8]) ->
     ensures { λ r. ⌜ Enumerated k (now (orders .entry)) (now (masks .entry)) r (now (orders .exit)) (now (masks .exit)) ⌝ }
 {
     let mut permutations = [0u8; 96];
-    let _ = generate_permutations([1, 2, 3, 4], k - 1, [0; 4], 0, &mut permutations, 0);
+    let _ = permutations::generate_permutations(
+        [1, 2, 3, 4],
+        k - 1,
+        [0; 4],
+        0,
+        &mut permutations,
+        0,
+    );
     let count = pattern_count(k);
     let mut index = 0;
     while index < count {
@@ -136,7 +93,7 @@ pub fn pattern_at(k: usize, index: usize) -> theory::KOptReconnection
     let from = index * num_segments;
     let end = from + num_segments;
     let mut places = [0u8; 6];
-    copy_in(&orders[from..end], &mut places, 0);
+    permutations::copy_in(&orders[from..end], &mut places, 0);
     theory::KOptReconnection {
         segment_order: places,
         reverse_mask: masks[index],

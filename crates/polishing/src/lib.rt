@@ -35,7 +35,7 @@ pub fn polish_rows(
         });
     }
     let mut rows = [0u8; 1532];
-    joints::fill_rows(k, orders, masks, &mut rows);
+    pattern_rows::fill_rows(k, orders, masks, &mut rows);
     let scanned = scanning::scan_cut_sets(
         k,
         allowance,

@@ -1,13 +1,7 @@
 // One small check for each refusal number: the number where its rule applies to the raw input, else 0. No entry: the crates above call them.
 ghost use mathlib.Core.Path.{_≡_};
-ghost use mathlib.Core.Bool.{not};
-ghost use Prim.Native.Nat.{_≤_};
-ghost use lib.Dec.{ltb, leb, eqb};
-ghost use lib.ListN.{length};
-ghost use Rattle.theory.specs.Refusals.{some, rises, either, number, cut-count, leg-table, deadline-list, leg-sizes, known-stops, stop-count, pattern-index, cut-positions, room, refusal, problem-rules, known-rounds, round-lists, cut-lists, own-round, no-number, nearby-input, journal-length};
-ghost use Rattle.theory.specs.Moves.{total};
+ghost use Rattle.theory.specs.Refusals.{either, number, cut-count, leg-table, deadline-list, leg-sizes, known-stops, stop-count, pattern-index, cut-positions, room, refusal, problem-rules, cut-lists, own-round, journal-length};
 ghost use Rattle.patterns.specs.Enumeration.{CutCount};
-ghost use Rattle.refusals.specs.Rounds.{ShortRounds};
 
 // The first of two numbers that is not 0.
 pub fn first(a: u32, b: u32) -> u32
@@ -17,106 +11,6 @@ pub fn first(a: u32, b: u32) -> u32
         return b;
     }
     a
-}
-
-// Whether an entry is above the limit.
-fn some_above(entries: &[u32], limit: u32) -> bool
-    ensures { λ r. ⌜ r ≡ some (λ x. ltb limit x) (now (entries .entry)) ⌝ }
-{
-    let mut i = 0;
-    while i < entries.len() {
-        if limit < entries[i] {
-            return true;
-        }
-        i += 1;
-    }
-    false
-}
-
-// Whether a stop is not below the locations.
-fn some_unknown(stops: &[u32], locations: usize) -> bool
-    ensures { λ r. ⌜ r ≡ some (λ x. leb locations x) (now (stops .entry)) ⌝ }
-{
-    let mut i = 0;
-    while i < stops.len() {
-        let stop = stops[i];
-        if locations <= stop as usize {
-            return true;
-        }
-        i += 1;
-    }
-    false
-}
-
-// Whether a cut lies beyond n.
-pub fn some_beyond(cuts: &[usize], n: usize) -> bool
-    ensures { λ r. ⌜ r ≡ some (λ x. ltb n x) (now (cuts .entry)) ⌝ }
-{
-    let mut i = 0;
-    while i < cuts.len() {
-        if n < cuts[i] {
-            return true;
-        }
-        i += 1;
-    }
-    false
-}
-
-// Whether each cut is below the next.
-pub fn strictly_rising(cuts: &[usize]) -> bool
-    ensures { λ r. ⌜ r ≡ rises (now (cuts .entry)) ⌝ }
-{
-    let mut i = 1;
-    while i < cuts.len() {
-        if cuts[i] <= cuts[i - 1] {
-            return false;
-        }
-        i += 1;
-    }
-    true
-}
-
-// Whether a cut names another round.
-pub fn some_other(rounds: &[usize], round: usize) -> bool
-    ensures { λ r. ⌜ r ≡ some (λ x. not (eqb x round)) (now (rounds .entry)) ⌝ }
-{
-    let mut i = 0;
-    while i < rounds.len() {
-        if rounds[i] != round {
-            return true;
-        }
-        i += 1;
-    }
-    false
-}
-
-// Whether an entry is no number: only that one differs from itself.
-fn some_no_number(distances: &[f64]) -> bool
-    ensures { λ r. ⌜ r ≡ some no-number (now (distances .entry)) ⌝ }
-{
-    let mut i = 0;
-    while i < distances.len() {
-        let d = distances[i];
-        if d != d {
-            return true;
-        }
-        i += 1;
-    }
-    false
-}
-
-// The stops of all rounds together.
-fn all_stops(lengths: &[usize]) -> usize
-    requires { ⌜ ShortRounds (now lengths) ⌝ }
-    ensures { λ r. ⌜ r ≡ total (λ n. n) (now (lengths .entry)) ⌝ }
-{
-    let mut sum = 0;
-    let mut i = 0;
-    while i < lengths.len() {
-        sum += lengths[i];
-        i += 1;
-    }
-    sum
 }
 
 pub fn check_cut_count(k: usize) -> u32
@@ -158,7 +52,7 @@ pub fn check_deadline_list(locations: usize, latest: &[u32]) -> u32
 pub fn check_leg_sizes(legs: &[u32]) -> u32
     ensures { λ r. ⌜ r ≡ number (leg-sizes (now (legs .entry))) ⌝ }
 {
-    if some_above(legs, 1000000) {
+    if list_tests::some_above(legs, 1000000) {
         return 3;
     }
     0
@@ -170,7 +64,7 @@ pub fn check_known_stops(locations: usize, depot: u32, route: &[u32]) -> u32
     if locations <= depot as usize {
         return 4;
     }
-    if some_unknown(route, locations) {
+    if list_tests::some_unknown(route, locations) {
         return 4;
     }
     0
@@ -180,41 +74,6 @@ pub fn check_stop_count(n: usize) -> u32
     ensures { λ r. ⌜ r ≡ number (stop-count n) ⌝ }
 {
     if 512 < n {
-        return 5;
-    }
-    0
-}
-
-pub fn check_known_rounds(locations: usize, depots: &[u32], stops: &[u32]) -> u32
-    ensures { λ r. ⌜ r ≡ number (known-rounds locations (now (depots .entry)) (now (stops .entry))) ⌝ }
-{
-    if some_unknown(depots, locations) {
-        return 4;
-    }
-    if some_unknown(stops, locations) {
-        return 4;
-    }
-    0
-}
-
-// The lengths are summed only where the sum is small.
-pub fn check_round_lists(lengths: &[usize], depots: &[u32], pins: &[u8], stops: usize) -> u32
-    ensures { λ r. ⌜ r ≡ number (round-lists (now (lengths .entry)) (now (depots .entry)) (now (pins .entry)) stops) ⌝ }
-{
-    let rounds = lengths.len();
-    if 64 < rounds {
-        return 5;
-    }
-    if some_beyond(lengths, 512) {
-        return 5;
-    }
-    if depots.len() != rounds {
-        return 5;
-    }
-    if pins.len() != rounds {
-        return 5;
-    }
-    if all_stops(lengths) != stops {
         return 5;
     }
     0
@@ -237,10 +96,10 @@ pub fn check_cut_positions(k: usize, n: usize, cuts: &[usize]) -> u32
     if cuts.len() != k {
         return 7;
     }
-    if some_beyond(cuts, n) {
+    if list_tests::some_beyond(cuts, n) {
         return 7;
     }
-    if strictly_rising(cuts) {
+    if list_tests::strictly_rising(cuts) {
         return 0;
     }
     7
@@ -258,31 +117,8 @@ pub fn check_cut_lists(rounds: &[usize], positions: &[usize]) -> u32
 pub fn check_own_round(round: usize, rounds: &[usize]) -> u32
     ensures { λ r. ⌜ r ≡ number (own-round round (now (rounds .entry))) ⌝ }
 {
-    if some_other(rounds, round) {
+    if list_tests::some_other(rounds, round) {
         return 8;
-    }
-    0
-}
-
-// Judged after n: n × n is formed only where n is small.
-pub fn check_nearby_input(n: usize, distances: &[f64], m: usize, neighbours: usize) -> u32
-    requires { ⌜ n ≤ 512 ⌝ }
-    ensures { λ r. ⌜ r ≡ number (nearby-input n (now (distances .entry)) m neighbours) ⌝ }
-{
-    if m < 1 {
-        return 9;
-    }
-    if 512 < m {
-        return 9;
-    }
-    if 32 < neighbours {
-        return 9;
-    }
-    if distances.len() != n * n {
-        return 9;
-    }
-    if some_no_number(distances) {
-        return 9;
     }
     0
 }

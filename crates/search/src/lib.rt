@@ -198,7 +198,7 @@ pub fn first_gain(
     requires { ⌜ Findable locations (now legs) (now latest) depot (now route) (now forward) (now backward) (now cuts) (now orders) (now masks) (now rows) kept (now joint) (now spare) (now dues) limit ⌝ }
     ensures { λ r. ⌜ Found locations (now (legs .entry)) (now (latest .entry)) depot (now (route .entry)) (now (cuts .entry)) (now (orders .entry)) (now (masks .entry)) limit r (now (joint .exit)) (now (spare .exit)) (now (dues .exit)) ⌝ }
 {
-    joints::fill_joint(
+    joint_table::fill_joint(
         locations,
         legs,
         depot,

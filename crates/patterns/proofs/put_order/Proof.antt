@@ -4,7 +4,7 @@ use Prim.Native.Nat.{_+_}
 use native.Mathlib.Omega.{arith}
 use lib.ListN.{length-set}
 use borrow.Author.Needs.{needs}
-use Rattle.patterns.proofs.Stores.{stored-order}
+use Rattle.patterns.proofs.Turn.{stored-order}
 use Rattle.patterns.proofs.put_order.Statement.{statement}
 use Rattle.patterns.proofs.put_order.Tie as tie
 

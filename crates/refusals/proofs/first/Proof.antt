@@ -1,5 +1,5 @@
 -- `refusals::first` meets its contract.  Assumes nothing.
-use Rattle.refusals.proofs.Tests.{either-none, either-some}
+use Rattle.refusals.proofs.Either.{either-none, either-some}
 use Rattle.refusals.proofs.first.Statement.{statement}
 use Rattle.refusals.proofs.first.Tie as tie
 

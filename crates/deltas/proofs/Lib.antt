@@ -1,0 +1,4 @@
+pub mod PlacedSegment
+pub mod Through
+pub mod Signed
+pub mod LengthDelta

@@ -1,0 +1,110 @@
+// The joint table of a cut set, filled from the ends of its states. It holds no entry: crate search calls it.
+ghost use Rattle.joints.specs.JointTable.{JointOf, Joinable};
+ghost use Rattle.joint_table.specs.Filling.{FillableRow, FilledRow, FillableStates, FilledStates};
+
+// Row a of the table, for a state that is left at the stop `from`.
+fn fill_cells(
+    locations: usize,
+    legs: &[u32],
+    from: u32,
+    tail: u32,
+    count: usize,
+    entries: &[u32; 8],
+    inside: &[u64; 8],
+    a: usize,
+    joint: &mut [u64; 160],
+)
+    requires { ⌜ FillableRow locations (now legs) from tail count (now entries) (now inside) a (now joint) ⌝ }
+    ensures { λ _. ⌜ FilledRow locations (now (legs .entry)) from tail count (now (entries .entry)) (now (inside .entry)) a (now (joint .entry)) (now (joint .exit)) ⌝ }
+{
+    let row = 16 * a;
+    let mut b = 0;
+    while b < count {
+        joint[row + b] = costs::route_distance(locations, legs, from, entries[b]) + inside[b];
+        b += 1;
+    }
+    joint[row + 8] = costs::route_distance(locations, legs, from, tail);
+}
+
+// The rows of the middle segments' states.
+fn fill_states(
+    locations: usize,
+    legs: &[u32],
+    tail: u32,
+    count: usize,
+    entries: &[u32; 8],
+    exits: &[u32; 8],
+    inside: &[u64; 8],
+    joint: &mut [u64; 160],
+)
+    requires { ⌜ FillableStates locations (now legs) tail count (now entries) (now exits) (now inside) (now joint) ⌝ }
+    ensures { λ _. ⌜ FilledStates locations (now (legs .entry)) tail count (now (entries .entry)) (now (exits .entry)) (now (inside .entry)) (now (joint .exit)) ⌝ }
+{
+    let mut a = 0;
+    while a < count {
+        fill_cells(
+            locations,
+            legs,
+            exits[a],
+            tail,
+            count,
+            entries,
+            inside,
+            a,
+            joint,
+        );
+        a += 1;
+    }
+}
+
+// The joint table of a cut set.
+pub fn fill_joint(
+    locations: usize,
+    legs: &[u32],
+    depot: u32,
+    route: &[u32],
+    forward: &[u64; 512],
+    backward: &[u64; 512],
+    cuts: &[usize],
+    joint: &mut [u64; 160],
+)
+    requires { ⌜ Joinable locations (now legs) depot (now route) (now forward) (now backward) (now cuts) (now joint) ⌝ }
+    ensures { λ _. ⌜ JointOf locations (now (legs .entry)) depot (now (route .entry)) (now (cuts .entry)) (now (joint .exit)) ⌝ }
+{
+    let mut entries = [0u32; 8];
+    let mut exits = [0u32; 8];
+    let mut inside = [0u64; 8];
+    joints::fill_ends(
+        route,
+        forward,
+        backward,
+        cuts,
+        &mut entries,
+        &mut exits,
+        &mut inside,
+    );
+    let count = 2 * (cuts.len() - 1);
+    let head = costs::head_end(depot, route, cuts);
+    let tail = costs::tail_start(depot, route, cuts);
+    fill_states(
+        locations,
+        legs,
+        tail,
+        count,
+        &entries,
+        &exits,
+        &inside,
+        joint,
+    );
+    fill_cells(
+        locations,
+        legs,
+        head,
+        tail,
+        count,
+        &entries,
+        &inside,
+        9,
+        joint,
+    );
+}
