@@ -11,13 +11,9 @@ use Rattle.theory.specs.Tables.{ForK}
 use Rattle.theory.proofs.Moves.{total-ones, length-upfrom}
 use Rattle.theory.proofs.Orders.{in-range}
 use Rattle.costs.specs.RouteCosts.{Middle}
+use Rattle.theory.proofs.Index.{take-upfrom, getD-upfrom, mem-getD}
 
 -- ---- a pattern's order
-
-mem-getD : (l : List ℕ) (i : ℕ) → i < length l → List·Memᴰ (getD l i 0) l
-mem-getD [] i h = absurd (omega arith)
-mem-getD (x ∷ l) zero h = List·Memᴰ·head refl
-mem-getD (x ∷ l) (suc i) h = List·Memᴰ·tail (mem-getD l i (omega arith))
 
 module _ (k : ℕ) (order : List ℕ) (mask : ℕ) (two : 2 ≤ k) (f : ForK k order mask) where
   length-middle : length (f .middle) ≡ k - 1
@@ -32,7 +28,7 @@ module _ (k : ℕ) (order : List ℕ) (mask : ℕ) (two : 2 ≤ k) (f : ForK k o
   at-place zero h l = absurd (omega arith)
   at-place (suc p) h l =
       let i : p < length (f .middle) = omega (arith, length-middle) in
-      rw (f .order-is, List·getD-append (f .middle) (k ∷ []) 0 p i) (in-range (f .middle) 1 (k - 1) (f .once) (getD (f .middle) p 0) (mem-getD (f .middle) p i))
+      rw (f .order-is, List·getD-append (f .middle) (k ∷ []) 0 p i) (in-range (f .middle) 1 (k - 1) (f .once) (getD (f .middle) p 0) (mem-getD (f .middle) p 0 i))
 
   pub pattern-middle : Middle k order
   pattern-middle =
@@ -44,24 +40,12 @@ module _ (k : ℕ) (order : List ℕ) (mask : ℕ) (two : 2 ≤ k) (f : ForK k o
 
 -- ---- the order that changes nothing
 
-take-upfrom : (f n k : ℕ) → k ≤ n → take k (upfrom f n) ≡ upfrom f k
-unfolding upfrom
-take-upfrom f n zero h = refl
-take-upfrom f zero (suc k) h = absurd (omega arith)
-take-upfrom f (suc n) (suc k) h = ap (λ l. f ∷ l) (take-upfrom (suc f) n k (omega arith))
-
-getD-upfrom : (f n i : ℕ) → i < n → getD (upfrom f n) i 0 ≡ f + i
-unfolding upfrom
-getD-upfrom f zero i h = absurd (omega arith)
-getD-upfrom f (suc n) zero h = omega arith
-getD-upfrom f (suc n) (suc i) h = omega (arith, getD-upfrom (suc f) n i (omega arith))
-
 abbrev pub standing : List ℕ
 standing = 0 ∷ 1 ∷ 2 ∷ 3 ∷ 4 ∷ 5 ∷ []
 
 standing-at : (p : ℕ) → p < 6 → getD standing p 0 ≡ p
 unfolding upfrom
-standing-at p h = getD-upfrom 0 6 p h ∙ zero-add p
+standing-at p h = getD-upfrom 0 6 p 0 h ∙ zero-add p
 
 pub standing-middle : (k : ℕ) → 2 ≤ k → k ≤ 5 → slice 1 k standing ≡ upfrom 1 (k - 1)
 unfolding upfrom

@@ -62,7 +62,7 @@ module _ (r : List ℕ) (start end : ℕ) (h : start < end) (k : end ≤ length 
 
 -- ---- the segments of a cut set
 
-head-at : (cs r : List ℕ) → 0 < length cs → getD (segments 0 cs r) 0 [] ≡ take (getD cs 0 0) r
+pub head-at : (cs r : List ℕ) → 0 < length cs → getD (segments 0 cs r) 0 [] ≡ take (getD cs 0 0) r
 unfolding segments
 head-at [] r h = absurd (omega arith)
 head-at (c ∷ cs) r h = refl
@@ -74,7 +74,7 @@ middle-at from (c ∷ []) r i h = absurd (omega arith)
 middle-at from (c ∷ d ∷ cs) r zero h = refl
 middle-at from (c ∷ d ∷ cs) r (suc i) h = middle-at c (d ∷ cs) r i (omega arith)
 
-tail-at : (from : ℕ) (cs r : List ℕ) → 0 < length cs → getD (segments from cs r) (length cs) [] ≡ drop (getD cs (length cs - 1) 0) r
+pub tail-at : (from : ℕ) (cs r : List ℕ) → 0 < length cs → getD (segments from cs r) (length cs) [] ≡ drop (getD cs (length cs - 1) 0) r
 unfolding segments
 tail-at from [] r h = absurd (omega arith)
 tail-at from (c ∷ []) r h = refl

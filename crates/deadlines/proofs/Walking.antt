@@ -9,10 +9,10 @@ use lib.Dec.{leb}
 use lib.ListN.{length, getD, drop}
 use lib.Seq.{drop-cons}
 use borrow.Author.Tests.{le-leb, lt-leb}
-use Rattle.theory.specs.Route.{Problem, path, reverse-if}
+use Rattle.theory.specs.Route.{Problem, path, reverse-if, on-time}
 use Rattle.theory.specs.Costs.{last-of, first-of, inner}
 use Rattle.theory.specs.Tables.{Stops, problem}
-use Rattle.theory.proofs.Clock.{on-time, clock-step}
+use Rattle.theory.proofs.Clock.{clock-step}
 use Rattle.theory.proofs.Costs.{path-append}
 use Rattle.reconnection.proofs.Reversal.{getD-reverse}
 use Rattle.deadlines.specs.declared.Walked.{Walked}

@@ -4,10 +4,9 @@ use mathlib.Core.Bool.{Bool, true}
 use mathlib.Core.List.{List}
 use Prim.Native.Nat.{ℕ, _+_, _*_, _≤_, _<_}
 use lib.ListN.{length, getD}
-use Rattle.theory.specs.Route.{Problem, path}
+use Rattle.theory.specs.Route.{Problem, path, on-time}
 use Rattle.theory.specs.Costs.{last-of}
 use Rattle.theory.specs.Tables.{LegTable, Stops}
-use Rattle.theory.proofs.Clock.{on-time}
 use Rattle.deadlines.specs.declared.Walked.{Walked}
 
 -- The tables, a part of a route, and the location and the second at which the walk begins.

@@ -7,12 +7,11 @@ use native.Mathlib.Numerals.{add-one}
 use native.Mathlib.Omega.{arith}
 use lib.Dec.{ltb}
 use lib.ListN.{length, getD, take, drop, replicate, length-map}
-use lib.Seq.{slice, slice-cons, slice-empty, length-slice, take-at, take-take, getD-drop, getD-take}
+use lib.Seq.{slice, slice-cons, slice-empty, length-slice, take-at, take-take, getD-drop, getD-take, take-nil}
 use borrow.Author.Tests.{lt-ltb, le-ltb}
-use Rattle.theory.specs.Route.{Problem, path, segments, placed}
+use Rattle.theory.specs.Route.{Problem, path, segments, placed, on-time}
 use Rattle.theory.specs.Costs.{last-of, first-of, inner}
 use Rattle.theory.specs.Tables.{CutSet, ForK}
-use Rattle.theory.proofs.Clock.{on-time}
 use Rattle.theory.proofs.Index.{getD-map}
 use Rattle.theory.proofs.Orders.{in-range}
 use Rattle.costs.proofs.Orders.{middle-is, pattern-middle}
@@ -20,7 +19,7 @@ use Rattle.deadlines.proofs.Walking.{path-in, on-time-append}
 use Rattle.joints.specs.States.{state-count, state-of, placed-in, states, row}
 use Rattle.joints.specs.JointTable.{cell, JointRow, JointTable}
 use Rattle.joints.proofs.States.{state-below, placed-states}
-use Rattle.joints.proofs.Chain.{full-part}
+use Rattle.joints.proofs.Chain.{full-part, last-any}
 use Rattle.growth.specs.Due.{Due}
 use Rattle.dues.specs.Due.{in-time, DuesOf}
 
@@ -43,11 +42,6 @@ no-states J D rows a t at end whole e so-far = so-far ∙ rw (e, slice-empty end
 
 -- ---- as a middle
 
-last-any : (a b : ℕ) (xs : List ℕ) → 0 < length xs → last-of a xs ≡ last-of b xs
-unfolding last-of
-last-any a b [] h = absurd (omega arith)
-last-any a b (x ∷ xs) h = refl
-
 module _ (P : Problem) (part : ℕ → List ℕ) {count head tail : ℕ} {J : List ℕ} (D : List ℕ) (t : JointTable (P .leg) part count head tail J)
     (full : (s : ℕ) → s < count → 0 < length (part s)) (dues : (s : ℕ) → s < count → Due P (part s) (getD D s 0)) where
   along : (a exit c : ℕ) → JointRow (P .leg) (λ s. first-of (part s) 0) (λ s. inner (P .leg) (part s)) count tail J a exit →
@@ -60,14 +54,10 @@ module _ (P : Problem) (part : ℕ → List ℕ) {count head tail : ℕ} {J : Li
       let ih = along b (last-of 0 (part b)) (c + path (P .leg) exit (part b)) (t .from-each b k) bs (λ x m. h x (List·Memᴰ·tail m)) in
       rw (e, on-time-append P exit c (part b) (flatten (map part bs)), dues b k .is exit c, last-any exit 0 (part b) (full b k), ih)
 
-take-none : (n : ℕ) → take {A = ℕ} n [] ≡ []
-take-none zero = refl
-take-none (suc n) = refl
-
 front-of : (a b : ℕ) (l : List ℕ) → slice a b l ≡ take (b - a) (drop a l)
 front-of zero b l = let e : b - 0 ≡ b = omega arith in rw e
 front-of (suc a) zero l = let e : 0 - suc a ≡ 0 = omega arith in rw e
-front-of (suc a) (suc b) [] = let e : take (suc b - suc a) [] ≡ [] = take-none (suc b - suc a) in sym e
+front-of (suc a) (suc b) [] = let e : take (suc b - suc a) [] ≡ [] = take-nil (suc b - suc a) in sym e
 front-of (suc a) (suc b) (x ∷ l) = let e : suc b - suc a ≡ b - a = omega arith in rw e (front-of a b l)
 
 first-states : (rows : List ℕ) (i m : ℕ) → m ≤ 4 → slice (4 * i) (4 * i + m) rows ≡ take m (row rows i)

@@ -1,6 +1,6 @@
 -- How the dues of a segment grow with the stop behind it. Assumes nothing.
 use mathlib.Core.Path.{_≡_, refl, sym, ap, _∙_}
-use mathlib.Core.Bool.{Bool, true, false, _&&_}
+use mathlib.Core.Bool.{Bool, true, false, _&&_, and-true}
 use mathlib.Core.List.{List, [], _∷_, _++_, reverse, reverse-append}
 use Prim.Native.Nat.{ℕ, suc, _+_, _-_, _*_, _^_, _≤_, _<_, min}
 use native.Mathlib.Numerals.{add-one}
@@ -10,10 +10,9 @@ use lib.Dec.{leb, ltb}
 use lib.ListN.{length, getD, take, drop}
 use lib.Seq.{slice, slice-cons, slice-empty, take-suc, drop-append-le, length-take-le}
 use borrow.Author.Tests.{lt-ltb, le-ltb, le-leb, lt-leb}
-use Rattle.theory.specs.Route.{Problem, path, reverse-if}
+use Rattle.theory.specs.Route.{Problem, path, reverse-if, on-time}
 use Rattle.theory.specs.Costs.{last-of, inner, backward}
 use Rattle.theory.specs.Tables.{problem}
-use Rattle.theory.proofs.Clock.{on-time}
 use Rattle.theory.proofs.Costs.{path-append, backward-inner}
 use Rattle.costs.proofs.Segments.{last-placed}
 use Rattle.deadlines.proofs.Walking.{on-time-append}
@@ -48,10 +47,6 @@ swap true true = refl
 swap true false = refl
 swap false true = refl
 swap false false = refl
-
-and-true : (b : Bool) → (b && true) ≡ b
-and-true true = refl
-and-true false = refl
 
 -- ---- a stop more
 

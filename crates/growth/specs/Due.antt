@@ -5,10 +5,9 @@ use Prim.Native.Nat.{ℕ, _+_, _^_, _≤_, _<_}
 use lib.Dec.{ltb}
 use lib.ListN.{length, getD}
 use lib.Seq.{slice}
-use Rattle.theory.specs.Route.{Problem, path}
+use Rattle.theory.specs.Route.{Problem, path, on-time}
 use Rattle.theory.specs.Costs.{backward}
 use Rattle.theory.specs.Tables.{LegTable, Stops, problem}
-use Rattle.theory.proofs.Clock.{on-time}
 use Rattle.costs.specs.RouteCosts.{leg, Sums}
 
 -- "A stop is late if the legs from the depot up to it exceed its latest": from wherever and at whatever second one sets out, no stop of the part is late

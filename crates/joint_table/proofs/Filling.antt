@@ -12,16 +12,8 @@ use Rattle.costs.specs.RouteCosts.{leg}
 use Rattle.joints.specs.States.{state-count, placed-in}
 use Rattle.joints.specs.JointTable.{cell, Padded, JointRow, JointTable, Joinable, StateEnds, Fillable}
 use Rattle.joint_table.specs.Filling.{FilledRow, FilledStates}
-use Rattle.joints.proofs.Rows.{set-small}
+use Rattle.joints.proofs.Rows.{set-small, padded-set}
 use Rattle.joints.proofs.Ends.{inside-is, inside-small, entry-known, exit-known}
-
-padded-set : (table : List ℕ) (a b v : ℕ) → Padded table → a ≢ 8 → b < 16 → v ≤ 2 ^ 40 → Padded (set table (16 * a + b) v)
-padded-set table a b v p n h s =
-    record {
-      places = length-set table (16 * a + b) v ∙ p .places;
-      padding = getD-set-other table (16 * a + b) 136 v 0 (λ q. n (omega arith)) ∙ p .padding;
-      small = λ c. set-small table (16 * a + b) v c (2 ^ 40) s (λ q. p .small c);
-    }
 
 -- The first b cells of row a are filled, and the other rows are as they were.
 pub record Cells (d : ℕ → ℕ → ℕ) (entry inside : ℕ → ℕ) (from a : ℕ) (before table : List ℕ) (b : ℕ) : Type 0 where

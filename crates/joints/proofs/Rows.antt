@@ -1,15 +1,15 @@
 -- A row of states, read, and a store into a list of small numbers. Assumes nothing.
-use mathlib.Core.Path.{_≡_}
+use mathlib.Core.Path.{_≡_, _∙_}
 use mathlib.Core.Logic.{_≢_}
 use mathlib.Core.List.{List, [], _∷_}
-use Prim.Native.Nat.{ℕ, suc, _+_, _*_, _≤_, _<_}
+use Prim.Native.Nat.{ℕ, suc, _+_, _*_, _≤_, _<_, _^_}
 use native.Mathlib.Omega.{arith}
 use native.Mathlib.Numerals.{add-one}
 use native.Mathlib.Decide.{ℕ-discrete, decLt}
-use lib.ListN.{length, getD, set, List·getD-eq-default}
+use lib.ListN.{length, getD, set, List·getD-eq-default, length-set}
 use lib.Seq.{slice, slice-cons, slice-empty, set-out, getD-set-same, getD-set-other}
 use Rattle.joints.specs.States.{row}
-use Rattle.joints.specs.JointTable.{chain}
+use Rattle.joints.specs.JointTable.{chain, Padded}
 
 -- A store keeps every entry small.
 pub set-small : (l : List ℕ) (j v c bound : ℕ) → v ≤ bound → (c ≢ j → getD l c 0 ≤ bound) → getD (set l j v) c 0 ≤ bound
@@ -43,3 +43,12 @@ pub row-chain : (J rows : List ℕ) (i v : ℕ) {a b c d : ℕ} → length rows 
     a ≡ getD rows (4 * i) 0 → b ≡ getD rows (4 * i + 1) 0 → c ≡ getD rows (4 * i + 2) 0 → d ≡ getD rows (4 * i + 3) 0 →
     v ≡ chain J 9 (a ∷ b ∷ c ∷ d ∷ []) → v ≡ chain J 9 (row rows i)
 row-chain J rows i v n h ea eb ec ed e = rw (row-read rows (4 * i) (omega arith), ← ea, ← eb, ← ec, ← ed) e
+
+-- A cell stored in a joint table.
+pub padded-set : (table : List ℕ) (a b v : ℕ) → Padded table → a ≢ 8 → b < 16 → v ≤ 2 ^ 40 → Padded (set table (16 * a + b) v)
+padded-set table a b v p n h s =
+    record {
+      places = length-set table (16 * a + b) v ∙ p .places;
+      padding = getD-set-other table (16 * a + b) 136 v 0 (λ q. n (omega arith)) ∙ p .padding;
+      small = λ c. set-small table (16 * a + b) v c (2 ^ 40) s (λ q. p .small c);
+    }

@@ -11,7 +11,7 @@ use lib.Dec.{ltb}
 use lib.ListN.{length, take, drop, length-append, length-take}
 use lib.Seq.{sets, take-nil, sets-eq}
 use borrow.Author.Tests.{ltb-true, ltb-false, lt-ltb, le-ltb}
-use Rattle.nearest.proofs.Stores.{sets-append}
+use Rattle.theory.proofs.Stores.{sets-append}
 use Rattle.pouring.specs.Pouring.{pour}
 
 -- Each of the lists has k entries.

@@ -14,7 +14,7 @@ use borrow.Author.Tests.{not-true, eqb-false, ltb-false}
 use Rattle.theory.specs.Moves.{upfrom}
 use Rattle.theory.specs.Refusals.{some}
 use Rattle.theory.proofs.Moves.{of-flatMap, upfrom-range}
-use Rattle.theory.proofs.Distinct.{Distinct, distinct-upfrom}
+use Rattle.theory.proofs.Distinct.{Distinct, distinct-upfrom, distinct-append}
 use Rattle.nearest.specs.Neighbours.{passing, nearest, nearest-first, neighbours, kept, distance}
 use Rattle.nearest.proofs.Passing.{of-passing}
 use Rattle.branches.specs.Branch.{none-there, goes-on, turns, branch}
@@ -89,11 +89,6 @@ module _ (distances : List Float) (n m count : ℕ) where
           subst (λ (s : List ℕ). (length s ≡ k) × Spaced m 0 s n) (w .2) (ap suc (u .0) ∙ (let y : suc (suc (k - 2)) ≡ k = omega arith in y), (omega (arith, r .0), u .1))
 
 -- ---- no set twice
-
-distinct-append : {A : Type 0} (xs ys : List A) → Distinct xs → Distinct ys → ((z : A) → List·Memᴰ z xs → List·Memᴰ z ys → ⊥) → Distinct (xs ++ ys)
-distinct-append [] ys d e h = e
-distinct-append (x ∷ xs) ys d e h =
-    (λ i. ⊎-elim (d .0) (h x (List·Memᴰ·head refl)) (List·Memᴰ·append-cases xs i), distinct-append xs ys (d .1) e (λ z i. h z (List·Memᴰ·tail i)))
 
 distinct-map : {A B : Type 0} (f : A → B) → ((x y : A) → f x ≡ f y → x ≡ y) → (l : List A) → Distinct l → Distinct (map f l)
 distinct-map f h [] d = tt

@@ -3,4 +3,3 @@ pub mod Passing
 pub mod Found
 pub mod Query
 pub mod Nearness
-pub mod Stores

@@ -8,11 +8,12 @@ use native.Mathlib.Omega.{arith}
 use lib.ListN.{length, take, drop, set, length-map}
 use lib.Seq.{sets, drop-cons, drop-length, take-at}
 use Rattle.theory.specs.Moves.{orders, upfrom, patterns}
-use Rattle.theory.proofs.Index.{length-pattern, mem-getD}
+use Rattle.theory.proofs.Index.{length-pattern, mem-getD, take-upfrom}
 use Rattle.permutations.specs.Rows.{rows, permutations}
 use Rattle.patterns.specs.Enumeration.{CutCount, no-pattern, pattern, orders-of, masks-of}
 use Rattle.patterns.specs.Turn.{middle-orders}
-use Rattle.permutations.proofs.Stores.{sets-append, sets-first}
+use Rattle.theory.proofs.Stores.{sets-append}
+use Rattle.permutations.proofs.Stores.{sets-first}
 use Rattle.patterns.proofs.Strides.{length-flatten}
 use Rattle.patterns.proofs.Counts.{few-patterns, orders-room, middle-room}
 
@@ -20,12 +21,6 @@ rows-nil : (os : List (List ℕ)) → rows [] os ≡ flatten os
 unfolding rows flatten
 rows-nil [] = refl
 rows-nil (o ∷ os) = ap (λ (l : List ℕ). o ++ l) (rows-nil os)
-
-take-upfrom : (f n m : ℕ) → m ≤ n → take m (upfrom f n) ≡ upfrom f m
-unfolding upfrom
-take-upfrom f n zero h = refl
-take-upfrom f zero (suc m) h = absurd (omega arith)
-take-upfrom f (suc n) (suc m) h = ap (λ (l : List ℕ). f ∷ l) (take-upfrom (suc f) n m (omega arith))
 
 -- What the recursion writes for the middle segments.
 all-middles : (k : ℕ) (row : List ℕ) → k ≤ 5 → permutations (1 ∷ 2 ∷ 3 ∷ 4 ∷ []) (k - 1) row 0 ≡ flatten (middle-orders k)

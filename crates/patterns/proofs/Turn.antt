@@ -10,7 +10,7 @@ use lib.Seq.{sets}
 use lib.Pow.{pow-pos, pow-mono}
 use Rattle.theory.specs.Moves.{Pattern, patterns, factorial}
 use Rattle.theory.proofs.Index.{pattern-at}
-use Rattle.permutations.proofs.Stores.{sets-append}
+use Rattle.theory.proofs.Stores.{sets-append}
 use Rattle.patterns.specs.Enumeration.{no-pattern, pattern}
 use Rattle.patterns.specs.Turn.{middle-orders, Ready}
 use Rattle.patterns.proofs.Strides.{length-flatten, row-at}

@@ -10,7 +10,8 @@ use Rattle.theory.specs.Moves.{picks, orders}
 use Rattle.theory.proofs.Moves.{length-picks}
 use Rattle.theory.proofs.Index.{picks-at}
 use Rattle.permutations.specs.Rows.{rows, permutations}
-use Rattle.permutations.proofs.Stores.{sets-append, sets-cons}
+use Rattle.theory.proofs.Stores.{sets-append}
+use Rattle.permutations.proofs.Stores.{sets-cons}
 
 rows-append : (front : List ℕ) (xs ys : List (List ℕ)) → rows front (xs ++ ys) ≡ rows front xs ++ rows front ys
 unfolding rows flatten

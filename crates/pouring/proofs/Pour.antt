@@ -69,11 +69,6 @@ module _ (capacity k : ℕ) where
   pub poured-most : (ss : List (List ℕ)) (seen : ℕ) (out : List ℕ) (seen′ : ℕ) (out′ : List ℕ) → (seen′, out′) ≡ pour capacity k seen out ss → seen ≤ capacity + 1 → seen′ ≤ capacity + 1
   poured-most ss seen out seen′ out′ e h = omega (arith, ap (λ (x : ℕ × List ℕ). x .0) e, pour-most ss seen out h)
 
--- A turn of the loop that copies: the store of the one at j, and then the rest.
-pub store-next : (l part : List ℕ) (at j : ℕ) → j < length part →
-    sets (set l (at + j) (getD part j 0)) (at + (j + 1)) (drop (j + 1) part) ≡ sets l (at + j) (drop j part)
-store-next l part at j h = rw (add-one j, add-suc at j, drop-cons part j 0 h)
-
 -- ---- the last cut
 
 pub places-left : (k capacity seen lent : ℕ) → seen < capacity → capacity * k ≤ lent → seen * k + k ≤ lent

@@ -6,7 +6,7 @@ use Prim.Native.Nat.{ℕ, zero, suc, _+_, _-_, _<_, _≤_}
 use native.Mathlib.Numerals.{add-one}
 use native.Mathlib.Omega.{arith}
 use lib.ListN.{length, getD, take, drop, length-append, length-take, length-drop, drop-of-length-le, List·getD-append}
-use lib.Seq.{drop-cons, getD-at, take-at, take-all}
+use lib.Seq.{drop-cons, getD-at, take-at, take-all, take-nil}
 use Rattle.theory.specs.Moves.{Rising}
 use Rattle.theory.specs.Route.{segments, reverses, reverse-if, placed, joined, reconnected}
 use Rattle.theory.proofs.Moves.{total-ones}
@@ -22,14 +22,10 @@ bound-cut cs n i h k = let e : i ≡ suc (i - 1) = omega arith in ap (bound cs n
 pub bound-end : (cs : List ℕ) (n i : ℕ) → i ≡ length cs + 1 → bound cs n i ≡ n
 bound-end cs n i h = rw (h, add-one) (getD-at cs n [] 0 (length cs) refl)
 
-take-none : (n : ℕ) → take {A = ℕ} n [] ≡ []
-take-none zero = refl
-take-none (suc n) = refl
-
 drop-take : (a b : ℕ) (l : List ℕ) → drop a (take b l) ≡ take (b - a) (drop a l)
 drop-take zero b l = let e : b - 0 ≡ b = omega arith in rw e
 drop-take (suc a) zero l = let e : 0 - suc a ≡ 0 = omega arith in rw e
-drop-take (suc a) (suc b) [] = let e : take (suc b - suc a) [] ≡ [] = take-none (suc b - suc a) in sym e
+drop-take (suc a) (suc b) [] = let e : take (suc b - suc a) [] ≡ [] = take-nil (suc b - suc a) in sym e
 drop-take (suc a) (suc b) (x ∷ l) = let e : suc b - suc a ≡ b - a = omega arith in rw e (drop-take a b l)
 
 -- Segment i lies between two bounds.

@@ -19,6 +19,7 @@ use Rattle.joints.proofs.States.{halves}
 use Rattle.joints.proofs.Ends.{part-slice, entry-at, exit-at}
 use Rattle.shared.specs.Bound.{exit-of, joint-by, fixed-by, opened, last-state}
 use Rattle.room.proofs.Bound.{After, Still, Moving, before-still, after-still}
+use Rattle.shared.proofs.Keeping.{long}
 
 -- ---- another last cut
 
@@ -29,9 +30,6 @@ other-rising : (n low : ℕ) (pre : List ℕ) (c c′ : ℕ) → 1 ≤ length pr
 other-rising n low [] c c′ h r l m = absurd (omega arith)
 other-rising n low (a ∷ []) c c′ h r l m = (r .0, r .1, (l, m, tt))
 other-rising n low (a ∷ b ∷ pre) c c′ h r l m = (r .0, r .1, other-rising n (suc a) (b ∷ pre) c c′ (omega arith) (r .2) (rw (deeper a b pre) at l) m)
-
-long : (pre : List ℕ) (c : ℕ) → length (pre ++ (c ∷ [])) ≡ suc (length pre)
-long pre c = simp length-append (omega arith)
 
 pub other-cut : (n : ℕ) (pre : List ℕ) (c c′ : ℕ) → 1 ≤ length pre → CutSet (length (pre ++ (c ∷ []))) n (pre ++ (c ∷ [])) → getD pre (length pre - 1) 0 < c′ → c′ ≤ n →
     CutSet (length (pre ++ (c′ ∷ []))) n (pre ++ (c′ ∷ []))

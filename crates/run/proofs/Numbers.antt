@@ -12,6 +12,7 @@ use Rattle.states.specs.States.{number-of, examined-of}
 use Rattle.states.proofs.Values.{four-values}
 use Rattle.round.specs.Round.{Outcome}
 use Rattle.run.specs.Run.{numbers, examined-in}
+use Rattle.theory.proofs.Route.{total-same, total-shift}
 
 of-four : (v w : List ℕ) (p : ℕ) → length v ≡ 4 → p < 4 → getD (v ++ w) p 0 ≡ getD v p 0
 of-four v w p h l = List·getD-append v w 0 p (omega (arith, h, l))
@@ -49,16 +50,6 @@ number-at (o ∷ os) rest (suc i) h =
 unfoldable pub taken : List Outcome → ℕ
 taken [] = 0
 taken (o ∷ os) = examined-of (o .state) + taken os
-
-total-same : (f g : ℕ → ℕ) → ((i : ℕ) → f i ≡ g i) → (l : List ℕ) → total f l ≡ total g l
-unfolding total
-total-same f g e [] = refl
-total-same f g e (x ∷ l) = rw (e x, total-same f g e l)
-
-total-shift : (g : ℕ → ℕ) (a n : ℕ) → total g (upfrom (suc a) n) ≡ total (λ i. g (suc i)) (upfrom a n)
-unfolding total upfrom
-total-shift g a zero = refl
-total-shift g a (suc n) = ap (λ (x : ℕ). g (suc a) + x) (total-shift g (suc a) n)
 
 pub taken-is : (os : List Outcome) (rest : List ℕ) → examined-in (numbers os ++ rest) (length os) ≡ taken os
 unfolding taken total upfrom

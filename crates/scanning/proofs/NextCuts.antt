@@ -13,10 +13,7 @@ use Rattle.theory.proofs.Delta.{upfrom-snoc}
 use Rattle.theory.proofs.Walk.{next-stuck, next-moves, next-under}
 use Rattle.shared.specs.Bound.{opened}
 use Rattle.shared.specs.Kept.{Opened}
-use Rattle.shared.proofs.Keeping.{last-of-cuts}
-
-long : (pre : List ℕ) (c : ℕ) → length (pre ++ (c ∷ [])) ≡ suc (length pre)
-long pre c = simp length-append (omega arith)
+use Rattle.shared.proofs.Keeping.{last-of-cuts, long}
 
 opened-so : (pre : List ℕ) → 1 ≤ length pre → Opened (opened pre)
 opened-so pre h =

@@ -1,6 +1,6 @@
 -- Where the route keeps every deadline and the dues of the states are known, a shorter pattern improves exactly where its row is in time. Assumes nothing.
 use mathlib.Core.Path.{_≡_, refl, sym, ap, _∙_}
-use mathlib.Core.Bool.{Bool, true, false, _&&_}
+use mathlib.Core.Bool.{Bool, true, false, _&&_, and-true, and-false}
 use mathlib.Core.List.{List}
 use Prim.Native.Nat.{ℕ, _+_, _-_, _*_, _^_, _≤_, _<_}
 use native.Mathlib.Decide.{decLt}
@@ -24,11 +24,7 @@ use Rattle.dues.proofs.InTime.{row-kept, row-known}
 use Rattle.walking.specs.Parts.{head, middle}
 use Rattle.walking.proofs.MiddleOnly.{middle-only}
 use Rattle.search.specs.Gain.{gains, due-gain, Tabled, FirstGain, NextShorter, DueRows, FirstDue}
-use Rattle.search.proofs.Gain.{and-false, not-shorter, chains}
-
-and-true : (b : Bool) → (b && true) ≡ b
-and-true true = refl
-and-true false = refl
+use Rattle.search.proofs.Gain.{not-shorter, chains}
 
 module _ {locations : ℕ} {legs latest : List ℕ} {depot : ℕ} {r cs orders masks rows J : List ℕ} {limit : ℕ} (D : List ℕ)
     (given : Tabled locations legs latest depot r cs orders masks rows J limit) (dues : DuesOf (problem locations legs latest 0) cs r D)

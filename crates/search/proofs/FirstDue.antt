@@ -1,6 +1,6 @@
 -- The steps of the loop over the rows that are left in time. Assumes nothing.
 use mathlib.Core.Path.{_≡_, refl, sym, ap, _∙_}
-use mathlib.Core.Bool.{Bool, true, false, _&&_}
+use mathlib.Core.Bool.{Bool, true, false, _&&_, and-false}
 use mathlib.Core.List.{List}
 use Prim.Native.Nat.{ℕ, _+_, _*_, _≤_, _<_}
 use native.Mathlib.Omega.{arith}
@@ -13,10 +13,6 @@ use Rattle.joints.specs.States.{row}
 use Rattle.joints.specs.JointTable.{chain}
 use Rattle.dues.specs.Due.{in-time, RowTimed}
 use Rattle.search.specs.Gain.{due-gain, Chains, NextShorter, DueRows, FirstDue}
-
-and-false : (b : Bool) → (b && false) ≡ false
-and-false true = refl
-and-false false = refl
 
 module _ {J rows D : List ℕ} {m clock below shorter limit : ℕ} (given : DueRows J rows D m clock below shorter limit) where
   abbrev timed : ℕ → Bool

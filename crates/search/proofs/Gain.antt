@@ -1,6 +1,6 @@
 -- The scan's test of a candidate, from its chain in the joint table and its deadlines. Assumes nothing.
 use mathlib.Core.Path.{_≡_, refl, sym, ap, _∙_}
-use mathlib.Core.Bool.{Bool, true, false, _&&_}
+use mathlib.Core.Bool.{Bool, true, false, _&&_, and-false}
 use mathlib.Core.List.{List}
 use Prim.Native.Nat.{ℕ, _+_, _*_, _≤_, _<_}
 use native.Mathlib.Omega.{arith}
@@ -9,10 +9,9 @@ use borrow.Author.Count.{below-more}
 use borrow.Author.Tests.{lt-ltb, le-ltb}
 use lib.Dec.{ltb}
 use lib.ListN.{length}
-use Rattle.theory.specs.Route.{feasible}
+use Rattle.theory.specs.Route.{feasible, on-time}
 use Rattle.theory.specs.Tables.{problem, pattern-rows}
 use Rattle.theory.specs.Polish.{move-at}
-use Rattle.theory.proofs.Clock.{on-time}
 use Rattle.theory.proofs.Rows.{listed-for-k}
 use Rattle.joints.specs.States.{row, standing-row}
 use Rattle.joints.specs.JointTable.{chain, JointOf}
@@ -24,10 +23,6 @@ use Rattle.walking.specs.Parts.{head, after-head, WalkFrom, Candidate, Candidat
 use Rattle.search.specs.Gain.{gains, Gainable, Chains, NextShorter, Tabled, FirstGain}
 use Rattle.walking.proofs.Candidate.{for-k}
 use Rattle.walking.proofs.Parts.{behind-head, head-late}
-
-pub and-false : (b : Bool) → (b && false) ≡ false
-and-false true = refl
-and-false false = refl
 
 module _ {locations : ℕ} {legs latest : List ℕ} {depot : ℕ} {r cs orders masks rows J : List ℕ} {limit : ℕ}
     (given : Tabled locations legs latest depot r cs orders masks rows J limit) where

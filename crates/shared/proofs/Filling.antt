@@ -13,16 +13,8 @@ use lib.ListN.{getD, set, length-set}
 use lib.Seq.{getD-set-same, getD-set-other}
 use Rattle.costs.specs.RouteCosts.{leg}
 use Rattle.joints.specs.JointTable.{cell, Padded}
-use Rattle.joints.proofs.Rows.{set-small}
+use Rattle.joints.proofs.Rows.{set-small, padded-set}
 use Rattle.shared.specs.Filling.{fixed-cell, FixedRowFits, FixedRow, Fixable, FixedRows, FixedTable}
-
-padded-set : (table : List ℕ) (a b v : ℕ) → Padded table → a ≢ 8 → b < 16 → v ≤ 2 ^ 40 → Padded (set table (16 * a + b) v)
-padded-set table a b v p n h s =
-    record {
-      places = length-set table (16 * a + b) v ∙ p .places;
-      padding = getD-set-other table (16 * a + b) 136 v 0 (λ q. n (omega arith)) ∙ p .padding;
-      small = λ c. set-small table (16 * a + b) v c (2 ^ 40) s (λ q. p .small c);
-    }
 
 pub none-filled : (locations : ℕ) (legs : List ℕ) (from : ℕ) (entries inside : List ℕ) (a : ℕ) (table : List ℕ) → Padded table → FixedRow locations legs from 0 entries inside a table table
 none-filled locations legs from entries inside a table p = record { padded = p; next = λ b h. absurd (omega arith); others = λ c h. refl }

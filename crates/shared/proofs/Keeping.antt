@@ -47,7 +47,7 @@ cuts-opened cuts h o =
     cuts-parted cuts (omega arith) ∙ ap (λ x. first-cuts cuts ++ (x ∷ [])) (o ∙ ap suc (sym (ap (λ i. getD (first-cuts cuts) i 0) e ∙ first-at cuts (length cuts - 2) (omega arith))))
 
 -- The first cuts with a last one put behind.
-long : (pre : List ℕ) (c : ℕ) → length (pre ++ (c ∷ [])) ≡ suc (length pre)
+pub long : (pre : List ℕ) (c : ℕ) → length (pre ++ (c ∷ [])) ≡ suc (length pre)
 long pre c = simp length-append (omega arith)
 
 pub first-of-cuts : (pre : List ℕ) (c : ℕ) → first-cuts (pre ++ (c ∷ [])) ≡ pre

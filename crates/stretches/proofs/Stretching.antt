@@ -1,6 +1,6 @@
 -- A stretch, over plain lists: what holds at each turn, and what each end of a turn gives. Assumes nothing.
 use mathlib.Core.Path.{_≡_, refl, sym, ap, _∙_}
-use mathlib.Core.Bool.{Bool, true, false, true≢false, _&&_}
+use mathlib.Core.Bool.{Bool, true, false, true≢false, _&&_, and-false}
 use mathlib.Core.Logic.{inl}
 use mathlib.Core.List.{List, [], _∷_, _++_}
 use Prim.Native.Nat.{ℕ, zero, suc, min, _+_, _-_, _*_, _≤_, _<_}
@@ -38,10 +38,6 @@ pub record Going (locations : ℕ) (legs latest : List ℕ) (depot : ℕ) (order
   pub places : length spare ≡ 512
   pub held : DuesHeld (problem locations legs latest 0) r (first-cuts cuts₀) dues
   pub behind : getD dues 8 0 ≤ last-cut cuts
-
-and-false : (b : Bool) → (b && false) ≡ false
-and-false true = refl
-and-false false = refl
 
 -- ---- the last cut as the array has it
 

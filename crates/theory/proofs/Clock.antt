@@ -9,13 +9,8 @@ use lib.Dec.{leb}
 use lib.ListN.{length, getD, take, drop}
 use lib.Seq.{drop-cons, drop-length}
 use borrow.Author.Tests.{leb-true, le-leb}
-use Rattle.theory.specs.Route.{Problem, path, arrival, feasible}
+use Rattle.theory.specs.Route.{Problem, path, arrival, feasible, on-time}
 use Rattle.theory.proofs.Route.{feasible-iff}
-
--- From a at time t along the rest of the route: no stop is late.
-unfoldable pub on-time : Problem → ℕ → ℕ → List ℕ → Bool
-on-time P a t [] = true
-on-time P a t (x ∷ xs) = leb (t + P .leg a x) (P .latest x) && on-time P x (t + P .leg a x) xs
 
 on-time-iff : (P : Problem) (a t : ℕ) (r : List ℕ) →
     (on-time P a t r ≡ true) ↔ ((i : ℕ) → i < length r → t + path (P .leg) a (take (suc i) r) ≤ P .latest (getD r i 0))

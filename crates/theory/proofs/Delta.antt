@@ -18,12 +18,12 @@ use Rattle.theory.proofs.Costs.{delta, Full, none, more, through-path, 
 use Rattle.theory.proofs.Orders.{in-range}
 use Rattle.theory.proofs.Moves.{Shape}
 
-flatten-append : (xs ys : List (List ℕ)) → flatten (xs ++ ys) ≡ flatten xs ++ flatten ys
+pub flatten-append : (xs ys : List (List ℕ)) → flatten (xs ++ ys) ≡ flatten xs ++ flatten ys
 unfolding flatten
 flatten-append [] ys = refl
 flatten-append (x ∷ xs) ys = rw (flatten-append xs ys, append-assoc x (flatten xs) (flatten ys))
 
-placed-append : (mask : ℕ) (ps : List (List ℕ)) (xs ys : List ℕ) → placed mask ps (xs ++ ys) ≡ placed mask ps xs ++ placed mask ps ys
+pub placed-append : (mask : ℕ) (ps : List (List ℕ)) (xs ys : List ℕ) → placed mask ps (xs ++ ys) ≡ placed mask ps xs ++ placed mask ps ys
 unfolding placed
 placed-append mask ps [] ys = refl
 placed-append mask ps (x ∷ xs) ys = ap (λ l. reverse-if (reverses mask x) (getD ps x []) ∷ l) (placed-append mask ps xs ys)

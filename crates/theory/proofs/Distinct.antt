@@ -12,7 +12,7 @@ abbrev pub Distinct : {A : Type 0} → List A → Type 0
 Distinct [] = Unit {0}
 Distinct (x ∷ xs) = (List·Memᴰ x xs → ⊥) × Distinct xs
 
-distinct-append : {A : Type 0} (xs ys : List A) → Distinct xs → Distinct ys → ((z : A) → List·Memᴰ z xs → List·Memᴰ z ys → ⊥) → Distinct (xs ++ ys)
+pub distinct-append : {A : Type 0} (xs ys : List A) → Distinct xs → Distinct ys → ((z : A) → List·Memᴰ z xs → List·Memᴰ z ys → ⊥) → Distinct (xs ++ ys)
 distinct-append [] ys d e h = e
 distinct-append (x ∷ xs) ys d e h =
     (λ i. ⊎-elim (d .0) (h x (List·Memᴰ·head refl)) (List·Memᴰ·append-cases xs i), distinct-append xs ys (d .1) e (λ z i. h z (List·Memᴰ·tail i)))

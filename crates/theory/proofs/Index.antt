@@ -24,6 +24,12 @@ module _ {A B : Type 0} (f : A → List B) (n : ℕ) (e : A) (d : B) where
       let z : suc q * n + r ≡ length (f x) + (q * n + r) = omega (arith, h x (List·Memᴰ·head refl), suc-mul q n) in
       rw z (getD-append-add (f x) (flatMap f xs) (q * n + r) d ∙ getD-flatMap xs (λ y i. h y (List·Memᴰ·tail i)) q r (omega arith) hr)
 
+pub take-upfrom : (f n k : ℕ) → k ≤ n → take k (upfrom f n) ≡ upfrom f k
+unfolding upfrom
+take-upfrom f n zero h = refl
+take-upfrom f zero (suc k) h = absurd (omega arith)
+take-upfrom f (suc n) (suc k) h = ap (λ (l : List ℕ). f ∷ l) (take-upfrom (suc f) n k (omega arith))
+
 pub getD-upfrom : (f n i d : ℕ) → i < n → getD (upfrom f n) i d ≡ f + i
 unfolding upfrom
 getD-upfrom f zero i d h = absurd (omega arith)

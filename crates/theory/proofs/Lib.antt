@@ -23,3 +23,4 @@ pub mod Judged
 pub mod ForK
 pub mod Rows
 pub mod Polishing
+pub mod Stores

@@ -31,7 +31,7 @@ unfolding total flatten
 total-flatten g f [] = refl
 total-flatten g f (i ∷ o) = omega (arith, total-append g (f i) (flatten (map f o)), total-flatten g f o)
 
-total-same : (g h : ℕ → ℕ) → ((x : ℕ) → g x ≡ h x) → (l : List ℕ) → total g l ≡ total h l
+pub total-same : (g h : ℕ → ℕ) → ((x : ℕ) → g x ≡ h x) → (l : List ℕ) → total g l ≡ total h l
 unfolding total
 total-same g h e [] = refl
 total-same g h e (x ∷ l) = ap₂ _+_ (e x) (total-same g h e l)

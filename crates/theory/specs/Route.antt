@@ -2,7 +2,7 @@
 use mathlib.Core.Bool.{Bool, true, false, _&&_, not, cond}
 use mathlib.Core.List.{List, [], _∷_, _++_, map, flatten, reverse}
 use Prim.Native.Nat.{ℕ, zero, suc, _+_, _/_, _%_, _^_, _≤_, _<_}
-use lib.Dec.{ltb, eqb}
+use lib.Dec.{ltb, leb, eqb}
 use lib.ListN.{length, getD, take, drop}
 use lib.Seq.{slice}
 use Rattle.theory.specs.Moves.{Pattern, Move, total}
@@ -78,3 +78,8 @@ feasible P r = every (length r) (λ i. not (late P r i))
 -- "A round keeps every deadline when none of its stops is late."
 abbrev pub Feasible : Problem → List ℕ → Type 0
 Feasible P r = (i : ℕ) → i < length r → arrival P r i ≤ P .latest (getD r i 0)
+
+-- The same as a clock runs: from a at second t along the rest of the route, no stop is late.
+unfoldable pub on-time : Problem → ℕ → ℕ → List ℕ → Bool
+on-time P a t [] = true
+on-time P a t (x ∷ xs) = leb (t + P .leg a x) (P .latest x) && on-time P x (t + P .leg a x) xs

@@ -5,11 +5,10 @@ use mathlib.Core.List.{List, [], _++_}
 use Prim.Native.Nat.{ℕ}
 use lib.ListN.{length, getD}
 use Rattle.theory.specs.Moves.{Move}
-use Rattle.theory.specs.Route.{Problem}
+use Rattle.theory.specs.Route.{Problem, on-time}
 use Rattle.theory.specs.Polish.{move-at}
 use Rattle.theory.specs.Tables.{ForK, pattern-rows}
 use Rattle.theory.proofs.Rows.{lent-row, lent-at, listed-for-k}
-use Rattle.theory.proofs.Clock.{on-time}
 use Rattle.costs.specs.RouteCosts.{Middle}
 use Rattle.costs.proofs.Orders.{pattern-middle}
 use Rattle.deadlines.specs.declared.Walked.{Walked}

@@ -10,10 +10,10 @@ use lib.Dec.{leb}
 use lib.ListN.{length}
 use borrow.Author.Tests.{leb-true, le-leb}
 use Rattle.theory.specs.Moves.{Pattern, upfrom}
-use Rattle.theory.specs.Route.{Problem, segments, reconnected, path, tour-length, feasible}
+use Rattle.theory.specs.Route.{Problem, segments, reconnected, path, tour-length, feasible, on-time}
 use Rattle.theory.specs.Costs.{last-of}
 use Rattle.theory.specs.Tables.{CutSet, ForK}
-use Rattle.theory.proofs.Clock.{on-time, feasible-on-time}
+use Rattle.theory.proofs.Clock.{feasible-on-time}
 use Rattle.theory.proofs.Costs.{path-append}
 use Rattle.theory.proofs.Delta.{changes-nothing}
 use Rattle.theory.proofs.Route.{flatten-segments, length-segments}

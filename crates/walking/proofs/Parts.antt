@@ -7,14 +7,14 @@ use native.Mathlib.Nat.{pow-suc}
 use native.Mathlib.Numerals.{add-one}
 use native.Mathlib.Omega.{arith}
 use lib.ListN.{length, getD, take, drop, length-take, length-drop}
-use lib.Seq.{slice, slice-cons, slice-empty, take-all, getD-take, getD-drop}
+use lib.Seq.{slice, slice-cons, slice-empty, take-all, getD-take, getD-drop, take-nil}
 use Rattle.theory.specs.Moves.{Pattern}
-use Rattle.theory.specs.Route.{segments, reverses, reverse-if, placed, joined, reconnected, feasible}
+use Rattle.theory.specs.Route.{segments, reverses, reverse-if, placed, joined, reconnected, feasible, on-time}
 use Rattle.theory.specs.Tables.{problem, Stops, CutSet, ForK}
-use Rattle.theory.proofs.Clock.{on-time, feasible-on-time}
-use Rattle.theory.proofs.Delta.{even-head, small-tail}
+use Rattle.theory.proofs.Clock.{feasible-on-time}
+use Rattle.theory.proofs.Delta.{even-head, small-tail, flatten-append, placed-append}
 use Rattle.costs.proofs.Orders.{middle-is}
-use Rattle.costs.proofs.Segments.{segment-is}
+use Rattle.costs.proofs.Segments.{segment-is, head-at, tail-at}
 use Rattle.deadlines.specs.declared.Walked.{Walked}
 use Rattle.deadlines.specs.Walk.{Walks}
 use Rattle.deadlines.proofs.Walking.{Going, set-out, part-walked, part-late, any-depot}
@@ -22,29 +22,12 @@ use Rattle.walking.specs.Parts.{head, middle, tail, after-head}
 
 -- ---- where the parts lie
 
-take-none : (n : ℕ) → take {A = ℕ} n [] ≡ []
-take-none zero = refl
-take-none (suc n) = refl
-
 -- A part as code lends it, `&route[a..b]`.
 lent : (a b : ℕ) (l : List ℕ) → slice a b l ≡ take (b - a) (drop a l)
 lent zero b l = let e : b - 0 ≡ b = omega arith in rw e
 lent (suc a) zero l = let e : 0 - suc a ≡ 0 = omega arith in rw e
-lent (suc a) (suc b) [] = let e : take (suc b - suc a) [] ≡ [] = take-none (suc b - suc a) in sym e
+lent (suc a) (suc b) [] = let e : take (suc b - suc a) [] ≡ [] = take-nil (suc b - suc a) in sym e
 lent (suc a) (suc b) (x ∷ l) = let e : suc b - suc a ≡ b - a = omega arith in rw e (lent a b l)
-
-head-at : (cs r : List ℕ) → 0 < length cs → getD (segments 0 cs r) 0 [] ≡ take (getD cs 0 0) r
-unfolding segments
-head-at [] r h = absurd (omega arith)
-head-at (c ∷ cs) r h = refl
-
-tail-at : (from : ℕ) (cs r : List ℕ) → 0 < length cs → getD (segments from cs r) (length cs) [] ≡ drop (getD cs (length cs - 1) 0) r
-unfolding segments
-tail-at from [] r h = absurd (omega arith)
-tail-at from (c ∷ []) r h = refl
-tail-at from (c ∷ d ∷ cs) r h =
-    let e : suc (suc (length cs)) - 1 ≡ suc (suc (length cs) - 1) = omega arith in
-    rw e (tail-at c (d ∷ cs) r (omega arith))
 
 module _ (cs r : List ℕ) (cut-set : CutSet (length cs) (length r) cs) where
   pub head-lent : take (getD cs 0 0 - 0) (drop 0 r) ≡ head r cs
@@ -85,16 +68,6 @@ unfolding rest
 begun locations legs latest from clock r cs order mask = set-out (problem locations legs latest 0) from clock (middle r cs order mask)
 
 -- ---- the candidate as its parts
-
-flatten-append : (xs ys : List (List ℕ)) → flatten (xs ++ ys) ≡ flatten xs ++ flatten ys
-unfolding flatten
-flatten-append [] ys = refl
-flatten-append (x ∷ xs) ys = rw (flatten-append xs ys, append-assoc x (flatten xs) (flatten ys))
-
-placed-append : (mask : ℕ) (ps : List (List ℕ)) (xs ys : List ℕ) → placed mask ps (xs ++ ys) ≡ placed mask ps xs ++ placed mask ps ys
-unfolding placed
-placed-append mask ps [] ys = refl
-placed-append mask ps (x ∷ xs) ys = ap (λ l. reverse-if (reverses mask x) (getD ps x []) ∷ l) (placed-append mask ps xs ys)
 
 joined-parts : (o : List ℕ) (k mask : ℕ) (ps : List (List ℕ)) → reverses mask 0 ≡ false → reverses mask k ≡ false →
     joined (record { order = 0 ∷ (o ++ (k ∷ [])); mask = mask }) ps ≡ getD ps 0 [] ++ (flatten (placed mask ps o) ++ getD ps k [])

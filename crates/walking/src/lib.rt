@@ -3,10 +3,9 @@ use deadlines::Walked;
 ghost use mathlib.Core.Path.{_≡_};
 ghost use mathlib.Core.List.{[]};
 ghost use lib.ListN.{length, getD};
-ghost use Rattle.theory.specs.Route.{segments, reverses, reverse-if};
+ghost use Rattle.theory.specs.Route.{segments, reverses, reverse-if, on-time};
 ghost use Rattle.theory.specs.Polish.{move-at};
 ghost use Rattle.theory.specs.Tables.{problem, pattern-rows};
-ghost use Rattle.theory.proofs.Clock.{on-time};
 ghost use Rattle.deadlines.specs.Walk.{WalkedPart};
 ghost use Rattle.walking.specs.Parts.{head, middle, tail, after-head, WalkFrom, SegmentWalk, MiddleWalk, WalkedMiddle, CandidateWalk, HeadTimed, HeadClock};
 

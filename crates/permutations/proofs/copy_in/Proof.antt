@@ -6,7 +6,7 @@ use native.Mathlib.Omega.{arith}
 use lib.ListN.{length, drop, length-set}
 use lib.Seq.{sets, drop-length}
 use borrow.Author.Needs.{needs}
-use Rattle.permutations.proofs.Stores.{store-next}
+use Rattle.theory.proofs.Stores.{store-next}
 use Rattle.permutations.proofs.copy_in.Statement.{statement}
 use Rattle.permutations.proofs.copy_in.Tie as tie
 

@@ -4,7 +4,7 @@ use Prim.Native.Nat.{_≤_, _-_, _+_, ℕ}
 use native.Mathlib.Nat.{add-zero}
 use lib.ListN.{length, drop, length-set}
 use lib.Seq.{sets, drop-length}
-use Rattle.pouring.proofs.Pour.{store-next}
+use Rattle.theory.proofs.Stores.{store-next}
 use native.Mathlib.Omega.{arith}
 use borrow.Author.Needs.{needs}
 use Rattle.pouring.proofs.put_set.Statement.{statement}
