@@ -1,6 +1,21 @@
 // Replays the stored answers of the unchanged Rust: the file stdout beside src/ is written from them by tools/store-answers, and this program
 // prints what the library answers for the same inputs, which both draw by the rule of `next`, `draw` and `fill`.
 
+fn write(line: &[u8]) {
+    let _ = io::write_all(1, line);
+}
+
+// A line of a call: its refusal number and result, and the stops that it left.
+fn show_line(call: &[u8], refused: u32, result: &[u64], name: &[u8], stops: &[u32]) {
+    let mut line = [0u8; 1024];
+    let number = replay::put_number(call, refused as u64, &mut line, 0);
+    let told = replay::put_numbers(result, &mut line, number);
+    let word = replay::put(name, &mut line, told);
+    let left = replay::put_stops(stops, &mut line, word);
+    let end = replay::put(b"\n", &mut line, left);
+    write(&line[..end]);
+}
+
 // The number that follows.
 fn next(state: u16) -> u16 {
     ((state as u32 * 25173 + 13849) % 65536) as u16
@@ -56,10 +71,7 @@ fn show_polish(seed: u16, route: &mut [u32]) {
         route,
         &mut result,
     );
-    replay::say_number(b"polish ", refused as u64);
-    replay::say_numbers(b"", &result);
-    replay::say_stops(b" route", &route[..]);
-    replay::say(b"\n");
+    show_line(b"polish ", refused, &result, b" route", &route[..]);
 }
 
 // Three rounds; the middle one is short, and pinned for every other four seeds.
@@ -84,10 +96,7 @@ fn show_run(seed: u16) {
         &[0, pin, 0],
         &mut result,
     );
-    replay::say_number(b"run ", refused as u64);
-    replay::say_numbers(b"", &result);
-    replay::say_stops(b" stops", &stops);
-    replay::say(b"\n");
+    show_line(b"run ", refused, &result, b" stops", &stops);
 }
 
 // Twelve positions; distances to 7, so that many are equal.
@@ -105,10 +114,13 @@ fn show_nearby(seed: u16) {
         &mut sets,
         &mut result,
     );
-    replay::say_number(b"nearby ", refused as u64);
-    replay::say_numbers(b"", &result);
-    replay::say_places(b" sets", &sets);
-    replay::say(b"\n");
+    let mut line = [0u8; 1024];
+    let number = replay::put_number(b"nearby ", refused as u64, &mut line, 0);
+    let told = replay::put_numbers(&result, &mut line, number);
+    let word = replay::put(b" sets", &mut line, told);
+    let left = replay::put_places(&sets, &mut line, word);
+    let end = replay::put(b"\n", &mut line, left);
+    write(&line[..end]);
 }
 
 fn show_move(k: usize, pattern: usize, rounds: &[usize], cuts: &[usize]) {
@@ -123,10 +135,14 @@ fn show_move(k: usize, pattern: usize, rounds: &[usize], cuts: &[usize]) {
         &mut route,
         &mut journal,
     );
-    replay::say_number(b"move ", refused as u64);
-    replay::say_stops(b" route", &route);
-    replay::say_stops(b" journal", &journal);
-    replay::say(b"\n");
+    let mut line = [0u8; 1024];
+    let number = replay::put_number(b"move ", refused as u64, &mut line, 0);
+    let stops = replay::put(b" route", &mut line, number);
+    let left = replay::put_stops(&route, &mut line, stops);
+    let old = replay::put(b" journal", &mut line, left);
+    let put = replay::put_stops(&journal, &mut line, old);
+    let end = replay::put(b"\n", &mut line, put);
+    write(&line[..end]);
 }
 
 fn show_moves(i: u16) {

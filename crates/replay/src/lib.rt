@@ -1,58 +1,93 @@
-// What the programs that replay runs write: words, and numbers after them.
+// Lines of the programs that replay runs, put into lent bytes: words, and numbers behind them. What does not fit is left out, so that any line can be asked for. Writing is left to the programs.
+ghost use mathlib.Core.Path.{_≡_};
+ghost use mathlib.Core.List.{_++_};
+ghost use Prim.Native.Nat.{min, _≤_};
+ghost use lib.ListN.{length, take};
+ghost use Rattle.decimal.specs.Decimal.{digits};
+ghost use Rattle.replay.specs.Line.{spaced, Reaches};
 
-pub fn say(text: &[u8]) {
-    let _ = io::write_all(1, text);
-}
-
-fn decimal(n: u64) {
-    let _ = io::print_decimal(1, n);
-}
-
-pub fn say_number(word: &[u8], n: u64) {
-    say(word);
-    decimal(n);
-}
-
-pub fn say_numbers(word: &[u8], numbers: &[u64]) {
-    say(word);
-    for i in 0..numbers.len() {
-        say_number(b" ", numbers[i]);
+fn least(a: usize, b: usize) -> usize
+    ensures { λ r. ⌜ r ≡ min a b ⌝ }
+{
+    if a < b {
+        return a;
     }
+    b
 }
 
-fn say_stop(n: u32) {
-    say_number(b" ", n as u64);
-}
-
-pub fn say_stops(word: &[u8], stops: &[u32]) {
-    say(word);
-    for i in 0..stops.len() {
-        say_stop(stops[i]);
+// A word from place `at` on; where it ends.
+pub fn put(word: &[u8], line: &mut [u8], at: usize) -> usize
+    ensures { λ r. ⌜ Reaches (now (word .entry)) (now (line .entry)) at (now (line .exit)) r ⌝ }
+    ensures { λ r. ⌜ (r ≤ length (now (line .exit))) × (r ≡ length (take r (now (line .exit)))) ⌝ }
+{
+    let end = line.len();
+    let mut place = least(at, end);
+    let mut i = 0;
+    while i < word.len() {
+        if place < end {
+            line[place] = word[i];
+            place += 1;
+        }
+        i += 1;
     }
+    place
 }
 
-pub fn say_places(word: &[u8], places: &[usize]) {
-    say(word);
-    for i in 0..places.len() {
-        say_number(b" ", places[i] as u64);
+// A word and a number.
+pub fn put_number(word: &[u8], n: u64, line: &mut [u8], at: usize) -> usize
+    ensures { λ r. ⌜ Reaches (now (word .entry) ++ digits n) (now (line .entry)) at (now (line .exit)) r ⌝ }
+    ensures { λ r. ⌜ (r ≤ length (now (line .exit))) × (r ≡ length (take r (now (line .exit)))) ⌝ }
+{
+    let mut places = [0u8; 20];
+    let end = decimal::put_number(n, &mut places, 0);
+    let behind = put(word, line, at);
+    put(&places[..end], line, behind)
+}
+
+// Numbers, each after a space.
+pub fn put_numbers(numbers: &[u64], line: &mut [u8], at: usize) -> usize
+    ensures { λ r. ⌜ Reaches (spaced (now (numbers .entry))) (now (line .entry)) at (now (line .exit)) r ⌝ }
+    ensures { λ r. ⌜ (r ≤ length (now (line .exit))) × (r ≡ length (take r (now (line .exit)))) ⌝ }
+{
+    let mut place = least(at, line.len());
+    let mut i = 0;
+    while i < numbers.len() {
+        place = put_number(b" ", numbers[i], line, place);
+        i += 1;
     }
+    place
 }
 
-// A call's refusal number, or 0, and the numbers of its result.
-pub fn say_result(word: &[u8], refused: u32, result: &[u64]) {
-    say_number(word, refused as u64);
-    say_numbers(b" result", result);
+fn wide(n: u32) -> u64
+    ensures { λ r. ⌜ r ≡ n ⌝ }
+{
+    n as u64
 }
 
-// A call's refusal number, or 0, and the stops of a route.
-pub fn say_route(word: &[u8], refused: u32, route: &[u32]) {
-    say_number(word, refused as u64);
-    say_stops(b"", route);
+// Stops, each after a space.
+pub fn put_stops(numbers: &[u32], line: &mut [u8], at: usize) -> usize
+    ensures { λ r. ⌜ Reaches (spaced (now (numbers .entry))) (now (line .entry)) at (now (line .exit)) r ⌝ }
+    ensures { λ r. ⌜ (r ≤ length (now (line .exit))) × (r ≡ length (take r (now (line .exit)))) ⌝ }
+{
+    let mut place = least(at, line.len());
+    let mut i = 0;
+    while i < numbers.len() {
+        place = put_number(b" ", wide(numbers[i]), line, place);
+        i += 1;
+    }
+    place
 }
 
-// A line: a call's refusal number and result, and the stops that it left.
-pub fn say_line(word: &[u8], refused: u32, result: &[u64], name: &[u8], stops: &[u32]) {
-    say_result(word, refused, result);
-    say_stops(name, stops);
-    say(b"\n");
+// Places, each after a space.
+pub fn put_places(numbers: &[usize], line: &mut [u8], at: usize) -> usize
+    ensures { λ r. ⌜ Reaches (spaced (now (numbers .entry))) (now (line .entry)) at (now (line .exit)) r ⌝ }
+    ensures { λ r. ⌜ (r ≤ length (now (line .exit))) × (r ≡ length (take r (now (line .exit)))) ⌝ }
+{
+    let mut place = least(at, line.len());
+    let mut i = 0;
+    while i < numbers.len() {
+        place = put_number(b" ", numbers[i] as u64, line, place);
+        i += 1;
+    }
+    place
 }

@@ -1,6 +1,22 @@
 // Replays document 01's runs on the pair loop and on nearby cuts, and worked examples of the rulings on what it leaves open, over the library's own
 // entries, a line each: what was asked, and what came back.
 
+fn write(line: &[u8]) {
+    let _ = io::write_all(1, line);
+}
+
+// A line of a run: its refusal number and result, and the stops that it left.
+fn show_run(refused: u32, result: &[u64], stops: &[u32]) {
+    let mut line = [0u8; 1024];
+    let number = replay::put_number(b"run ", refused as u64, &mut line, 0);
+    let word = replay::put(b" result", &mut line, number);
+    let told = replay::put_numbers(result, &mut line, word);
+    let behind = replay::put(b" stops", &mut line, told);
+    let left = replay::put_stops(stops, &mut line, behind);
+    let end = replay::put(b"\n", &mut line, left);
+    write(&line[..end]);
+}
+
 // The pair case of document 01 with an allowance: D, A, B, C, E are 0 to 4.
 fn show_pairs(k: usize, allowance: u64, pin: u8) {
     let legs = [
@@ -45,14 +61,19 @@ fn show_pairs(k: usize, allowance: u64, pin: u8) {
         &[pin],
         &mut result,
     );
-    replay::say_line(b"run ", refused, &result, b" stops", &stops);
+    show_run(refused, &result, &stops);
 }
 
 // What a listing answered, its two numbers, and the buffer.
 fn show_listing(refused: u32, result: &[u64], sets: &[usize]) {
-    replay::say_result(b"nearby ", refused, result);
-    replay::say_places(b" sets", sets);
-    replay::say(b"\n");
+    let mut line = [0u8; 1024];
+    let number = replay::put_number(b"nearby ", refused as u64, &mut line, 0);
+    let word = replay::put(b" result", &mut line, number);
+    let told = replay::put_numbers(result, &mut line, word);
+    let buffer = replay::put(b" sets", &mut line, told);
+    let left = replay::put_places(sets, &mut line, buffer);
+    let end = replay::put(b"\n", &mut line, left);
+    write(&line[..end]);
 }
 
 fn show_nearby(n: usize, distances: &[f64], k: usize, neighbours: usize, sets: &mut [usize]) {
@@ -96,26 +117,39 @@ fn show_rounds(allowance: u64) {
         &[0, 0, 200],
         &mut result,
     );
-    replay::say_line(b"run ", refused, &result, b" stops", &stops);
+    show_run(refused, &result, &stops);
 }
 
 fn show_doable(rounds: &[usize], cuts: &[usize]) {
     let mut result = [9u64; 1];
     let refused = mittenschist::mittenschist_k_opt_is_doable(2, 0, 0, 4, rounds, cuts, &mut result);
-    replay::say_number(b"doable ", refused as u64);
-    replay::say_numbers(b"", &result);
+    let mut line = [0u8; 1024];
+    let number = replay::put_number(b"doable ", refused as u64, &mut line, 0);
+    let end = replay::put_numbers(&result, &mut line, number);
+    write(&line[..end]);
+}
+
+// A refusal number behind a word, and the stops of a route.
+fn show_route(word: &[u8], refused: u32, route: &[u32]) {
+    let mut line = [0u8; 1024];
+    let number = replay::put_number(word, refused as u64, &mut line, 0);
+    let end = replay::put_stops(route, &mut line, number);
+    write(&line[..end]);
 }
 
 fn show_applied(rounds: &[usize], cuts: &[usize], route: &mut [u32], journal: &mut [u32]) {
     let refused = mittenschist::mittenschist_k_opt_do_move(2, 0, 0, rounds, cuts, route, journal);
-    replay::say_route(b" applied ", refused, &route[..]);
-    replay::say_stops(b" journal", &journal[..]);
+    show_route(b" applied ", refused, &route[..]);
+    let mut line = [0u8; 1024];
+    let word = replay::put(b" journal", &mut line, 0);
+    let end = replay::put_stops(&journal[..], &mut line, word);
+    write(&line[..end]);
 }
 
 fn show_undone(route: &mut [u32], journal: &[u32]) {
     let refused = mittenschist::mittenschist_k_opt_undo_move(route, journal);
-    replay::say_route(b" undone ", refused, &route[..]);
-    replay::say(b"\n");
+    show_route(b" undone ", refused, &route[..]);
+    write(b"\n");
 }
 
 // A move at two cuts: whether it can be done, applied, and undone with the first places of its journal.

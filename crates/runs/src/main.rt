@@ -1,8 +1,24 @@
 // Replays document 01's runs on patterns, cut sets and polishing over the library's own entries, a line each: what was asked, and what came back.
 use theory::CutStep;
 
-fn say_byte(n: u8) {
-    replay::say_number(b"", n as u64);
+fn write(line: &[u8]) {
+    let _ = io::write_all(1, line);
+}
+
+fn put_byte(n: u8, line: &mut [u8], at: usize) -> usize {
+    replay::put_number(b"", n as u64, line, at)
+}
+
+// A line of a polishing: its refusal number and result, and the stops that it left.
+fn show_polished(refused: u32, result: &[u64], stops: &[u32]) {
+    let mut line = [0u8; 1024];
+    let number = replay::put_number(b"polish ", refused as u64, &mut line, 0);
+    let word = replay::put(b" result", &mut line, number);
+    let told = replay::put_numbers(result, &mut line, word);
+    let route = replay::put(b" route", &mut line, told);
+    let left = replay::put_stops(stops, &mut line, route);
+    let end = replay::put(b"\n", &mut line, left);
+    write(&line[..end]);
 }
 
 // A pattern: its refusal number, order and mask.
@@ -10,16 +26,18 @@ fn show_pattern(k: usize, index: usize) {
     let found = mittenschist::reconnection_at(k, index);
     let pattern = found.reconnection;
     let order = pattern.segment_order;
-    replay::say_number(b"pattern ", found.refusal as u64);
-    replay::say(b" order ");
-    say_byte(order[0]);
-    say_byte(order[1]);
-    say_byte(order[2]);
-    say_byte(order[3]);
-    say_byte(order[4]);
-    say_byte(order[5]);
-    replay::say_number(b" mask ", pattern.reverse_mask as u64);
-    replay::say(b"\n");
+    let mut line = [0u8; 1024];
+    let number = replay::put_number(b"pattern ", found.refusal as u64, &mut line, 0);
+    let word = replay::put(b" order ", &mut line, number);
+    let first = put_byte(order[0], &mut line, word);
+    let second = put_byte(order[1], &mut line, first);
+    let third = put_byte(order[2], &mut line, second);
+    let fourth = put_byte(order[3], &mut line, third);
+    let fifth = put_byte(order[4], &mut line, fourth);
+    let sixth = put_byte(order[5], &mut line, fifth);
+    let mask = replay::put_number(b" mask ", pattern.reverse_mask as u64, &mut line, sixth);
+    let end = replay::put(b"\n", &mut line, mask);
+    write(&line[..end]);
 }
 
 // Steps through the cut sets of four stops, at most 100 of them, and counts them.
@@ -36,8 +54,11 @@ fn count_cut_sets(k: usize, cuts: &mut [usize]) -> u64 {
 }
 
 fn show_cut_sets(k: usize, cuts: &mut [usize]) {
-    replay::say_number(b"cut sets ", count_cut_sets(k, cuts));
-    replay::say(b"\n");
+    let mut line = [0u8; 1024];
+    let count = count_cut_sets(k, cuts);
+    let number = replay::put_number(b"cut sets ", count, &mut line, 0);
+    let end = replay::put(b"\n", &mut line, number);
+    write(&line[..end]);
 }
 
 // The text case T with another k, allowance, longest leg or deadline of location 1.
@@ -56,7 +77,7 @@ fn show_t(k: usize, allowance: u64, leg: u32, latest: u32) {
         &mut route,
         &mut result,
     );
-    replay::say_line(b"polish ", refused, &result, b" route", &route);
+    show_polished(refused, &result, &route);
 }
 
 // A route of one location, as long as the slice.
@@ -74,7 +95,7 @@ fn show_long(route: &mut [u32]) {
         route,
         &mut result,
     );
-    replay::say_line(b"polish ", refused, &result, b" route", &route[..0]);
+    show_polished(refused, &result, &route[..0]);
 }
 
 fn show_patterns() {
