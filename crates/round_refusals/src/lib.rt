@@ -1,4 +1,4 @@
-// The checks of what only a run over rounds or the nearby cuts take, as in crate refusals. No entry: crate mittenschist calls them.
+// The checks of what only a run over rounds or the nearby cuts take, as in crate refusals. No entry: crate judging calls them.
 ghost use mathlib.Core.Path.{_≡_};
 ghost use Prim.Native.Nat.{_≤_};
 ghost use Rattle.theory.specs.Refusals.{number, known-rounds, round-lists, nearby-input};
