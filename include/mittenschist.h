@@ -38,7 +38,7 @@ enum {
     MITTENSCHIST_JOURNAL_LENGTH = 22 /* undo: a journal not as long as the route */
 };
 
-/* ---- The four of document 01 ---- */
+/* ---- Polishing, the run, apply and undo ---- */
 
 /* Polishes a route: cuts it at k places, puts it together by each pattern in turn, keeps the first result that is shorter and keeps every
  * deadline, and begins again; until none is left (finished) or `allowance` candidates have been examined (spent). With 0 for finished it
