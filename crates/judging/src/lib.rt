@@ -1,4 +1,5 @@
-// What a call was handed, judged: for each list of rules a function that gives its refusal number, the first in the one order, or 0.
+// What a call was handed, judged: for each list of rules of specs/ a function that gives its refusal number, the first in the one order, or 0.
+// No entry: crates mittenschist and text call it. Apply, undo and doable are judged in crate cut_moves.
 ghost use mathlib.Core.Path.{_≡_};
 ghost use mathlib.Core.List.{[], _∷_};
 ghost use Prim.Native.Nat.{_+_, _*_};

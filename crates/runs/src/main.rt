@@ -119,7 +119,7 @@ fn show_cut_set_counts() {
     show_cut_sets(5, &mut [0, 1, 2, 3, 4]);
 }
 
-// T as the document asks it,
+// T as document 01 asks it,
 fn show_starred() {
     show_t(3, 100, 5, 4294967295);
     show_t(3, 11, 5, 4294967295);
