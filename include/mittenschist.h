@@ -43,7 +43,7 @@ enum {
 /* Polishes a route: cuts it at k places, puts it together by each pattern in turn, keeps the first result that is shorter and keeps every
  * deadline, and begins again; until none is left (finished) or `allowance` candidates have been examined (spent). With 0 for finished it
  * is proved that no choice of k cuts and no pattern gives a shorter route that keeps every deadline. That costs at least one whole pass,
- * patterns(k) x C(n + 1, k) candidates, and at most (1 + seconds saved) times as many. Any allowance is safe: every call ends.
+ * patterns(k) x C(n + 1, k) candidates, and at most (1 + seconds saved) times as many. A small allowance only ends it sooner.
  *   legs    read     locations x locations seconds, row = from
  *   latest  read     for each location its latest second; 4294967295 where none is in force
  *   depot            a location

@@ -45,8 +45,8 @@ impl Polished {
 /// Polishes a route, examining at most `allowance` candidates. Refuses 1, 2, 3, 4, 5.
 ///
 /// A finished route of n stops has cost at least one whole pass, patterns(k) × C(n + 1, k) candidates (1, 7, 47, 383 patterns for
-/// k = 2, 3, 4, 5), and at most (1 + seconds saved) times as many. Any allowance is safe: every call ends, and a spent route keeps what
-/// was accepted.
+/// k = 2, 3, 4, 5), and at most (1 + seconds saved) times as many. A spent route keeps what was accepted, so a small allowance only
+/// ends the search sooner.
 ///
 /// ```
 /// use mittenschist::{polish_route, Ending, Refusal, Tables};
@@ -95,7 +95,10 @@ mod tests {
 
     #[test]
     fn each_ending_by_its_number() {
-        assert_eq!((Ending::of(0), Ending::of(1)), (Ending::Finished, Ending::Spent));
+        assert_eq!(
+            (Ending::of(0), Ending::of(1)),
+            (Ending::Finished, Ending::Spent)
+        );
     }
 
     #[test]
