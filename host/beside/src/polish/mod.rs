@@ -2,13 +2,13 @@
 
 pub mod bounds;
 pub mod case;
-mod damage;
+pub mod damage;
 mod deep;
 pub mod generate;
-mod level;
 pub mod measured;
 pub mod planted;
 mod short;
+mod shortest;
 mod stretches;
 
 use crate::trial::{Family, Source};
@@ -31,5 +31,5 @@ pub const FAMILIES: [Family; 8] = [
         Source::Drawn(5, planted::PATTERNS, planted::draw),
     ),
     Family::new(CALL, "polish/deep", Source::Each(deep::each)),
-    Family::new(CALL, "polish/level", Source::Each(level::each)),
+    Family::new(CALL, "polish/shortest", Source::Each(shortest::each)),
 ];

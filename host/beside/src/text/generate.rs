@@ -3,6 +3,7 @@
 use super::case::Text;
 use crate::polish::bounds::text_case;
 use crate::polish::case::Case;
+use crate::polish::damage::damage;
 use crate::polish::generate::random_case;
 use crate::random::Random;
 use crate::tables::{listed, Tables};
@@ -10,6 +11,23 @@ use crate::trial::{Drawn, Visit};
 
 pub fn draw(random: &mut Random, _index: u64) -> Drawn {
     (Box::new(Text(good(random))), None)
+}
+
+/// Refusal numbers of what a text holds, highest first.
+const NUMBERS: [u32; 4] = [5, 4, 3, 1];
+
+/// How many sets of them there are.
+pub const SETS: u64 = 1 << NUMBERS.len();
+
+/// A text of the form whose values are refused: a set of damages to them.
+pub fn draw_refused(random: &mut Random, index: u64) -> Drawn {
+    let mut case = random_case(random);
+    for (bit, &number) in NUMBERS.iter().enumerate() {
+        if (index >> bit) & 1 == 1 {
+            damage(random, &mut case, number);
+        }
+    }
+    (Box::new(Text(written(&case))), None)
 }
 
 /// A text that is read, as long as its locations are few enough.

@@ -14,9 +14,14 @@ const CALL: &str = "the program polish";
 /// Names the program.
 const VARIABLE: &str = "MITTENSCHIST_POLISH";
 
-pub const FAMILIES: [Family; 3] = [
+pub const FAMILIES: [Family; 4] = [
     Family::new(CALL, "text/bounds", Source::Each(generate::each_bound)),
     Family::new(CALL, "text/good", Source::Drawn(10, 200, generate::draw)),
+    Family::new(
+        CALL,
+        "text/refused",
+        Source::Drawn(5, generate::SETS, generate::draw_refused),
+    ),
     Family::new(
         CALL,
         "text/damaged",

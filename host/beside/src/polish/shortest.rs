@@ -1,6 +1,6 @@
-//! Long routes on tables where every order is equally long, though the legs differ: nothing is ever accepted, so that the answer follows
-//! from the number of candidates. The Rust, which examines them one by one, is not asked: these scans leave the first cut 0 where it would
-//! take it minutes.
+//! Long routes that are the shortest of all: their own legs take up to 9 seconds, every other leg at least 10,000, and another order has
+//! at least one of these. Nothing is ever accepted, so that the answer follows from the number of candidates. The Rust, which examines
+//! them one by one, is not asked: these scans leave the first cut 0 where it would take it minutes.
 
 use super::case::Case;
 use super::deep::candidates_at_first_cut_0;
@@ -26,23 +26,23 @@ pub fn each(random: &mut Random, visit: Visit) {
     for (k, stops) in SIZES {
         let first = candidates_at_first_cut_0(k, stops);
         for allowance in [first, first + 1, first + first / 8] {
-            visit(Box::new(Level(level(random, k, stops, allowance))));
+            visit(Box::new(Shortest(shortest(random, k, stops, allowance))));
         }
     }
 }
 
-/// A leg is a constant, more by a height where it leaves and less by one where it arrives: in all, a tour climbs as much as it descends.
-fn level(random: &mut Random, k: usize, stops: usize, allowance: u64) -> Case {
+fn shortest(random: &mut Random, k: usize, stops: usize, allowance: u64) -> Case {
     let locations = stops + 1;
-    let heights: Vec<u32> = (0..locations).map(|_| random.below(500) as u32).collect();
-    let row = |from: &u32| {
-        let leg = |to: &u32| 500 + from - to;
-        heights.iter().map(leg).collect::<Vec<u32>>()
-    };
+    let legs = (0..locations * locations).map(|_| 10_000 + random.below(10_000) as u32);
+    let mut tables = Tables::of_legs(locations, legs.collect());
+    for place in 0..locations {
+        let next = (place + 1) % locations;
+        tables.legs[place * locations + next] = random.below(10) as u32;
+    }
     Case {
         k,
         allowance,
-        tables: Tables::of_legs(locations, heights.iter().flat_map(row).collect()),
+        tables,
         depot: 0,
         route: (1..locations as u32).collect(),
         room: 5,
@@ -50,9 +50,9 @@ fn level(random: &mut Random, k: usize, stops: usize, allowance: u64) -> Case {
 }
 
 /// A call that is spent at its allowance and accepts nothing.
-struct Level(Case);
+struct Shortest(Case);
 
-impl Trial for Level {
+impl Trial for Shortest {
     fn expected(&self) -> Reply {
         let Case {
             allowance,
@@ -60,7 +60,7 @@ impl Trial for Level {
             room,
             ..
         } = self.0;
-        let length = 500 * (route.len() as u64 + 1);
+        let length = self.0.length();
         let mut result = filled(room);
         put(&mut result, &[1, allowance, 0, length, length]);
         Reply::new(0, [("route", bits(route)), ("result", result)])
@@ -75,7 +75,7 @@ impl Trial for Level {
     }
 }
 
-impl Display for Level {
+impl Display for Shortest {
     fn fmt(&self, out: &mut Formatter<'_>) -> Written {
         self.0.fmt(out)
     }
