@@ -34,6 +34,8 @@ fn link() -> Result<(), String> {
     println!("cargo:rerun-if-changed={}", archive.display());
     println!("cargo:rustc-link-search=native={}", place.display());
     println!("cargo:rustc-link-lib=static=mittenschist");
+    // The tests link it with C programs.
+    println!("cargo:rustc-env=MITTENSCHIST_ARCHIVE={}", archive.display());
     Ok(())
 }
 

@@ -12,7 +12,7 @@
 #include "mittenschist.h"
 
 /* A turn lasts until so much has been counted and so much time has passed, but never beyond the last. */
-static const uint64_t least_time = 10000000, most_time = 300000000;
+static const uint64_t least_time = 2000000, most_time = 300000000;
 
 /* More places than any result has. */
 #define PLACES 1024

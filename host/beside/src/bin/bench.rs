@@ -2,7 +2,7 @@
 //! and one for the nearby listing: nanoseconds a candidate or a set. NEW and OLD are drivers (driver/driver.c), each linked with an archive;
 //! with OLD the older archive is timed in the same turns.
 //! A call that ends sooner is repeated until some two million candidates have been examined, so short routes include what a
-//! call costs besides its candidates. The best of a few turns counts, since other work may share the machine.
+//! call costs besides its candidates. The best of many turns counts, since other work may share the machine.
 
 #![forbid(unsafe_code)]
 
@@ -20,9 +20,15 @@ use std::env;
 use std::process::ExitCode;
 use std::time::{Duration, Instant};
 
-/// Turns of the Rust, and in each of them turns of the archives.
-const TURNS: usize = 5;
-const TURNS_IN_TURN: usize = 3;
+/// Rounds in which the Rust has a turn, and turns of each archive in a round. After these the archives go on alone until a few rounds bring
+/// nothing better, more of them where the two archives are apart; but not beyond the longest.
+const ROUNDS: usize = 5;
+const TURNS: usize = 8;
+const IDLE_ROUNDS: usize = 3;
+const IDLE_ROUNDS_APART: usize = 20;
+const CLEARLY: f64 = 0.995;
+const APART: f64 = 0.025;
+const LONGEST: Duration = Duration::from_secs(15);
 
 /// Stops in each of eight rounds, by k.
 const RUN_SIZES: [(usize, usize); 4] = [(2, 64), (3, 24), (4, 12), (5, 9)];
@@ -181,36 +187,88 @@ impl Bench {
         Ok(())
     }
 
-    /// The best times of a case, its sides taken in turn.
+    /// The best times of a case, its sides taken in turn: until none has become better for a while.
     fn timed(
         &mut self,
         name: &str,
         case: &str,
         by_rust: &mut dyn FnMut() -> Timed,
     ) -> Result<Best, String> {
-        let mut sides: Vec<&mut Driver> = self.old.iter_mut().chain([&mut self.new]).collect();
+        let mut sides: Vec<Side> = self
+            .old
+            .iter_mut()
+            .chain([&mut self.new])
+            .map(Side::of)
+            .collect();
         for side in &mut sides {
-            side.load(case)?;
+            side.driver.load(case)?;
         }
-        let (mut rust, mut best) = (f64::INFINITY, vec![f64::INFINITY; sides.len()]);
-        let mut replies = vec![0; sides.len()];
-        for _ in 0..TURNS {
-            for _ in 0..TURNS_IN_TURN {
-                for (place, side) in sides.iter_mut().enumerate() {
-                    let turn = side.turn(CANDIDATES)?;
-                    best[place] = best[place].min(turn.nanoseconds);
-                    replies[place] = turn.reply;
-                }
+        let (start, mut rust) = (Instant::now(), f64::INFINITY);
+        let (mut round, mut idle) = (0, 0);
+        while round < ROUNDS || (!settled(&sides, idle) && start.elapsed() < LONGEST) {
+            if round < ROUNDS {
+                rust = rust.min(nanoseconds(by_rust));
             }
-            rust = rust.min(nanoseconds(by_rust));
+            let better = turns(&mut sides)?;
+            idle = if better { 0 } else { idle + 1 };
+            round += 1;
         }
-        if replies[0] != replies[sides.len() - 1] {
+        let (first, last) = (&sides[0], &sides[sides.len() - 1]);
+        if first.reply != last.reply {
             self.apart.push(String::from(name));
         }
-        let old = self.old.is_some().then(|| best[0]);
-        let new = best[best.len() - 1];
+        let (old, new) = (first.best, last.best);
+        let old = (sides.len() > 1).then_some(old);
         Ok(Best { rust, new, old })
     }
+}
+
+/// An archive that is timed on a case.
+struct Side<'d> {
+    driver: &'d mut Driver,
+    best: f64,
+    reply: u64,
+}
+
+impl<'d> Side<'d> {
+    fn of(driver: &'d mut Driver) -> Self {
+        Self {
+            driver,
+            best: f64::INFINITY,
+            reply: 0,
+        }
+    }
+
+    /// One turn; whether it was clearly better than those before.
+    fn turn(&mut self) -> Result<bool, String> {
+        let turn = self.driver.turn(CANDIDATES)?;
+        let better = turn.nanoseconds < self.best * CLEARLY;
+        self.best = self.best.min(turn.nanoseconds);
+        self.reply = turn.reply;
+        Ok(better)
+    }
+}
+
+/// Whether rounds that bring nothing better need not be repeated.
+fn settled(sides: &[Side], idle: usize) -> bool {
+    let ratio = sides[sides.len() - 1].best / sides[0].best;
+    let apart = (ratio - 1.0).abs() > APART;
+    idle >= if apart {
+        IDLE_ROUNDS_APART
+    } else {
+        IDLE_ROUNDS
+    }
+}
+
+/// A round of turns; whether one of them was clearly better than those before.
+fn turns(sides: &mut [Side]) -> Result<bool, String> {
+    let mut better = false;
+    for _ in 0..TURNS {
+        for side in sides.iter_mut() {
+            better |= side.turn()?;
+        }
+    }
+    Ok(better)
 }
 
 /// The share of cut sets passed over, counted beside; what is counted so must be what the library counts.
