@@ -14,6 +14,7 @@ use support::{kept, written};
 
 const THREADS: u32 = 8;
 const CALLS: u32 = 40;
+const PASSES: u32 = 10;
 const LOCATIONS: usize = 40;
 
 /// Tables that all threads read at once.
@@ -148,7 +149,7 @@ fn at_once(tables: &Tables) {
             scope.spawn(move || {
                 start.wait();
                 // Each thread has its own order, so that different calls meet.
-                for number in (0..CALLS).map(|number| (number * 3 + thread * 11) % CALLS) {
+                for number in (0..PASSES * CALLS).map(|number| (number * 3 + thread * 11) % CALLS) {
                     assert_eq!(
                         calls(tables, number),
                         alone[number as usize],
