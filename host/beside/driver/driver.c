@@ -11,6 +11,11 @@
 #include <time.h>
 #include "mittenschist.h"
 
+/* So many bytes lie before the archive's code: where its loops lie in a cache line can make a difference of some percent, by chance. */
+#define TEXT(pad) #pad
+#define SKIPPED(pad) TEXT(pad)
+__asm__(".text\n.skip " SKIPPED(PAD) "\n");
+
 /* A turn lasts until so much has been counted and so much time has passed, but never beyond the last. */
 static const uint64_t least_time = 2000000, most_time = 300000000;
 
@@ -44,8 +49,11 @@ static void fail(const char *what) {
 }
 
 static uint64_t number(void) {
-    uint64_t value;
-    if (scanf("%" SCNu64, &value) != 1) fail("a number is missing");
+    int letter = getchar();
+    while (letter == ' ' || letter == '\n') letter = getchar();
+    if (letter < '0' || letter > '9') fail("a number is missing");
+    uint64_t value = 0;
+    for (; letter >= '0' && letter <= '9'; letter = getchar()) value = 10 * value + (uint64_t)(letter - '0');
     return value;
 }
 

@@ -1,6 +1,6 @@
-//! bench NEW [OLD]: times the library and the Rust on the same inputs, in turn, and prints a Markdown table for polishing, one for the run
-//! and one for the nearby listing: nanoseconds a candidate or a set. NEW and OLD are drivers (driver/driver.c), each linked with an archive;
-//! with OLD the older archive is timed in the same turns.
+//! bench NEW.. [--old OLD..]: times the library and the Rust on the same inputs, in turn, and prints a Markdown table for polishing, one for the run
+//! and one for the nearby listing: nanoseconds a candidate or a set. NEW and OLD are drivers (driver/driver.c) of an archive, which lies
+//! in each of them at another place; with OLD the older archive is timed in the same turns.
 //! A call that ends sooner is repeated until some two million candidates have been examined, so short routes include what a
 //! call costs besides its candidates. The best of many turns counts, since other work may share the machine.
 
@@ -20,12 +20,12 @@ use std::env;
 use std::process::ExitCode;
 use std::time::{Duration, Instant};
 
-/// Rounds in which the Rust has a turn, and turns of each archive in a round. After these the archives go on alone until a few rounds bring
-/// nothing better, more of them where the two archives are apart; but not beyond the longest.
+/// Rounds in which the Rust has a turn, and turns of each archive in a round. After these the archives go on alone until as many rounds bring
+/// nothing better as there are places for an archive, more of them where the two are apart; but not beyond the longest.
 const ROUNDS: usize = 5;
-const TURNS: usize = 8;
-const IDLE_ROUNDS: usize = 3;
-const IDLE_ROUNDS_APART: usize = 20;
+const TURNS: usize = 6;
+const IDLE_ROUNDS: usize = 4;
+const IDLE_ROUNDS_APART: usize = 16;
 const CLEARLY: f64 = 0.995;
 const APART: f64 = 0.025;
 const LONGEST: Duration = Duration::from_secs(15);
@@ -39,14 +39,12 @@ const LISTED: [usize; 2] = [1_000, 100_000];
 
 fn main() -> ExitCode {
     let words: Vec<String> = env::args().skip(1).collect();
-    let (new, old) = match &words[..] {
-        [new] => (new, None),
-        [new, old] => (new, Some(old)),
-        _ => {
-            eprintln!("usage: bench NEW [OLD]; tools/bench makes the drivers");
-            return ExitCode::from(2);
-        }
-    };
+    let mut sides = words.split(|word| word == "--old");
+    let (new, old) = (sides.next().unwrap_or_default(), sides.next());
+    if new.is_empty() || old.is_some_and(<[String]>::is_empty) || sides.next().is_some() {
+        eprintln!("usage: bench NEW.. [--old OLD..]; tools/bench makes the drivers");
+        return ExitCode::from(2);
+    }
     match Bench::start(new, old).and_then(Bench::run) {
         Ok(()) => ExitCode::SUCCESS,
         Err(found) => {
@@ -66,8 +64,8 @@ fn same(trial: &dyn Trial) -> Result<Reply, String> {
 
 /// The archives that are timed, and the ratios so far.
 struct Bench {
-    new: Driver,
-    old: Option<Driver>,
+    new: Vec<Driver>,
+    old: Option<Vec<Driver>>,
     means: Means,
     /// Rows in which old and new reply otherwise.
     apart: Vec<String>,
@@ -97,10 +95,16 @@ impl Best {
 }
 
 impl Bench {
-    fn start(new: &str, old: Option<&String>) -> Result<Self, String> {
+    fn start(new: &[String], old: Option<&[String]>) -> Result<Self, String> {
+        let start = |programs: &[String]| {
+            programs
+                .iter()
+                .map(|program| Driver::start(program))
+                .collect()
+        };
         Ok(Self {
-            new: Driver::start(new)?,
-            old: old.map(|program| Driver::start(program)).transpose()?,
+            new: start(new)?,
+            old: old.map(start).transpose()?,
             means: Means::default(),
             apart: Vec::new(),
         })
@@ -200,16 +204,13 @@ impl Bench {
             .chain([&mut self.new])
             .map(Side::of)
             .collect();
-        for side in &mut sides {
-            side.driver.load(case)?;
-        }
         let (start, mut rust) = (Instant::now(), f64::INFINITY);
         let (mut round, mut idle) = (0, 0);
         while round < ROUNDS || (!settled(&sides, idle) && start.elapsed() < LONGEST) {
             if round < ROUNDS {
                 rust = rust.min(nanoseconds(by_rust));
             }
-            let better = turns(&mut sides)?;
+            let better = turns(&mut sides, round, case)?;
             idle = if better { 0 } else { idle + 1 };
             round += 1;
         }
@@ -225,23 +226,29 @@ impl Bench {
 
 /// An archive that is timed on a case.
 struct Side<'d> {
-    driver: &'d mut Driver,
+    drivers: &'d mut [Driver],
     best: f64,
     reply: u64,
 }
 
 impl<'d> Side<'d> {
-    fn of(driver: &'d mut Driver) -> Self {
+    fn of(drivers: &'d mut Vec<Driver>) -> Self {
         Self {
-            driver,
+            drivers,
             best: f64::INFINITY,
             reply: 0,
         }
     }
 
+    /// The driver of a round.
+    fn driver(&mut self, round: usize) -> &mut Driver {
+        let place = round % self.drivers.len();
+        &mut self.drivers[place]
+    }
+
     /// One turn; whether it was clearly better than those before.
-    fn turn(&mut self) -> Result<bool, String> {
-        let turn = self.driver.turn(CANDIDATES)?;
+    fn turn(&mut self, round: usize) -> Result<bool, String> {
+        let turn = self.driver(round).turn(CANDIDATES)?;
         let better = turn.nanoseconds < self.best * CLEARLY;
         self.best = self.best.min(turn.nanoseconds);
         self.reply = turn.reply;
@@ -261,11 +268,15 @@ fn settled(sides: &[Side], idle: usize) -> bool {
 }
 
 /// A round of turns; whether one of them was clearly better than those before.
-fn turns(sides: &mut [Side]) -> Result<bool, String> {
+fn turns(sides: &mut [Side], round: usize, case: &str) -> Result<bool, String> {
     let mut better = false;
+    // Anew, since a case can lie better or worse in memory.
+    for side in sides.iter_mut() {
+        side.driver(round).load(case)?;
+    }
     for _ in 0..TURNS {
         for side in sides.iter_mut() {
-            better |= side.turn()?;
+            better |= side.turn(round)?;
         }
     }
     Ok(better)
