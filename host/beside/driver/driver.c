@@ -133,11 +133,6 @@ static void read_nearby(void) {
     sets = room(sets_len, sizeof *sets);
 }
 
-/* What a call counts: candidates, or sets. */
-static uint64_t polish(uint64_t *time);
-static uint64_t run(uint64_t *time);
-static uint64_t nearby(uint64_t *time);
-
 static uint64_t now(void) {
     struct timespec at;
     clock_gettime(CLOCK_MONOTONIC, &at);
@@ -147,6 +142,8 @@ static uint64_t now(void) {
 static void taken(uint32_t refused) {
     if (refused) fail("a case was refused");
 }
+
+/* The calls: each adds its time, and answers what it counts, candidates or sets. */
 
 static uint64_t polish(uint64_t *time) {
     memcpy(route, handed, handed_len * sizeof *route);

@@ -23,12 +23,13 @@ impl Trial for Text {
 
     fn kind(&self, expected: &Reply) -> &'static str {
         let bytes: Vec<u8> = expected.lent[0].1.iter().map(|&byte| byte as u8).collect();
-        match bytes.as_slice() {
-            b"refused=10\n" => "refused 10",
-            [b'r', ..] => "refused by value",
-            [b'a', .., _] if bytes.starts_with(b"answer=spent") => "spent",
-            _ => "finished",
-        }
+        let kinds: [(&[u8], &str); 3] = [
+            (b"refused=10\n", "refused 10"),
+            (b"refused=", "refused by value"),
+            (b"answer=spent", "spent"),
+        ];
+        let found = kinds.iter().find(|kind| bytes.starts_with(kind.0));
+        found.map_or("finished", |kind| kind.1)
     }
 }
 
