@@ -1,5 +1,6 @@
 //! Long routes whose scan leaves the first cut 0, which random cases above 64 stops do not: the cases of the bench, and routes that are
-//! good already. A route that k - 1 cuts cannot improve is often improved by k cuts only after several first cuts.
+//! good already. A route that k - 1 cuts cannot improve is often improved by k cuts only after several first cuts, one that k cuts cannot
+//! improve never.
 
 use super::case::Case;
 use super::measured;
@@ -23,9 +24,11 @@ pub fn each(random: &mut Random, visit: Visit) {
     measured::each(&mut |k, stops, kind| visit(Box::new(measured::case(kind, k, stops))));
     for (k, stops, percent) in GOOD {
         let allowance = candidates_at_first_cut_0(k, stops) * percent / 100;
-        for uneven in [false, true] {
+        for (polished_by, uneven) in [(k - 1, false), (k, true)] {
             let legs = legs(random, stops + 1, uneven);
-            visit(Box::new(good(random, k, stops, legs, allowance)));
+            let mut case = good(random, polished_by, stops, legs);
+            (case.k, case.allowance) = (k, allowance);
+            visit(Box::new(case));
         }
     }
 }
@@ -49,12 +52,12 @@ fn legs(random: &mut Random, locations: usize, uneven: bool) -> Vec<u32> {
     legs
 }
 
-/// A route that k - 1 cuts cannot improve, or not soon. The library makes it; any route would do, and both sides are handed the same.
-fn good(random: &mut Random, k: usize, stops: usize, legs: Vec<u32>, allowance: u64) -> Case {
+/// A route that k cuts cannot improve, or not soon. The library makes it; any route would do, and both sides are handed the same.
+fn good(random: &mut Random, k: usize, stops: usize, legs: Vec<u32>) -> Case {
     let locations = stops + 1;
     let mut case = Case {
         k,
-        allowance,
+        allowance: 1 << 32,
         tables: Tables::of_legs(locations, legs),
         depot: random.index(locations) as u32,
         route: Vec::new(),
@@ -65,8 +68,8 @@ fn good(random: &mut Random, k: usize, stops: usize, legs: Vec<u32>, allowance: 
         .collect();
     random.shuffle(&mut case.route);
     let refused = ffi::polish_route(
-        k - 1,
-        1 << 32,
+        k,
+        case.allowance,
         locations,
         &case.tables.legs,
         &case.tables.latest,
