@@ -95,21 +95,41 @@ fn show_nearby(seed: u16) {
     write(&line[..end]);
 }
 
-fn show(seed: u16) {
+fn show_nine(seed: u16) {
     let k = drawing::cuts_of(seed);
     show_polish(seed, k, 10, 0, 0, &mut [0u32; 9], &mut [9u64; 6]);
-    show_polish(seed, k, 10, 0, 0, &mut [0u32; 5], &mut [9u64; 6]);
+}
+
+fn show_five(seed: u16, k: usize, locations: usize, leg: u32, depot: u32) {
+    show_polish(
+        seed,
+        k,
+        locations,
+        leg,
+        depot,
+        &mut [0u32; 5],
+        &mut [9u64; 6],
+    );
+}
+
+fn show_short_result() {
+    show_polish(1, 3, 10, 0, 0, &mut [0u32; 5], &mut [9u64; 4]);
+}
+
+fn show(seed: u16) {
+    show_nine(seed);
+    show_five(seed, drawing::cuts_of(seed), 10, 0, 0);
     show_run(seed, 7);
     show_nearby(seed);
 }
 
 // A question for each refusal number that a small one can have.
 fn show_refused() {
-    show_polish(1, 6, 10, 0, 0, &mut [0u32; 5], &mut [9u64; 6]);
-    show_polish(1, 3, 9, 0, 0, &mut [0u32; 5], &mut [9u64; 6]);
-    show_polish(1, 3, 10, 1000001, 0, &mut [0u32; 5], &mut [9u64; 6]);
-    show_polish(1, 3, 10, 0, 10, &mut [0u32; 5], &mut [9u64; 6]);
-    show_polish(1, 3, 10, 0, 0, &mut [0u32; 5], &mut [9u64; 4]);
+    show_five(1, 6, 10, 0, 0);
+    show_five(1, 3, 9, 0, 0);
+    show_five(1, 3, 10, 1000001, 0);
+    show_five(1, 3, 10, 0, 10);
+    show_short_result();
     show_run(1, 8);
     show_nearby(29);
 }
