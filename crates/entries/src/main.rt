@@ -1,4 +1,4 @@
-// Runs what only a Rattle program can call, a line each: the pair loop by itself, on document 01's pair case, with the length of the route
+// Runs what, beside the entries over cut points, only a Rattle program can call, a line each: the pair loop by itself, on document 01's pair case, with the length of the route
 // that it has come to; and the listing of nearby cuts with its answer as an enum.
 use theory::Listing;
 use theory::RouteLength;
