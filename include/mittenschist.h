@@ -38,11 +38,12 @@ enum {
     MITTENSCHIST_JOURNAL_LENGTH = 22 /* undo: a journal not as long as the route */
 };
 
-/* ---- The four of document 01 ---- */
+/* ---- Polishing, the run, apply and undo ---- */
 
 /* Polishes a route: cuts it at k places, puts it together by each pattern in turn, keeps the first result that is shorter and keeps every
  * deadline, and begins again; until none is left (finished) or `allowance` candidates have been examined (spent). With 0 for finished it
- * is proved that no choice of k cuts and no pattern gives a shorter route that keeps every deadline.
+ * is proved that no choice of k cuts and no pattern gives a shorter route that keeps every deadline. That costs at least one whole pass,
+ * patterns(k) x C(n + 1, k) candidates, and at most (1 + seconds saved) times as many. A small allowance only ends it sooner.
  *   legs    read     locations x locations seconds, row = from
  *   latest  read     for each location its latest second; 4294967295 where none is in force
  *   depot            a location
@@ -54,7 +55,8 @@ uint32_t mittenschist_polish_route(size_t k, uint64_t allowance, size_t location
     uint32_t *route, size_t route_len, uint64_t *result, size_t result_len);
 
 /* Polishes rounds one after the other under one allowance; for k = 2 by the pair loop, which only the allowance is promised to end and
- * which can end longer than it began. A spent round is put back as handed in, and the run stops.
+ * which can end longer than it began. So there is no largest allowance for k = 2: hand in a few dozen passes of n (n - 1) / 2 pairs for
+ * all rounds. For k from 3 to 5 a round costs what polishing it costs. A spent round is put back as handed in, and the run stops.
  *   legs, latest     as above
  *   stops   written  the stops of all rounds, end to end; as before but for the rounds that changed
  *   lengths read     for each round the number of its stops

@@ -19,6 +19,9 @@ const RUST_FILES: [(&str, &str); 7] = [
     ),
 ];
 
+/// Names the folder in which the Rust lies.
+const SOURCES: &str = "MITTENSCHIST_RUST_SRC";
+
 /// Included as it stands in a module that has the names it uses, as the Rust does.
 const INCLUDED: (&str, &str) = ("iter", "heuristic/selector/move_selector/iter.rs");
 
@@ -58,16 +61,20 @@ fn named_folder(name: &str) -> Option<PathBuf> {
 
 /// Writes, for each Rust file, a declaration of it as a module.
 fn name_sources(usual: &Path) -> Result<(), String> {
-    let folder = named_folder("MITTENSCHIST_RUST_SRC").unwrap_or_else(|| usual.to_path_buf());
+    let folder = named_folder(SOURCES).unwrap_or_else(|| usual.to_path_buf());
     let sources = folder.join("crates/solverforge-solver/src");
+    let found = |file: &str| {
+        found(&sources.join(file))
+            .map_err(|fault| format!("the Rust is not whole: {fault}; {SOURCES} names its folder"))
+    };
     for (module, file) in RUST_FILES {
-        let path = found(&sources.join(file))?;
+        let path = found(file)?;
         let allowed = "dead_code, unused_imports";
         let declaration =
             format!("#[path = {path:?}]\n#[allow({allowed})]\npub(crate) mod {module};\n");
         write_down(module, &declaration)?;
     }
-    let path = found(&sources.join(INCLUDED.1))?;
+    let path = found(INCLUDED.1)?;
     write_down(INCLUDED.0, &format!("include!({path:?});\n"))
 }
 

@@ -30,6 +30,7 @@ pub mod raw;
 mod refusal;
 mod run;
 mod tables;
+mod unknown;
 
 pub use moves::{k_opt_do_move, k_opt_is_doable, k_opt_undo_move};
 pub use nearby::{nearby_cuts, Listing};

@@ -1,3 +1,4 @@
+use crate::unknown::yes;
 use crate::{raw, Refusal};
 
 /// Applies the pattern with an index at k cuts of round number `round`, whose stops are `route`; the old stops go into the first
@@ -80,5 +81,5 @@ pub fn k_opt_is_doable(
         cut_positions,
         &mut result,
     ))?;
-    Ok(result != [0])
+    Ok(yes("answer of doable", result[0]))
 }

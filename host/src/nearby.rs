@@ -1,3 +1,4 @@
+use crate::unknown::yes;
 use crate::{raw, Refusal};
 
 /// What a listing wrote.
@@ -42,6 +43,6 @@ pub fn nearby_cuts(
     ))?;
     Ok(Listing {
         sets: result[0] as usize,
-        more: result[1] != 0,
+        more: yes("ended or more", result[1]),
     })
 }

@@ -1,5 +1,6 @@
 //! The parts of polishing, each by itself.
 
+use crate::unknown::{unknown, yes};
 use crate::{raw, Refusal, Tables};
 
 /// A pattern: how the k + 1 segments between k cuts are put together again.
@@ -39,7 +40,7 @@ pub fn reconnection_at(k: usize, pattern: usize) -> Result<Reconnection, Refusal
 pub fn next_cut_set(k: usize, n: usize, cuts: &mut [usize]) -> Result<bool, Refusal> {
     let mut result = [0];
     Refusal::check(raw::next_cut_set(k, n, cuts, &mut result))?;
-    Ok(result != [0])
+    Ok(yes("step of the cuts", result[0]))
 }
 
 /// Writes the route after a move to the first places of `out`. Refuses 1, 5, 6, 7, 21.
@@ -122,6 +123,17 @@ pub enum Deadline {
     Late(usize),
 }
 
+impl Deadline {
+    /// The number of stops stands for kept.
+    fn of(position: u64, stops: usize) -> Self {
+        match position as usize {
+            late if late < stops => Self::Late(late),
+            kept if kept == stops => Self::Kept,
+            _ => unknown("late position", position),
+        }
+    }
+}
+
 /// Whether a route keeps every deadline. Refuses 2, 3, 4, 5.
 ///
 /// ```
@@ -141,9 +153,22 @@ pub fn route_feasible(tables: &Tables, depot: u32, route: &[u32]) -> Result<Dead
         route,
         &mut result,
     ))?;
-    let position = result[0] as usize;
-    if position < route.len() {
-        return Ok(Deadline::Late(position));
+    Ok(Deadline::of(result[0], route.len()))
+}
+
+#[cfg(test)]
+mod tests {
+    use super::Deadline;
+
+    #[test]
+    fn late_below_the_number_of_stops() {
+        let told = [0, 1, 2].map(|position| Deadline::of(position, 2));
+        assert_eq!(told, [Deadline::Late(0), Deadline::Late(1), Deadline::Kept]);
     }
-    Ok(Deadline::Kept)
+
+    #[test]
+    #[should_panic(expected = "the archive is of another version")]
+    fn no_position() {
+        Deadline::of(3, 2);
+    }
 }

@@ -144,6 +144,7 @@ extern "C" {
 
 /// Polishes `route`. The result begins with 0 finished or 1 spent, candidates examined, candidates accepted, length before, length
 /// after.
+#[must_use]
 #[allow(clippy::too_many_arguments)]
 pub fn polish_route(
     k: usize,
@@ -175,6 +176,7 @@ pub fn polish_route(
 }
 
 /// Polishes rounds whose stops lie end to end. The result begins with four numbers a round: state, examined, accepted, applied.
+#[must_use]
 #[allow(clippy::too_many_arguments)]
 pub fn run_list_k_opt(
     k: usize,
@@ -213,6 +215,7 @@ pub fn run_list_k_opt(
 }
 
 /// Lists cut sets by nearness. The result begins with the number of sets written and 0 ended or 1 more.
+#[must_use]
 pub fn nearby_cuts(
     n: usize,
     distances: &[f64],
@@ -240,6 +243,7 @@ pub fn nearby_cuts(
 }
 
 /// Applies a move to `route` and puts the old stops into the journal.
+#[must_use]
 pub fn k_opt_do_move(
     k: usize,
     pattern: usize,
@@ -268,6 +272,7 @@ pub fn k_opt_do_move(
 }
 
 /// Puts the stops of the journal back.
+#[must_use]
 pub fn k_opt_undo_move(route: &mut [u32], journal: &[u32]) -> u32 {
     // SAFETY: as said above.
     unsafe {
@@ -281,6 +286,7 @@ pub fn k_opt_undo_move(route: &mut [u32], journal: &[u32]) -> u32 {
 }
 
 /// The result begins with 0 no or 1 yes.
+#[must_use]
 pub fn k_opt_is_doable(
     k: usize,
     pattern: usize,
@@ -308,12 +314,14 @@ pub fn k_opt_is_doable(
 }
 
 /// The result begins with k + 1 piece numbers and the mask.
+#[must_use]
 pub fn reconnection_at(k: usize, pattern: usize, result: &mut [u64]) -> u32 {
     // SAFETY: as said above.
     unsafe { mittenschist_reconnection_at(k, pattern, result.as_mut_ptr(), result.len()) }
 }
 
 /// The result begins with 1 moved, or 0 and the cuts kept.
+#[must_use]
 pub fn next_cut_set(k: usize, n: usize, cuts: &mut [usize], result: &mut [u64]) -> u32 {
     // SAFETY: as said above.
     unsafe {
@@ -329,6 +337,7 @@ pub fn next_cut_set(k: usize, n: usize, cuts: &mut [usize], result: &mut [u64]) 
 }
 
 /// Writes the rejoined route to the first places of `out`.
+#[must_use]
 pub fn reconnect(k: usize, pattern: usize, cuts: &[usize], route: &[u32], out: &mut [u32]) -> u32 {
     // SAFETY: as said above.
     unsafe {
@@ -346,6 +355,7 @@ pub fn reconnect(k: usize, pattern: usize, cuts: &[usize], route: &[u32], out: &
 }
 
 /// The result begins with the length.
+#[must_use]
 pub fn route_length(
     locations: usize,
     legs: &[u32],
@@ -369,6 +379,7 @@ pub fn route_length(
 }
 
 /// The result begins with the length after minus the length before.
+#[must_use]
 #[allow(clippy::too_many_arguments)]
 pub fn delta(
     k: usize,
@@ -400,6 +411,7 @@ pub fn delta(
 }
 
 /// The result begins with a late position, or the number of stops if none is late.
+#[must_use]
 pub fn route_feasible(
     locations: usize,
     legs: &[u32],

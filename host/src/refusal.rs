@@ -41,7 +41,7 @@ pub enum Refusal {
 }
 
 impl Refusal {
-    /// The number of document 01.
+    /// The number that the C function returns for it.
     pub fn number(self) -> u32 {
         match self {
             Self::CutCount => 1,

@@ -1,3 +1,4 @@
+use crate::unknown::unknown;
 use crate::{raw, Refusal, Tables};
 
 /// More rounds than this are refused.
@@ -55,7 +56,8 @@ impl RoundReply {
             2 => RoundState::Short,
             3 => RoundState::Unchanged,
             4 => RoundState::Changed,
-            _ => RoundState::Spent,
+            5 => RoundState::Spent,
+            other => unknown("state of a round", other),
         };
         Self {
             state,
@@ -66,8 +68,9 @@ impl RoundReply {
     }
 }
 
-/// Polishes round after round under one allowance; with k = 2 by the pair loop, which only the allowance is promised to end.
-/// Refuses 1, 2, 3, 4, 5.
+/// Polishes round after round under one allowance; with k = 2 by the pair loop, which only the allowance is promised to end: there is no
+/// largest allowance to hand in, but a few dozen passes of n(n − 1)/2 pairs for all rounds. With k from 3 to 5 each round costs what
+/// [`polish_route`](crate::polish_route) says. Refuses 1, 2, 3, 4, 5.
 ///
 /// ```
 /// use mittenschist::{run_list_k_opt, RoundState, Rounds, Tables};
@@ -103,4 +106,30 @@ pub fn run_list_k_opt(
     ))?;
     let replies = result.iter().take(rounds.lengths.len());
     Ok(replies.map(RoundReply::of).collect())
+}
+
+#[cfg(test)]
+mod tests {
+    use super::{RoundReply, RoundState};
+
+    #[test]
+    fn each_state_by_its_number() {
+        let states = [
+            RoundState::NotReached,
+            RoundState::Pinned,
+            RoundState::Short,
+            RoundState::Unchanged,
+            RoundState::Changed,
+            RoundState::Spent,
+        ];
+        for (number, state) in (0..).zip(states) {
+            assert_eq!(RoundReply::of(&[number, 0, 0, 0]).state, state);
+        }
+    }
+
+    #[test]
+    #[should_panic(expected = "the archive is of another version")]
+    fn a_state_without_a_name() {
+        RoundReply::of(&[6, 0, 0, 0]);
+    }
 }

@@ -1,4 +1,5 @@
-// What a call was handed, judged: for each list of rules a function that gives its refusal number, the first in the one order, or 0.
+// What a call was handed, judged by its list of rules: the first number in the one order whose rule applies, or 0. Apply, undo and doable are judged in crate
+// cut_moves, the deadline check in crate refusals. No entry: crates mittenschist and text call it.
 ghost use mathlib.Core.Path.{_≡_};
 ghost use mathlib.Core.List.{[], _∷_};
 ghost use Prim.Native.Nat.{_+_, _*_};

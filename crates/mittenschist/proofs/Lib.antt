@@ -8,3 +8,4 @@ pub mod PolishReply
 pub mod Written
 pub mod RunReply
 pub mod NearbyReply
+pub mod Told

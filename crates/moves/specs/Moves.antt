@@ -17,7 +17,7 @@ pub record Applicable (k index : ℕ) (cuts route out : List ℕ) : Type 0 where
   pub listed : index < length (patterns k)
   pub room : length route ≤ length out
 
--- The segment numbers of a pattern, "then the mask".
+-- The segment numbers of a pattern, then the mask.
 abbrev pub pattern-values : ℕ → ℕ → List ℕ
 pattern-values k index = pattern k index .order ++ (pattern k index .mask ∷ [])
 

@@ -1,4 +1,4 @@
-// The pair loop: the exact 2-opt of the Rust's list k-opt kernel. No entry: crate round calls it.
+// The pair loop: the exact 2-opt of the Rust's list k-opt kernel. No entry: crate round and the program entries call it.
 ghost use mathlib.Core.Path.{_≡_};
 ghost use Prim.Native.Nat.{_<_};
 ghost use lib.ListN.{length};

@@ -1,4 +1,5 @@
-// Polishing a route by the scan of document 01. No entry: crate mittenschist and the text program call it.
+// Polishing a route by the scan of document 01, with every pattern for k or with lent rows of patterns, and its five numbers into a lent result. No entry: crates
+// mittenschist, round and text call it.
 use theory::Counts;
 use theory::Polished;
 ghost use mathlib.Core.Path.{_≡_};

@@ -97,7 +97,7 @@ read-exactly t q = (λ e. sound (leb (length t) 60000) refl e, λ h. rw (h .0, l
 pub read-written : (q : Question) → Held q → read (written q) ≡ some q
 read-written q h = read-exactly (written q) q .1 (refl, h)
 
--- "Two problems have equal text exactly when they are equal."
+-- Two questions that a text can hold have the same text only if they are the same.
 pub written-injective : (p q : Question) → Held p → Held q → written p ≡ written q → p ≡ q
 written-injective p q h k e = Option·some-injective p q (sym (read-written p h) ∙ ap read e ∙ read-written q k)
 

@@ -5,7 +5,7 @@ use Prim.Native.Nat.{ℕ, zero, suc, _*_, _≤_}
 use lib.ListN.{length, take, drop}
 use Rattle.decimal.specs.Text.{ascii, line, Small}
 
--- "A problem is the values of the text's lines"; the legs row by row, "row = from".
+-- A question is the values of the text's lines; the legs row by row, "row = from".
 pub record Question : Type 0 where
   pub k : ℕ
   pub allowance : ℕ

@@ -1,4 +1,5 @@
-// The answer of an entry, and the same into a lent result: its refusal number; or 21 where the result has too few places; or 0 and the values in the first places.
+// The answer of an entry into a lent result: its refusal number; or 21 where the result has too few places; or 0 and the values in the first places. Also the answers of
+// the step and of a refused pattern. The numbers of a pattern, of polishing and of a run are put by crates moves, polishing and states. No entry: crate mittenschist calls it.
 ghost use mathlib.Core.Path.{_≡_};
 ghost use mathlib.Core.Bool.{cond};
 ghost use mathlib.Core.List.{[], _∷_};

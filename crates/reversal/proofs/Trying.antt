@@ -37,15 +37,15 @@ module _ (P : Problem) (a b i j : ℕ) (r : List ℕ) where
     tried-longer s = let d = of false (feasible P (turned i j r)) (shorter-is ∙ s) refl in record { is = sym d; route-is = rw d }
 
     -- And whether the route, turned once, keeps every deadline.
-    module _ (s : shorter ≡ true) {once : List ℕ} {kept : Bool} (turn : once ≡ turned i j r) (judged : kept ≡ feasible P once) where
-      kept-is : feasible P (turned i j r) ≡ kept
-      kept-is = sym (rw turn at judged)
+    module _ (s : shorter ≡ true) {once : List ℕ} (turn : once ≡ turned i j r) where
+      judged : (kept : Bool) → kept ≡ feasible P once → accepts P a b i r j ≡ kept
+      judged kept f = of true kept (shorter-is ∙ s) (sym (rw turn at f))
 
-      pub tried-kept : kept ≡ true → Tried P a b i j r true once
-      tried-kept k = let d = of true true (shorter-is ∙ s) (kept-is ∙ k) in record { is = sym d; route-is = rw d turn }
+      pub tried-kept : true ≡ feasible P once → Tried P a b i j r true once
+      tried-kept f = let d = judged true f in record { is = sym d; route-is = rw d turn }
 
-      pub tried-late : kept ≡ false → {back : List ℕ} → back ≡ r → Tried P a b i j r false back
-      tried-late k t = let d = of true false (shorter-is ∙ s) (kept-is ∙ k) in record { is = sym d; route-is = rw d t }
+      pub tried-late : false ≡ feasible P once → {back : List ℕ} → back ≡ r → Tried P a b i j r false back
+      tried-late f t = let d = judged false f in record { is = sym d; route-is = rw d t }
 
   -- The route after a pair has the same stops.
   pub tried-timed : {locations : ℕ} {legs latest : List ℕ} {depot : ℕ} {answer : Bool} {r′ : List ℕ} → i ≤ j → Tried P a b i j r answer r′ →

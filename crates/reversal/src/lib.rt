@@ -1,4 +1,5 @@
 // A reversal of a part of a route, judged: what the pair loop asks of a pair. No entry: crate pair_loop calls it.
+use theory::Deadline;
 ghost use mathlib.Core.Path.{_≡_};
 ghost use mathlib.Core.List.{reverse};
 ghost use Prim.Native.Nat.{_<_};
@@ -67,7 +68,8 @@ pub fn try_pair(
     }
     let end = j + 1;
     reverse(&mut route[i..end]);
-    if !deadlines::is_feasible(locations, legs, latest, depot, &route[..]) {
+    let answer = deadlines::check_deadlines(locations, legs, latest, depot, &route[..]);
+    if let Deadline::Late(_) = answer {
         reverse(&mut route[i..end]);
         return false;
     }

@@ -81,7 +81,7 @@ fn polish_or_put_back(
     states::state_after(reply.finished, reply.examined, reply.accepted)
 }
 
-// The order of the tests is the document's: the allowance, the pin, the number of stops.
+// The order of the tests is document 01's: the allowance, the pin, the number of stops.
 pub fn run_round(
     k: usize,
     left: u64,

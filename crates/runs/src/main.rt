@@ -9,7 +9,7 @@ fn put_byte(n: u8, line: &mut [u8], at: usize) -> usize {
     replay::put_number(b"", n as u64, line, at)
 }
 
-// A line of a polishing: its refusal number and result, and the stops that it left.
+// A line of a polishing: its refusal number, its result with the places lent beyond the five, and the stops that it left.
 fn show_polished(refused: u32, result: &[u64], stops: &[u32]) {
     let mut line = [0u8; 1024];
     let number = replay::put_number(b"polish ", refused as u64, &mut line, 0);
@@ -66,7 +66,7 @@ fn show_t(k: usize, allowance: u64, leg: u32, latest: u32) {
     let legs = [0u32, leg, 1, 1, 0, 5, 5, 1, 0];
     let deadlines = [4294967295u32, latest, 4294967295];
     let mut route = [1u32, 2];
-    let mut result = [0u64; 5];
+    let mut result = [9u64; 7];
     let refused = mittenschist::mittenschist_polish_route(
         k,
         allowance,
@@ -84,7 +84,7 @@ fn show_t(k: usize, allowance: u64, leg: u32, latest: u32) {
 fn show_long(route: &mut [u32]) {
     let legs = [1u32];
     let deadlines = [4294967295u32];
-    let mut result = [0u64; 5];
+    let mut result = [9u64; 7];
     let refused = mittenschist::mittenschist_polish_route(
         3,
         1000,
@@ -119,7 +119,7 @@ fn show_cut_set_counts() {
     show_cut_sets(5, &mut [0, 1, 2, 3, 4]);
 }
 
-// T as the document asks it,
+// T as document 01 asks it,
 fn show_starred() {
     show_t(3, 100, 5, 4294967295);
     show_t(3, 11, 5, 4294967295);

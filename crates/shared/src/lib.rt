@@ -1,5 +1,5 @@
-// What the cut sets with the same first k - 1 cuts share: a table of what their last cut does not move, and from it the least cost of each class of patterns.
-// P is the last middle segment, which the last cut ends. No entry: crate room calls it.
+// What the cut sets with the same first k - 1 cuts share: the ends of the states before P, the least cost of each class of patterns and the standing cost, read off a
+// table of what the last cut does not move. P is the last middle segment, which the last cut ends. No entry: crate stretches calls it.
 ghost use mathlib.Core.Path.{_≡_};
 ghost use mathlib.Core.List.{[], _∷_};
 ghost use Prim.Native.Nat.{ℕ, _+_, _^_, _<_, _≤_};

@@ -170,7 +170,7 @@ taken rs p = first order
     first [] = refl
     first (n ∷ ns) = of n (first-in ns rs) rs p ∙ first ns
 
--- ---- the order is the document's
+-- ---- the order is document 01's
 
 -- "The lowest number that applies to the call is given, and no other; 10 comes before all": n is given where m applies too.
 abbrev pub Lower : ℕ → ℕ → Type 0

@@ -1,4 +1,4 @@
--- Polishing a route: the scan over every cut set with every pattern; and demand 3 of it, in the mission's words.
+-- Polishing a route: the scan over every cut set with every pattern; and demand 3 of it, in its own words.
 use mathlib.Core.Path.{_≡_}
 use mathlib.Core.Bool.{true, false}
 use mathlib.Core.Logic.{_↔_, _⊎_}

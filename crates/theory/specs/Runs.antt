@@ -1,4 +1,4 @@
--- The starred runs of document 01 as one table: what is asked, and what the document says.
+-- The starred runs of document 01 as one table: what is asked, and what it says.
 use mathlib.Core.List.{List, [], _∷_, _++_}
 use Prim.Native.Nat.{ℕ}
 use lib.ListN.{length, getD}

@@ -1,31 +1,37 @@
-//! cargo run --release --example polish_rounds FILE: polishes each round of a file and says what was saved, a line for each round as
-//! it is done. The file has the form of the text program, with any number of lines `round=` at its end; see rounds.txt beside this
-//! file. Each round has the whole allowance. Exit 1 if the file is not of the form or a round is refused.
+//! cargo run --release --example polish_rounds [--jobs N] FILE: polishes each round of a file and says what was saved, a line for each round
+//! as it is done. The file has the form of the text program, with any number of lines `round=` at its end; see rounds.txt beside this
+//! file. Each round has the whole allowance. Exit 1 if the file is not of the form or a round is refused, 2 if the words are not understood.
 
 #![forbid(unsafe_code)]
 
+mod jobs;
+mod options;
 mod question;
 
-use mittenschist::{polish_route, Ending, Polished, Refusal, Tables};
+use jobs::{polish_all, Outcome};
+use mittenschist::{Ending, Polished};
+use options::{Options, USAGE};
 use question::Question;
 use std::process::ExitCode;
 use std::{env, fs};
 
-/// Seconds of all rounds that were polished.
-#[derive(Default)]
-struct Total {
-    before: u64,
-    after: u64,
-    refused: usize,
-}
-
 fn main() -> ExitCode {
-    let Some(file) = env::args().nth(1) else {
-        eprintln!("usage: polish_rounds FILE");
-        return ExitCode::from(2);
+    let (file, jobs) = match Options::parse(env::args().skip(1)) {
+        Ok(Options::Polish { file, jobs }) => (file, jobs),
+        Ok(Options::Help) => {
+            println!("{USAGE}");
+            return ExitCode::SUCCESS;
+        }
+        Err(fault) => {
+            eprintln!("{fault}\n{USAGE}");
+            return ExitCode::from(2);
+        }
     };
     match read(&file) {
-        Ok(question) => polish_all(question),
+        Ok(question) => {
+            let refused = tell_all(&question, jobs, &mut |line| println!("{line}"));
+            ExitCode::from(u8::from(refused))
+        }
         Err(fault) => {
             eprintln!("{file}: {fault}");
             ExitCode::FAILURE
@@ -38,43 +44,25 @@ fn read(file: &str) -> Result<Question, String> {
     Question::parse(&text)
 }
 
-fn polish_all(mut question: Question) -> ExitCode {
+/// Tells a line for each round and one for all; whether a round was refused.
+fn tell_all(question: &Question, jobs: usize, tell: &mut dyn FnMut(String)) -> bool {
     let mut total = Total::default();
-    let mut rounds = std::mem::take(&mut question.rounds);
-    for (number, route) in (1..).zip(&mut rounds) {
-        println!("round {number}: {}", polish(&question, route, &mut total));
-    }
-    println!("{}", told_total(rounds.len(), &total));
-    ExitCode::from(u8::from(total.refused > 0))
+    polish_all(question, jobs, |outcome| {
+        total.add(&outcome);
+        tell(format!("round {}: {}", total.rounds, told(outcome)));
+    });
+    tell(total.told());
+    total.refused > 0
 }
 
-/// Polishes one round in one call, and says how it went.
-fn polish(question: &Question, route: &mut [u32], total: &mut Total) -> String {
-    let tables = Tables {
-        locations: question.locations,
-        legs: &question.legs,
-        latest: &question.latest,
-    };
-    match polish_route(
-        question.k,
-        question.allowance,
-        &tables,
-        question.depot,
-        route,
-    ) {
-        Ok(polished) => {
-            total.before += polished.before;
-            total.after += polished.after;
-            told(&polished, route)
-        }
-        Err(refusal) => {
-            total.refused += 1;
-            told_refusal(refusal)
-        }
+fn told(outcome: Outcome) -> String {
+    match outcome {
+        Ok((polished, route)) => told_polished(&polished, &route),
+        Err(refusal) => format!("refused ({}): {refusal}", refusal.number()),
     }
 }
 
-fn told(polished: &Polished, route: &[u32]) -> String {
+fn told_polished(polished: &Polished, route: &[u32]) -> String {
     let ending = match polished.ending {
         Ending::Finished => "finished",
         Ending::Spent => "allowance spent",
@@ -90,56 +78,94 @@ fn told(polished: &Polished, route: &[u32]) -> String {
     )
 }
 
-fn told_refusal(refusal: Refusal) -> String {
-    format!("refused ({}): {refusal}", refusal.number())
+/// The rounds so far, and the seconds of those that were polished.
+#[derive(Default)]
+struct Total {
+    rounds: usize,
+    refused: usize,
+    before: u64,
+    after: u64,
 }
 
-fn told_total(rounds: usize, total: &Total) -> String {
-    let (before, after) = (total.before, total.after);
-    let saved = before.saturating_sub(after);
-    let mut line =
-        format!("{rounds} rounds: {before} s before, {after} s after, {saved} s saved in all");
-    if total.refused > 0 {
-        line += &format!("; {} refused", total.refused);
+impl Total {
+    fn add(&mut self, outcome: &Outcome) {
+        self.rounds += 1;
+        match outcome {
+            Ok((polished, _)) => {
+                self.before += polished.before;
+                self.after += polished.after;
+            }
+            Err(_) => self.refused += 1,
+        }
     }
-    line
+
+    fn told(&self) -> String {
+        let (rounds, before, after) = (self.rounds, self.before, self.after);
+        let saved = before.saturating_sub(after);
+        let mut line =
+            format!("{rounds} rounds: {before} s before, {after} s after, {saved} s saved in all");
+        if self.refused > 0 {
+            line += &format!("; {} refused", self.refused);
+        }
+        line
+    }
 }
 
 #[cfg(test)]
 mod tests {
     use super::*;
 
-    fn lines(text: &str) -> Vec<String> {
-        let mut question = Question::parse(text).unwrap();
-        let mut total = Total::default();
-        let mut rounds = std::mem::take(&mut question.rounds);
-        let polished = rounds
-            .iter_mut()
-            .map(|route| polish(&question, route, &mut total));
-        let mut lines: Vec<String> = polished.collect();
-        lines.push(told_total(lines.len(), &total));
-        lines
+    fn lines(text: &str, jobs: usize) -> (Vec<String>, bool) {
+        let mut lines = Vec::new();
+        let refused = tell_all(&Question::parse(text).unwrap(), jobs, &mut |line| {
+            lines.push(line)
+        });
+        (lines, refused)
     }
 
     #[test]
     fn the_file_beside_this_one() {
         let wanted = [
-            "23 s before, 5 s after, 18 s saved; finished after 74 candidates; order 2,1,3,4",
-            "5 s before, 5 s after, 0 s saved; finished after 70 candidates; order 4,3,1,2",
-            "7 s before, 7 s after, 0 s saved; finished after 7 candidates; order 3,4",
+            "round 1: 23 s before, 5 s after, 18 s saved; finished after 74 candidates; order 2,1,3,4",
+            "round 2: 5 s before, 5 s after, 0 s saved; finished after 70 candidates; order 4,3,1,2",
+            "round 3: 7 s before, 7 s after, 0 s saved; finished after 7 candidates; order 3,4",
             "3 rounds: 35 s before, 17 s after, 18 s saved in all",
         ];
-        assert_eq!(lines(include_str!("rounds.txt")), wanted);
+        for jobs in 1..5 {
+            let (told, refused) = lines(include_str!("rounds.txt"), jobs);
+            assert_eq!((&told[..], refused), (&wanted.map(String::from)[..], false));
+        }
     }
 
     #[test]
     fn a_refused_round_does_not_end_the_file() {
         let text = "k=3\nallowance=0\nlocations=1\ndepot=0\nlegs=7\nlatest=0\nround=1\nround=\n";
         let wanted = [
-            "refused (4): a depot or stop is not below the number of locations",
-            "7 s before, 7 s after, 0 s saved; finished after 0 candidates; order ",
+            "round 1: refused (4): a depot or stop is not below the number of locations",
+            "round 2: 7 s before, 7 s after, 0 s saved; finished after 0 candidates; order ",
             "2 rounds: 7 s before, 7 s after, 0 s saved in all; 1 refused",
         ];
-        assert_eq!(lines(text), wanted);
+        let (told, refused) = lines(text, 1);
+        assert_eq!((&told[..], refused), (&wanted.map(String::from)[..], true));
+    }
+
+    /// Rounds of very different lengths, so that later ones are done first.
+    #[test]
+    fn many_jobs_tell_what_one_tells() {
+        let text: String = include_str!("rounds.txt")
+            .split_inclusive('\n')
+            .take(10)
+            .collect();
+        let round = |number: usize| {
+            let stops: Vec<String> = (0..(number * 37) % 60)
+                .map(|place| (place * number % 5).to_string())
+                .collect();
+            format!("round={}\n", stops.join(","))
+        };
+        let text = text + &(0..40).map(round).collect::<String>();
+        let alone = lines(&text, 1);
+        assert_eq!(alone.0.len(), 41);
+        assert_eq!(lines(&text, 8), alone);
+        assert_eq!(lines(&text, 100), alone);
     }
 }

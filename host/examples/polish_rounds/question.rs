@@ -1,4 +1,4 @@
-//! The file of rounds. Only its form is judged here; its numbers are judged by the library.
+//! The file of rounds. Its form is judged here, the lengths of its rows too; its numbers are judged by the library.
 
 use std::str::{FromStr, Lines};
 
@@ -41,6 +41,18 @@ impl<'t> Reader<'t> {
         words.split(',').map(|word| self.parsed(word)).collect()
     }
 
+    /// A row with an entry for each location.
+    fn row(&mut self, name: &str, locations: usize) -> Result<Vec<u32>, String> {
+        let row = self.numbers(name)?;
+        if row.len() == locations {
+            return Ok(row);
+        }
+        let (number, entries) = (self.number, row.len());
+        Err(format!(
+            "line {number}: {name}= has {entries} entries, not {locations} as locations= says"
+        ))
+    }
+
     fn parsed<N: FromStr>(&self, word: &str) -> Result<N, String> {
         let fault = || format!("line {}: no number in range: {word:?}", self.number);
         word.parse().map_err(|_| fault())
@@ -59,7 +71,7 @@ impl Question {
         let depot = reader.number("depot")?;
         let mut legs = Vec::new();
         for _ in 0..locations {
-            legs.extend(reader.numbers("legs")?);
+            legs.extend(reader.row("legs", locations)?);
         }
         Ok(Self {
             k,
@@ -67,7 +79,7 @@ impl Question {
             locations,
             depot,
             legs,
-            latest: reader.numbers("latest")?,
+            latest: reader.row("latest", locations)?,
             rounds: rounds(&mut reader)?,
         })
     }
@@ -77,6 +89,12 @@ fn rounds(reader: &mut Reader) -> Result<Vec<Vec<u32>>, String> {
     let mut rounds = Vec::new();
     while reader.lines.clone().next().is_some() {
         rounds.push(reader.numbers("round")?);
+    }
+    if rounds.is_empty() {
+        return Err(format!(
+            "line {}: expected round=, as no round was given",
+            reader.number + 1
+        ));
     }
     Ok(rounds)
 }
@@ -102,6 +120,33 @@ mod tests {
         assert_eq!(
             fault(&format!("{head}rounds=2\n")),
             "line 7: expected round="
+        );
+    }
+
+    #[test]
+    fn rows_as_long_as_there_are_locations() {
+        let fault = |text: &str| Question::parse(text).err().unwrap();
+        let head = "k=2\nallowance=1\nlocations=2\ndepot=0\nlegs=0,1\n";
+        assert_eq!(
+            fault(&format!("{head}legs=1\n")),
+            "line 6: legs= has 1 entries, not 2 as locations= says"
+        );
+        assert_eq!(
+            fault(&format!("{head}legs=1,0\nlatest=1,2,3\nround=1\n")),
+            "line 7: latest= has 3 entries, not 2 as locations= says"
+        );
+        assert_eq!(
+            fault(&format!("{head}latest=1,2\n")),
+            "line 6: expected legs="
+        );
+    }
+
+    #[test]
+    fn no_round() {
+        let text = "k=2\nallowance=1\nlocations=1\ndepot=0\nlegs=0\nlatest=1\n";
+        assert_eq!(
+            Question::parse(text).err().unwrap(),
+            "line 7: expected round=, as no round was given"
         );
     }
 }

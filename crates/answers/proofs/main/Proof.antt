@@ -25,10 +25,13 @@ loop-less c = search needs
 loop-again : tie.Need-loop-again Inv-loop μ-loop
 loop-again c = search needs
 
+show-refused-requires : tie.Need-show-refused-requires Inv-loop μ-loop
+show-refused-requires c κs = search needs
+
 returns : tie.Need-returns Inv-loop μ-loop
 returns c = search needs
 
 pub main-spec : {M : Type 1} → statement M
 main-spec =
     tie.close
-    (tie.spec Inv-loop μ-loop loop-holds show-requires add-seed loop-less loop-again returns)
+    (tie.spec Inv-loop μ-loop loop-holds show-requires add-seed loop-less loop-again show-refused-requires returns)

@@ -5,6 +5,7 @@ use borrow.Author.Needs.{needs}
 use borrow.Author.Tests.{not-true, not-false}
 use Rattle.theory.specs.Route.{Problem}
 use Rattle.theory.specs.Tables.{problem}
+use Rattle.deadlines.proofs.Answer.{kept-told, late-told}
 use Rattle.reversal.proofs.Reading.{after-known}
 use Rattle.reversal.proofs.Turning.{turned-lent, turned-again}
 use Rattle.reversal.proofs.Trying.{tried-longer, tried-kept, tried-late, turned-timed}
@@ -61,11 +62,14 @@ part-reverse-end c = search needs
 reverse-requires : tie.Need-reverse-requires
 reverse-requires c κs = search needs
 
-is-feasible-requires : tie.Need-is-feasible-requires
-is-feasible-requires c κs =
+check-deadlines-requires : tie.Need-check-deadlines-requires
+check-deadlines-requires c κs =
     let s = c .before .before .before .before .before .before .before .before .before .before .before .before .before in
     let h : s .args .i ≤ s .args .j = omega (arith, s .pre .rising) in
     turned-timed (s .args .i) (s .args .j) (s .args .route .now) h (turned-lent (s .args .i) (s .args .j) (s .args .route .now) h (s .pre .inside) (c .before .before .before .reverse .ensures)) (s .pre .timed)
+
+enum-told : tie.Need-enum-told
+enum-told c = search needs
 
 mul-reverse-2 : tie.Need-mul-reverse-2
 mul-reverse-2 c = search needs
@@ -87,23 +91,29 @@ same-length-2 c = search needs
 
 returns-2 : tie.Need-returns-2
 returns-2 c =
-    let u = c .before .before .before .before .before .before .before .before .before in
+    let told = c .before .before .before .before in
+    let check = told .before .before in
+    let u = check .before .before .before .before in
     let s = u .before .before .before .before .before .before .before .before .before .before in
     let h : s .args .i ≤ s .args .j = omega (arith, s .pre .rising) in
     let turn = turned-lent (s .args .i) (s .args .j) (s .args .route .now) h (s .pre .inside) (u .reverse .ensures) in
     let back = turned-again (s .args .i) (s .args .j) (s .args .route .now) h (s .pre .inside) turn (c .before .before .reverse2 .ensures) in
-    tried-late (P s) (s .args .a) (s .args .b) (s .args .i) (s .args .j) (s .args .route .now) (u .before .before .before .before .stop-after .ensures) (u .before .before .before .is-shorter .ensures) (not-false _ (u .before .before .if1 .left)) turn (c .before .before .before .before .before .is-feasible .ensures) (not-true _ (c .before .before .before .before .if2 .taken)) back
+    tried-late (P s) (s .args .a) (s .args .b) (s .args .i) (s .args .j) (s .args .route .now) (u .before .before .before .before .stop-after .ensures) (u .before .before .before .is-shorter .ensures) (not-false _ (u .before .before .if1 .left)) turn (late-told (P s) _ (told .enum-told .given .1) (check .check-deadlines .ensures)) back
+
+enum-told-2 : tie.Need-enum-told-2
+enum-told-2 c = search needs
 
 same-length-3 : tie.Need-same-length-3
 same-length-3 c = search needs
 
 returns-3 : tie.Need-returns-3
 returns-3 c =
-    let u = c .before .before .before .before .before in
+    let check = c .before .before in
+    let u = check .before .before .before .before in
     let s = u .before .before .before .before .before .before .before .before .before .before in
     let h : s .args .i ≤ s .args .j = omega (arith, s .pre .rising) in
     let turn = turned-lent (s .args .i) (s .args .j) (s .args .route .now) h (s .pre .inside) (u .reverse .ensures) in
-    tried-kept (P s) (s .args .a) (s .args .b) (s .args .i) (s .args .j) (s .args .route .now) (u .before .before .before .before .stop-after .ensures) (u .before .before .before .is-shorter .ensures) (not-false _ (u .before .before .if1 .left)) turn (c .before .is-feasible .ensures) (not-false _ (c .if2 .left))
+    tried-kept (P s) (s .args .a) (s .args .b) (s .args .i) (s .args .j) (s .args .route .now) (u .before .before .before .before .stop-after .ensures) (u .before .before .before .is-shorter .ensures) (not-false _ (u .before .before .if1 .left)) turn (kept-told (P s) _ (c .enum-told2 .given .1) (check .check-deadlines .ensures))
 
 pub try-pair-spec : {M : Type 1} → statement M
 try-pair-spec =
@@ -121,7 +131,8 @@ try-pair-spec =
     part-reverse-start
     part-reverse-end
     reverse-requires
-    is-feasible-requires
+    check-deadlines-requires
+    enum-told
     mul-reverse-2
     sub-reverse-2
     part-reverse-start-2
@@ -129,5 +140,6 @@ try-pair-spec =
     reverse-requires-2
     same-length-2
     returns-2
+    enum-told-2
     same-length-3
     returns-3)

@@ -1,24 +1,34 @@
-//! Times the library and the Rust on the same inputs, in turn, and prints a Markdown table for polishing, one for the run and one
-//! for the nearby listing: nanoseconds a candidate or a set.
+//! bench NEW.. [--old OLD..]: times the library and the Rust on the same inputs, in turn, and prints a Markdown table for polishing, one for the run
+//! and one for the nearby listing: nanoseconds a candidate or a set. NEW and OLD are drivers (driver/driver.c) of an archive, which lies
+//! in each of them at another place; with OLD the older archive is timed in the same turns.
 //! A call that ends sooner is repeated until some two million candidates have been examined, so short routes include what a
-//! call costs besides its candidates. The best of a few turns counts, since other work may share the machine.
+//! call costs besides its candidates. The best of many turns counts, since other work may share the machine.
 
 #![forbid(unsafe_code)]
 
 use beside::draw::plane;
+use beside::driver::{self, Driver};
+use beside::means::Means;
 use beside::polish::case::Case;
+use beside::polish::measured::{self, CANDIDATES};
 use beside::random::Random;
 use beside::share::{share, Counted};
 use beside::tables::Tables;
-use beside::trial::{judge, Trial};
-use beside::{ffi, nearby, oracle, run};
+use beside::trial::{judge, Reply, Trial};
+use beside::{nearby, oracle, run};
+use std::env;
 use std::process::ExitCode;
 use std::time::{Duration, Instant};
 
-const CANDIDATES: u64 = 2_000_000;
-const TURNS: usize = 5;
-const SIZES: [usize; 4] = [20, 64, 128, 512];
-const KINDS: [&str; 3] = ["quiet", "busy", "deadlines"];
+/// Rounds in which the Rust has a turn, and turns of each archive in a round. After these the archives go on alone until as many rounds bring
+/// nothing better as there are places for an archive, more of them where the two are apart; but not beyond the longest.
+const ROUNDS: usize = 5;
+const TURNS: usize = 6;
+const IDLE_ROUNDS: usize = 4;
+const IDLE_ROUNDS_APART: usize = 16;
+const CLEARLY: f64 = 0.995;
+const APART: f64 = 0.025;
+const LONGEST: Duration = Duration::from_secs(15);
 
 /// Stops in each of eight rounds, by k.
 const RUN_SIZES: [(usize, usize); 4] = [(2, 64), (3, 24), (4, 12), (5, 9)];
@@ -28,7 +38,14 @@ const RUN_ROUNDS: usize = 8;
 const LISTED: [usize; 2] = [1_000, 100_000];
 
 fn main() -> ExitCode {
-    match polishing().and_then(|()| runs()).and_then(|()| listings()) {
+    let words: Vec<String> = env::args().skip(1).collect();
+    let mut sides = words.split(|word| word == "--old");
+    let (new, old) = (sides.next().unwrap_or_default(), sides.next());
+    if new.is_empty() || old.is_some_and(<[String]>::is_empty) || sides.next().is_some() {
+        eprintln!("usage: bench NEW.. [--old OLD..]; tools/bench makes the drivers");
+        return ExitCode::from(2);
+    }
+    match Bench::start(new, old).and_then(Bench::run) {
         Ok(()) => ExitCode::SUCCESS,
         Err(found) => {
             println!("DIFFERENCE\n{found}");
@@ -37,109 +54,241 @@ fn main() -> ExitCode {
     }
 }
 
-/// Both replies are compared before either side is timed.
-fn same(trial: &dyn Trial) -> Result<(), String> {
-    match judge(trial, false).1 {
-        Some(found) => Err(format!("{found}{trial}")),
-        None => Ok(()),
+/// The replies are compared with the Rust's before either side is timed.
+fn same(trial: &dyn Trial) -> Result<Reply, String> {
+    match judge(trial, false) {
+        (_, Some(found)) => Err(format!("{found}{trial}")),
+        (reply, None) => Ok(reply),
     }
 }
 
-fn polishing() -> Result<(), String> {
-    println!("Polishing\n");
-    println!("| k | stops | table | accepted a call | sets passed over | Rust ns | library ns | library / Rust |");
-    println!("|---|---|---|---|---|---|---|---|");
-    for k in 2..=5 {
-        for stops in SIZES {
-            for kind in KINDS {
-                let case = case(kind, k, stops);
-                same(&case)?;
-                let timed = timed(&mut || polish_by_rust(&case), &mut || {
-                    polish_by_library(&case)
-                });
-                let passed = 100.0 * passed_over(&case)?;
-                println!(
-                    "| {k} | {stops} | {kind} | {} | {passed:.1} % | {} |",
-                    timed.0, timed.1
-                );
+/// The archives that are timed, and the ratios so far.
+struct Bench {
+    new: Vec<Driver>,
+    old: Option<Vec<Driver>>,
+    means: Means,
+    /// Rows in which old and new reply otherwise.
+    apart: Vec<String>,
+}
+
+/// Best times of a row, in nanoseconds.
+struct Best {
+    rust: f64,
+    new: f64,
+    old: Option<f64>,
+}
+
+impl Best {
+    fn ratios(&self) -> (f64, Option<f64>) {
+        (self.new / self.rust, self.old.map(|old| self.new / old))
+    }
+
+    /// The cells of a row.
+    fn told(&self) -> String {
+        let (to_rust, to_old) = self.ratios();
+        let mut cells = format!("{:.2} | {:.2} | {to_rust:.3}", self.rust, self.new);
+        if let Some((old, ratio)) = self.old.zip(to_old) {
+            cells += &format!(" | {old:.2} | {ratio:.3}");
+        }
+        cells
+    }
+}
+
+impl Bench {
+    fn start(new: &[String], old: Option<&[String]>) -> Result<Self, String> {
+        let start = |programs: &[String]| {
+            programs
+                .iter()
+                .map(|program| Driver::start(program))
+                .collect()
+        };
+        Ok(Self {
+            new: start(new)?,
+            old: old.map(start).transpose()?,
+            means: Means::default(),
+            apart: Vec::new(),
+        })
+    }
+
+    fn run(mut self) -> Result<(), String> {
+        self.polishing()?;
+        self.runs()?;
+        self.listings()?;
+        println!("\n{}", self.means);
+        if !self.apart.is_empty() {
+            println!("\nOLD AND NEW REPLY OTHERWISE: {}", self.apart.join("; "));
+        }
+        Ok(())
+    }
+
+    fn table(&self, title: &str, columns: &str, unit: &str) {
+        let mut columns =
+            format!("| {columns} | Rust ns{unit} | library ns{unit} | library / Rust |");
+        if self.old.is_some() {
+            columns += &format!(" old ns{unit} | new / old |");
+        }
+        let lines = "---|".repeat(columns.matches('|').count() - 1);
+        println!("{title}\n\n{columns}\n|{lines}");
+    }
+
+    fn polishing(&mut self) -> Result<(), String> {
+        self.table(
+            "Polishing",
+            "k | stops | table | accepted a call | sets passed over",
+            "",
+        );
+        let mut rows = Vec::new();
+        measured::each(&mut |k, stops, kind| rows.push((k, stops, kind)));
+        rows.into_iter()
+            .try_for_each(|(k, stops, kind)| self.polish(k, stops, kind))
+    }
+
+    fn polish(&mut self, k: usize, stops: usize, kind: &'static str) -> Result<(), String> {
+        let case = measured::case(kind, k, stops);
+        let reply = same(&case)?;
+        let counted = Counted {
+            examined: reply.number(1, 1),
+            accepted: reply.number(1, 2),
+        };
+        let passed = 100.0 * passed_over(&case, &counted)?;
+        let name = format!("polishing, k = {k}, {stops} stops, {kind}");
+        let best = self.timed(&name, &driver::polish(&case), &mut || polish_by_rust(&case))?;
+        self.means.add(k, kind, &name, best.ratios());
+        let accepted = counted.accepted;
+        println!(
+            "| {k} | {stops} | {kind} | {accepted} | {passed:.1} % | {} |",
+            best.told()
+        );
+        Ok(())
+    }
+
+    fn runs(&mut self) -> Result<(), String> {
+        let title = format!("\nThe run, {RUN_ROUNDS} rounds, all polished until finished");
+        self.table(&title, "k | stops a round | candidates a call", "");
+        for (k, stops) in RUN_SIZES {
+            let case = run_case(k, stops);
+            let reply = same(&case)?;
+            let examined: u64 = (0..RUN_ROUNDS)
+                .map(|round| reply.number(1, 4 * round + 1))
+                .sum();
+            let name = format!("the run, k = {k}, {stops} stops");
+            let best = self.timed(&name, &driver::run(&case), &mut || run_by_rust(&case))?;
+            println!("| {k} | {stops} | {examined} | {} |", best.told());
+        }
+        Ok(())
+    }
+
+    fn listings(&mut self) -> Result<(), String> {
+        let title = "\nThe nearby listing, 512 positions, 5 cuts, 32 neighbours";
+        self.table(title, "sets a call", " a set");
+        for sets in LISTED {
+            let case = nearby::widest(&mut Random::new(1958), sets);
+            let count = same(&case)?.number(1, 0);
+            let name = format!("the listing, {count} sets");
+            let best = self.timed(&name, &driver::nearby(&case), &mut || list_by_rust(&case))?;
+            println!("| {count} | {} |", best.told());
+        }
+        Ok(())
+    }
+
+    /// The best times of a case, its sides taken in turn: until none has become better for a while.
+    fn timed(
+        &mut self,
+        name: &str,
+        case: &str,
+        by_rust: &mut dyn FnMut() -> Timed,
+    ) -> Result<Best, String> {
+        let mut sides: Vec<Side> = self
+            .old
+            .iter_mut()
+            .chain([&mut self.new])
+            .map(Side::of)
+            .collect();
+        let (start, mut rust) = (Instant::now(), f64::INFINITY);
+        let (mut round, mut idle) = (0, 0);
+        while round < ROUNDS || (!settled(&sides, idle) && start.elapsed() < LONGEST) {
+            if round < ROUNDS {
+                rust = rust.min(nanoseconds(by_rust));
             }
+            let better = turns(&mut sides, round, case)?;
+            idle = if better { 0 } else { idle + 1 };
+            round += 1;
+        }
+        let (first, last) = (&sides[0], &sides[sides.len() - 1]);
+        if first.reply != last.reply {
+            self.apart.push(String::from(name));
+        }
+        let (old, new) = (first.best, last.best);
+        let old = (sides.len() > 1).then_some(old);
+        Ok(Best { rust, new, old })
+    }
+}
+
+/// An archive that is timed on a case.
+struct Side<'d> {
+    drivers: &'d mut [Driver],
+    best: f64,
+    reply: u64,
+}
+
+impl<'d> Side<'d> {
+    fn of(drivers: &'d mut Vec<Driver>) -> Self {
+        Self {
+            drivers,
+            best: f64::INFINITY,
+            reply: 0,
         }
     }
-    Ok(())
+
+    /// The driver of a round.
+    fn driver(&mut self, round: usize) -> &mut Driver {
+        let place = round % self.drivers.len();
+        &mut self.drivers[place]
+    }
+
+    /// One turn; whether it was clearly better than those before.
+    fn turn(&mut self, round: usize) -> Result<bool, String> {
+        let turn = self.driver(round).turn(CANDIDATES)?;
+        let better = turn.nanoseconds < self.best * CLEARLY;
+        self.best = self.best.min(turn.nanoseconds);
+        self.reply = turn.reply;
+        Ok(better)
+    }
+}
+
+/// Whether rounds that bring nothing better need not be repeated.
+fn settled(sides: &[Side], idle: usize) -> bool {
+    let ratio = sides[sides.len() - 1].best / sides[0].best;
+    let apart = (ratio - 1.0).abs() > APART;
+    idle >= if apart {
+        IDLE_ROUNDS_APART
+    } else {
+        IDLE_ROUNDS
+    }
+}
+
+/// A round of turns; whether one of them was clearly better than those before.
+fn turns(sides: &mut [Side], round: usize, case: &str) -> Result<bool, String> {
+    let mut better = false;
+    // Anew, since a case can lie better or worse in memory.
+    for side in sides.iter_mut() {
+        side.driver(round).load(case)?;
+    }
+    for _ in 0..TURNS {
+        for side in sides.iter_mut() {
+            better |= side.turn(round)?;
+        }
+    }
+    Ok(better)
 }
 
 /// The share of cut sets passed over, counted beside; what is counted so must be what the library counts.
-fn passed_over(case: &Case) -> Result<f64, String> {
-    let (_, examined, accepted) = polish_by_library(case);
-    let by_library = Counted { examined, accepted };
+fn passed_over(case: &Case, by_library: &Counted) -> Result<f64, String> {
     let (counted, passed) = share(case);
-    if counted == by_library {
+    if counted == *by_library {
         Ok(passed)
     } else {
         Err(format!("{counted:?} where the library has {by_library:?}"))
-    }
-}
-
-fn runs() -> Result<(), String> {
-    println!("\nThe run, {RUN_ROUNDS} rounds, all polished until finished\n");
-    println!("| k | stops a round | candidates a call | Rust ns | library ns | library / Rust |");
-    println!("|---|---|---|---|---|---|");
-    for (k, stops) in RUN_SIZES {
-        let case = run_case(k, stops);
-        same(&case)?;
-        let timed = timed(&mut || run_by_rust(&case), &mut || run_by_library(&case));
-        println!("| {k} | {stops} | {} | {} |", timed.0, timed.1);
-    }
-    Ok(())
-}
-
-fn listings() -> Result<(), String> {
-    println!("\nThe nearby listing, 512 positions, 5 cuts, 32 neighbours\n");
-    println!("| sets a call | Rust ns a set | library ns a set | library / Rust |");
-    println!("|---|---|---|---|");
-    for sets in LISTED {
-        let case = nearby::widest(&mut Random::new(1958), sets);
-        same(&case)?;
-        let timed = timed(&mut || list_by_rust(&case), &mut || list_by_library(&case));
-        println!("| {} | {} |", timed.0, timed.1);
-    }
-    Ok(())
-}
-
-/// A depot and `stops` other locations, in a random order; the seed is the same in every run.
-fn case(kind: &str, k: usize, stops: usize) -> Case {
-    let mut random = Random::new(1958);
-    let locations = stops + 1;
-    let legs = match kind {
-        "quiet" => vec![100; locations * locations],
-        "busy" => busy(&mut random, locations),
-        _ => plane(&mut random, locations),
-    };
-    let mut case = Case {
-        k,
-        allowance: CANDIDATES,
-        tables: Tables::of_legs(locations, legs),
-        depot: 0,
-        route: (1..locations as u32).collect(),
-        room: 5,
-    };
-    if kind == "deadlines" {
-        set_deadlines(&mut random, &mut case);
-    }
-    case
-}
-
-fn busy(random: &mut Random, locations: usize) -> Vec<u32> {
-    (0..locations * locations)
-        .map(|_| 1 + random.below(1000) as u32)
-        .collect()
-}
-
-/// Each stop is due some seconds, up to one long leg, after the given order reaches it.
-fn set_deadlines(random: &mut Random, case: &mut Case) {
-    for (position, seconds) in case.arrivals().into_iter().enumerate() {
-        let due = seconds + random.below(300);
-        case.tables.latest[case.route[position] as usize] = u32::try_from(due).unwrap_or(u32::MAX);
     }
 }
 
@@ -156,107 +305,34 @@ fn run_case(k: usize, stops: usize) -> run::case::Case {
     }
 }
 
-/// One call: its time, what it counts the time by, and what is printed of it.
-type Timed = (Duration, u64, u64);
+/// One call: its time, and what it counts the time by.
+type Timed = (Duration, u64);
 
-/// What is printed of a call, then the best times of both sides and their ratio.
-fn timed(
-    by_rust: &mut dyn FnMut() -> Timed,
-    by_library: &mut dyn FnMut() -> Timed,
-) -> (u64, String) {
-    let (mut rust, mut library) = (f64::INFINITY, f64::INFINITY);
-    let mut count = 0;
-    for _ in 0..TURNS {
-        rust = rust.min(nanoseconds(by_rust).0);
-        let (time, printed) = nanoseconds(by_library);
-        library = library.min(time);
-        count = printed;
-    }
-    let ratio = library / rust;
-    (count, format!("{rust:.2} | {library:.2} | {ratio:.3}"))
-}
-
-fn nanoseconds(call: &mut dyn FnMut() -> Timed) -> (f64, u64) {
-    let (mut time, mut counted, mut printed) = (Duration::ZERO, 0, 0);
+fn nanoseconds(call: &mut dyn FnMut() -> Timed) -> f64 {
+    let (mut time, mut counted) = (Duration::ZERO, 0);
     while counted < CANDIDATES && time < Duration::from_millis(300) {
         let once = call();
         time += once.0;
         counted += once.1.max(1);
-        printed = once.2;
     }
-    (time.as_nanos() as f64 / counted as f64, printed)
+    time.as_nanos() as f64 / counted as f64
 }
 
 fn polish_by_rust(case: &Case) -> Timed {
     let mut route: Vec<usize> = case.route.iter().map(|&stop| stop as usize).collect();
     let start = Instant::now();
     let counts = oracle::polish::polish_stops(case, case.allowance, &mut route);
-    (start.elapsed(), counts.examined, counts.accepted)
-}
-
-fn polish_by_library(case: &Case) -> Timed {
-    let mut route = case.route.clone();
-    let mut result = [0; 5];
-    let start = Instant::now();
-    ffi::polish_route(
-        case.k,
-        case.allowance,
-        case.tables.locations,
-        &case.tables.legs,
-        &case.tables.latest,
-        case.depot,
-        &mut route,
-        &mut result,
-    );
-    (start.elapsed(), result[1], result[2])
+    (start.elapsed(), counts.examined)
 }
 
 fn run_by_rust(case: &run::case::Case) -> Timed {
     let start = Instant::now();
     let examined = oracle::run::run_quietly(case, case.allowance);
-    (start.elapsed(), examined, examined)
-}
-
-fn run_by_library(case: &run::case::Case) -> Timed {
-    let mut stops = case.stops.clone();
-    let mut result = vec![0; case.room];
-    let start = Instant::now();
-    ffi::run_list_k_opt(
-        case.k,
-        case.allowance,
-        case.tables.locations,
-        &case.tables.legs,
-        &case.tables.latest,
-        &mut stops,
-        &case.lengths,
-        &case.depots,
-        &case.pins,
-        &mut result,
-    );
-    let time = start.elapsed();
-    let examined = result.chunks(4).map(|round| round[1]).sum();
-    (time, examined, examined)
+    (start.elapsed(), examined)
 }
 
 fn list_by_rust(case: &nearby::case::Case) -> Timed {
     let start = Instant::now();
     let (sets, _more) = oracle::nearby::listed(case, case.sets_room / case.k);
-    let count = (sets.len() / case.k) as u64;
-    (start.elapsed(), count, count)
-}
-
-fn list_by_library(case: &nearby::case::Case) -> Timed {
-    let mut sets = vec![0; case.sets_room];
-    let mut result = [0; 2];
-    let start = Instant::now();
-    ffi::nearby_cuts(
-        case.n,
-        &case.distances,
-        case.k,
-        case.min_segment_len,
-        case.max_nearby,
-        &mut sets,
-        &mut result,
-    );
-    (start.elapsed(), result[0], result[0])
+    (start.elapsed(), (sets.len() / case.k) as u64)
 }

@@ -1,19 +1,24 @@
 //! compare [seed] [cases] [family [index]]: feeds the library and the Rust the same cases and compares all that a caller sees.
 //! Family and index, as a difference prints them, run that one case again, given the same seed and cases; the first word of families runs
-//! all of them. Exit 1 on a difference.
+//! all of them. Exit 1 on a difference, where nothing was compared, or where one comparison takes too long.
 
 #![forbid(unsafe_code)]
 
 use beside::random::Random;
 use beside::trial::{judge, Drawn, Family, Reply, Source, Trial};
-use beside::{checks, moves, nearby, parts, polish, run};
+use beside::watch::Watch;
+use beside::{checks, moves, nearby, parts, polish, run, text};
 use std::collections::BTreeMap;
 use std::env;
 use std::process::ExitCode;
+use std::time::Duration;
 
 const SEED: u64 = 1965;
 const CASES: u64 = 150_000;
 const MOST_PRINTED: u64 = 10;
+
+/// The longest comparison takes a second or two, a good deal more on a busy machine.
+const TOO_LONG: Duration = Duration::from_secs(180);
 
 struct Settings {
     seed: u64,
@@ -40,14 +45,15 @@ struct Tally {
     kinds: BTreeMap<&'static str, u64>,
 }
 
-#[derive(Default)]
 struct Tallies {
     calls: BTreeMap<&'static str, Tally>,
     differences: u64,
+    watch: Watch,
 }
 
 impl Tallies {
     fn compare(&mut self, family: &Family, index: u64, trial: &dyn Trial) -> Reply {
+        self.watch.begin(family.name, index);
         let (reply, difference) = judge(trial, family.small_stack);
         let kind = match reply.code {
             0 => trial.kind(&reply),
@@ -70,7 +76,8 @@ impl Tallies {
         }
     }
 
-    fn print(&self) {
+    /// Prints what was compared, and says whether it is as it should be.
+    fn print(&self) -> bool {
         for (call, tally) in &self.calls {
             let (compared, differences) = (tally.compared, tally.differences);
             println!("{compared:>9} {call}, {differences} differences");
@@ -79,6 +86,10 @@ impl Tallies {
         }
         let all: u64 = self.calls.values().map(|tally| tally.compared).sum();
         println!("{all} comparisons, {} differences", self.differences);
+        if all == 0 {
+            println!("nothing was compared");
+        }
+        all > 0 && self.differences == 0
     }
 }
 
@@ -102,14 +113,17 @@ fn main() -> ExitCode {
         println!("the Rust does not give what document 01 says: {fault}");
         return ExitCode::FAILURE;
     }
-    let mut tallies = Tallies::default();
+    let mut tallies = Tallies {
+        calls: BTreeMap::new(),
+        differences: 0,
+        watch: Watch::start(TOO_LONG),
+    };
     for (salt, family) in (0..).zip(&families) {
         if settings.wants_family(family) {
             run_family(&mut tallies, &settings, family, salt);
         }
     }
-    tallies.print();
-    ExitCode::from(u8::from(tallies.differences > 0))
+    ExitCode::from(u8::from(!tallies.print()))
 }
 
 fn families() -> Vec<Family> {
@@ -118,6 +132,10 @@ fn families() -> Vec<Family> {
     all.extend(nearby::FAMILIES);
     all.extend(moves::FAMILIES);
     all.extend(parts::FAMILIES);
+    match text::program() {
+        Ok(_) => all.extend(text::FAMILIES),
+        Err(reason) => println!("the text program is not compared: {reason}"),
+    }
     all
 }
 

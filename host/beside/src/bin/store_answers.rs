@@ -1,10 +1,13 @@
-//! Prints the Rust's answers to the questions of crates/answers, in that program's words: its file stdout. The questions are drawn
-//! by the same rule on both sides (`next`, `draw`, `filled`), and the library is not called.
+//! Prints the Rust's answers to the questions of crates/answers, or with the argument `moves` of crates/answers_moves, in that program's
+//! words: its file stdout. The questions are drawn by the same rule on both sides (`next`, `draw`, `filled`; crates/drawing), and the
+//! library is not called.
 
 #![forbid(unsafe_code)]
 
 use beside::moves::apply::Apply;
 use beside::moves::case::Cutting;
+use beside::moves::doable::Doable;
+use beside::moves::undo::Undo;
 use beside::tables::Tables;
 use beside::trial::{Reply, Trial};
 use beside::{checks, nearby, polish, run};
@@ -23,14 +26,53 @@ fn main() -> ExitCode {
         eprintln!("the Rust does not give what document 01 says: {fault}");
         return ExitCode::FAILURE;
     }
-    for seed in 0..SEEDS {
-        polished(seed, 9);
-        polished(seed, 5);
-        ran(seed);
-        listed(seed);
-        moved(seed);
+    match std::env::args().nth(1).as_deref() {
+        None => searches(),
+        Some("moves") => moves(),
+        Some(other) => {
+            eprintln!("store_answers: {other} is neither nothing nor moves");
+            return ExitCode::FAILURE;
+        }
     }
     ExitCode::SUCCESS
+}
+
+fn searches() {
+    for seed in 0..SEEDS {
+        say_polished(&polishing(seed, 9));
+        say_polished(&polishing(seed, 5));
+        ran(seed, 7);
+        listed(seed);
+    }
+    refused_searches();
+}
+
+/// One question for each number, in the order of the program.
+fn refused_searches() {
+    let asked = || polish::case::Case {
+        k: 3,
+        ..polishing(1, 5)
+    };
+    let (mut k, mut locations, mut leg, mut depot, mut room) =
+        (asked(), asked(), asked(), asked(), asked());
+    k.k = 6;
+    locations.tables.locations = 9;
+    leg.tables.legs[0] = 1_000_001;
+    depot.depot = 10;
+    room.room = 4;
+    for case in [k, locations, leg, depot, room] {
+        say_polished(&case);
+    }
+    ran(1, 8);
+    listed(29);
+}
+
+fn moves() {
+    for seed in 0..SEEDS {
+        moved(seed);
+    }
+    refused_moves();
+    refused_places();
 }
 
 fn next(state: u16) -> u16 {
@@ -79,38 +121,46 @@ fn told(numbers: &[u64]) -> String {
     numbers.iter().map(|number| format!(" {number}")).collect()
 }
 
-/// The numbers that were written, and the place beyond them.
-fn with_one_beyond(written: &[u64], beyond: u64) -> Vec<u64> {
-    [written, &[beyond]].concat()
+/// Lent places as the library's caller sees them: as before where the call is refused, else what was written and then the places beyond.
+fn seen(reply: &Reply, lent: usize, written: usize, places: usize, before: u64) -> Vec<u64> {
+    let kept = if reply.code == 0 { written } else { 0 };
+    let mut numbers = reply.lent[lent].1[..kept].to_vec();
+    numbers.resize(places, before);
+    numbers
 }
 
-fn polished(seed: u16, stops: usize) {
-    let case = polish::case::Case {
+fn polishing(seed: u16, stops: usize) -> polish::case::Case {
+    let mut tables = tables(seed);
+    tables.legs[0] = 0;
+    polish::case::Case {
         k: cuts_of(seed),
         allowance: allowance_of(seed),
-        tables: tables(seed),
+        tables,
         depot: 0,
         route: filled(seed, 9, stops),
-        room: 5,
-    };
+        room: 6,
+    }
+}
+
+fn say_polished(case: &polish::case::Case) {
     let reply = case.expected();
-    let result = with_one_beyond(&reply.lent[1].1, RESULT);
+    let result = seen(&reply, 1, 5, case.room, RESULT);
     say("polish", &reply, &result, "route", &reply.lent[0].1);
 }
 
-fn ran(seed: u16) {
+fn ran(seed: u16, last: usize) {
     let case = run::case::Case {
         k: cuts_of(seed),
         allowance: allowance_of(seed),
         tables: tables(seed),
         stops: filled(seed, 9, 16),
-        lengths: vec![6, 3, 7],
+        lengths: vec![6, 3, last],
         depots: vec![0, 1, 2],
         pins: vec![0, (seed / 4 % 2) as u8, 0],
-        room: 12,
+        room: 13,
     };
     let reply = case.expected();
-    let result = with_one_beyond(&reply.lent[1].1, RESULT);
+    let result = seen(&reply, 1, 12, case.room, RESULT);
     say("run", &reply, &result, "stops", &reply.lent[0].1);
 }
 
@@ -123,38 +173,89 @@ fn listed(seed: u16) {
         min_segment_len: usize::from(1 + seed / 4 % 2),
         max_nearby: usize::from(seed) + 4,
         sets_room: 40,
-        room: 2,
+        room: 3,
     };
     let reply = case.expected();
-    let result = with_one_beyond(&reply.lent[1].1, RESULT);
-    let mut sets = reply.lent[0].1.clone();
-    let written = reply.number(1, 0) as usize * case.k;
-    sets[written..].fill(PLACE);
+    let result = seen(&reply, 1, 2, case.room, RESULT);
+    let written = if reply.code == 0 {
+        result[0] as usize * case.k
+    } else {
+        0
+    };
+    let sets = seen(&reply, 0, written, case.sets_room, PLACE);
     say("nearby", &reply, &result, "sets", &sets);
 }
 
 fn moved(seed: u16) {
     let pattern = usize::from(seed);
-    apply(3, pattern % 7, &[1, 3, 6]);
-    apply(4, pattern * 6 % 47, &[0, 2, 5, 7]);
-    apply(5, pattern * 54 % 383, &[0, 1, 3, 6, 8]);
+    say_move(3, pattern % 7, &[1; 3], &[1, 3, 6]);
+    say_move(4, pattern * 6 % 47, &[1; 4], &[0, 2, 5, 7]);
+    say_move(5, pattern * 54 % 383, &[1; 5], &[0, 1, 3, 6, 8]);
 }
 
-fn apply(k: usize, pattern: usize, cuts: &[usize]) {
+fn refused_moves() {
+    say_move(6, 0, &[1; 3], &[1, 3, 6]);
+    say_move(3, 7, &[1; 3], &[1, 3, 6]);
+    say_move(3, 0, &[1; 3], &[3, 1, 6]);
+    say_move(3, 0, &[1, 2, 1], &[1, 3, 6]);
+    say_move(3, 0, &[1, 2, 1], &[3, 1, 6]);
+    say_move(3, 0, &[1; 2], &[1, 3, 6]);
+}
+
+fn refused_places() {
+    let three = || vec![11, 12, 13];
+    apply(cutting(3, 0, &[1; 3], &[0, 1, 3]), three(), 2);
+    undo(three(), vec![1, 2]);
+    undo(three(), vec![1, 2, 3, 4]);
+    doable(cutting(3, 0, &[1; 3], &[1, 3, 6]), 513);
+}
+
+fn cutting(k: usize, pattern: usize, rounds: &[usize], cuts: &[usize]) -> Cutting {
+    Cutting {
+        k,
+        pattern,
+        round: 1,
+        cut_rounds: rounds.to_vec(),
+        cut_positions: cuts.to_vec(),
+    }
+}
+
+/// A move of eight stops: applied, undone with the first places of its journal, and whether it can be done.
+fn say_move(k: usize, pattern: usize, rounds: &[usize], cuts: &[usize]) {
+    let cutting = || cutting(k, pattern, rounds, cuts);
+    let (route, journal) = apply(cutting(), (11..19).collect(), 9);
+    undo(route, journal[..8].to_vec());
+    doable(cutting(), 8);
+}
+
+/// The route and the journal after it.
+fn apply(cutting: Cutting, route: Vec<u32>, room: usize) -> (Vec<u32>, Vec<u32>) {
+    let stops = route.len();
     let case = Apply {
-        cutting: Cutting {
-            k,
-            pattern,
-            round: 1,
-            cut_rounds: vec![1; k],
-            cut_positions: cuts.to_vec(),
-        },
-        route: (11..19).collect(),
-        room: 8,
+        cutting,
+        route,
+        room,
         undone: false,
     };
     let reply = case.expected();
-    let route = told(&reply.lent[0].1);
-    let journal = with_one_beyond(&reply.lent[1].1, PLACE);
-    println!("move {} route{route} journal{}", reply.code, told(&journal));
+    let journal = seen(&reply, 1, stops, room, PLACE);
+    let (code, route) = (reply.code, &reply.lent[0].1);
+    println!("move {code} route{} journal{}", told(route), told(&journal));
+    (narrow(route), narrow(&journal))
+}
+
+fn narrow(stops: &[u64]) -> Vec<u32> {
+    stops.iter().map(|&stop| stop as u32).collect()
+}
+
+fn undo(route: Vec<u32>, journal: Vec<u32>) {
+    let reply = Undo { route, journal }.expected();
+    println!("undo {} route{}", reply.code, told(&reply.lent[0].1));
+}
+
+fn doable(cutting: Cutting, n: usize) {
+    let room = 2;
+    let reply = Doable { cutting, n, room }.expected();
+    let result = seen(&reply, 0, 1, room, RESULT);
+    println!("doable {}{}", reply.code, told(&result));
 }

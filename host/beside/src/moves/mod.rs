@@ -3,9 +3,9 @@
 pub mod apply;
 pub mod case;
 mod damage;
-mod doable;
+pub mod doable;
 pub mod generate;
-mod undo;
+pub mod undo;
 
 use crate::trial::{Family, Source};
 

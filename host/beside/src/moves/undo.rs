@@ -9,8 +9,8 @@ use crate::{ffi, oracle};
 use std::fmt::{Display, Formatter, Result as Written};
 
 pub struct Undo {
-    route: Vec<u32>,
-    journal: Vec<u32>,
+    pub route: Vec<u32>,
+    pub journal: Vec<u32>,
 }
 
 impl Undo {

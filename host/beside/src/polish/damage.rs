@@ -20,7 +20,8 @@ pub fn draw(random: &mut Random, index: u64) -> Drawn {
     })
 }
 
-fn damage(random: &mut Random, case: &mut Case, number: u32) {
+/// Makes a case one that is refused with a number.
+pub fn damage(random: &mut Random, case: &mut Case, number: u32) {
     match number {
         1 => case.k = damage::wrong_k(random),
         2 => damage::sizes(random, &mut case.tables),

@@ -2,17 +2,20 @@
 
 pub mod bounds;
 pub mod case;
-mod damage;
-mod generate;
+pub mod damage;
+mod deep;
+pub mod generate;
+pub mod measured;
 pub mod planted;
 mod short;
+mod shortest;
 mod stretches;
 
 use crate::trial::{Family, Source};
 
 const CALL: &str = "polish_route";
 
-pub const FAMILIES: [Family; 6] = [
+pub const FAMILIES: [Family; 8] = [
     Family::new(CALL, "polish/short", Source::Each(short::each)),
     Family::new(CALL, "polish/stretches", Source::Each(stretches::each)),
     Family::new(CALL, "polish/bounds", Source::Each(bounds::each)).on_small_stack(),
@@ -27,4 +30,6 @@ pub const FAMILIES: [Family; 6] = [
         "polish/planted",
         Source::Drawn(5, planted::PATTERNS, planted::draw),
     ),
+    Family::new(CALL, "polish/deep", Source::Each(deep::each)),
+    Family::new(CALL, "polish/shortest", Source::Each(shortest::each)),
 ];

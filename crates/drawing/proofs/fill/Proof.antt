@@ -1,10 +1,10 @@
--- `answers::fill` is safe and ends. Assumes nothing.
+-- `drawing::fill` is safe and ends. Assumes nothing.
 use Prim.Native.Nat.{_≤_, _-_}
 use mathlib.Core.Path.{_≡_}
 use lib.ListN.{length}
 use borrow.Author.Needs.{needs}
-use Rattle.answers.proofs.fill.Statement.{statement}
-use Rattle.answers.proofs.fill.Tie as tie
+use Rattle.drawing.proofs.fill.Statement.{statement}
+use Rattle.drawing.proofs.fill.Tie as tie
 
 abbrev Inv-loop : tie.InvT-loop
 Inv-loop seed span places₀ state₀ i₀ i-end places state i = (i-end ≡ length places₀) × (length places ≡ length places₀) × (i ≤ i-end)

@@ -1,0 +1,58 @@
+//! The cases that the bench measures polishing on: each is some two million candidates, or fewer where it finishes.
+
+use super::case::Case;
+use crate::draw::{capped, plane};
+use crate::random::Random;
+use crate::tables::Tables;
+
+pub const CANDIDATES: u64 = 2_000_000;
+pub const SIZES: [usize; 4] = [20, 64, 128, 512];
+pub const KINDS: [&str; 3] = ["quiet", "busy", "deadlines"];
+
+/// Every case with its k, its stops and its kind of table.
+pub fn each(visit: &mut dyn FnMut(usize, usize, &'static str)) {
+    for k in 2..=5 {
+        for stops in SIZES {
+            for kind in KINDS {
+                visit(k, stops, kind);
+            }
+        }
+    }
+}
+
+/// A depot and `stops` other locations, in a random order; the seed is the same in every run.
+pub fn case(kind: &str, k: usize, stops: usize) -> Case {
+    let mut random = Random::new(1958);
+    let locations = stops + 1;
+    let legs = match kind {
+        "quiet" => vec![100; locations * locations],
+        "busy" => busy(&mut random, locations),
+        _ => plane(&mut random, locations),
+    };
+    let mut case = Case {
+        k,
+        allowance: CANDIDATES,
+        tables: Tables::of_legs(locations, legs),
+        depot: 0,
+        route: (1..locations as u32).collect(),
+        room: 5,
+    };
+    if kind == "deadlines" {
+        set_deadlines(&mut random, &mut case);
+    }
+    case
+}
+
+fn busy(random: &mut Random, locations: usize) -> Vec<u32> {
+    (0..locations * locations)
+        .map(|_| 1 + random.below(1000) as u32)
+        .collect()
+}
+
+/// Each stop is due some seconds, up to one long leg, after the given order reaches it.
+pub fn set_deadlines(random: &mut Random, case: &mut Case) {
+    for (position, seconds) in case.arrivals().into_iter().enumerate() {
+        let due = seconds + random.below(300);
+        case.tables.latest[case.route[position] as usize] = capped(due);
+    }
+}

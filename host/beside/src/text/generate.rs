@@ -1,0 +1,108 @@
+//! Texts of the form, and those at its bounds.
+
+use super::case::Text;
+use crate::polish::bounds::text_case;
+use crate::polish::case::Case;
+use crate::polish::damage::damage;
+use crate::polish::generate::random_case;
+use crate::random::Random;
+use crate::tables::{listed, Tables};
+use crate::trial::{Drawn, Visit};
+
+pub fn draw(random: &mut Random, _index: u64) -> Drawn {
+    (Box::new(Text(good(random))), None)
+}
+
+/// Refusal numbers of what a text holds, highest first.
+const NUMBERS: [u32; 4] = [5, 4, 3, 1];
+
+/// How many sets of them there are.
+pub const SETS: u64 = 1 << NUMBERS.len();
+
+/// A text of the form whose values are refused: a set of damages to them.
+pub fn draw_refused(random: &mut Random, index: u64) -> Drawn {
+    let mut case = random_case(random);
+    for (bit, &number) in NUMBERS.iter().enumerate() {
+        if (index >> bit) & 1 == 1 {
+            damage(random, &mut case, number);
+        }
+    }
+    (Box::new(Text(written(&case))), None)
+}
+
+/// A text that is read, as long as its locations are few enough.
+pub fn good(random: &mut Random) -> Vec<u8> {
+    written(&random_case(random))
+}
+
+/// A case as the program reads it; an allowance that no text can hold becomes the largest.
+pub fn written(case: &Case) -> Vec<u8> {
+    let allowance = case.allowance.min(u64::from(u32::MAX));
+    let Tables {
+        locations,
+        legs,
+        latest,
+    } = &case.tables;
+    let mut text = format!(
+        "k={}\nallowance={allowance}\nlocations={locations}\ndepot={}\n",
+        case.k, case.depot
+    );
+    for row in legs.chunks(*locations) {
+        text += &format!("legs={}\n", listed(row));
+    }
+    text += &format!("latest={}\nround={}\n", listed(latest), listed(&case.route));
+    text.into_bytes()
+}
+
+pub fn each_bound(random: &mut Random, visit: Visit) {
+    let mut visit = |case: &Case| visit(Box::new(Text(written(case))));
+    for allowance in [0, 3, 10, 11, 100, u64::MAX] {
+        visit(&text_case(allowance));
+    }
+    for stops in [0, 1, 511, 512, 513, 29_000] {
+        visit(&stops_of_one_place(stops));
+    }
+    for locations in [1, 95, 96, 97, 1000] {
+        visit(&some_locations(random, locations));
+    }
+    // As long as a text may be, and by one byte longer.
+    let empty = written(&stops_of_one_place(0)).len();
+    for bytes in [59_999, 60_000, 60_001, 60_002, 61_001] {
+        visit(&filled_up(bytes - empty));
+    }
+}
+
+fn stops_of_one_place(stops: usize) -> Case {
+    Case {
+        k: 2,
+        allowance: 1000,
+        tables: Tables::of_legs(1, vec![7]),
+        depot: 0,
+        route: vec![0; stops],
+        room: 5,
+    }
+}
+
+/// A route that takes so many bytes: each stop one digit and a comma but for the last, which may have two.
+fn filled_up(bytes: usize) -> Case {
+    let mut case = stops_of_one_place(bytes.div_ceil(2));
+    if bytes % 2 == 0 {
+        case.route.pop();
+        case.route.extend([10]);
+    }
+    case
+}
+
+fn some_locations(random: &mut Random, locations: usize) -> Case {
+    let legs = (0..locations * locations)
+        .map(|_| random.below(9) as u32)
+        .collect();
+    Case {
+        k: 3,
+        allowance: 500,
+        tables: Tables::of_legs(locations, legs),
+        depot: 0,
+        route: (0..locations as u32).collect(),
+        room: 5,
+    }
+}

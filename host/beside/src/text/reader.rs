@@ -1,0 +1,98 @@
+//! A text's meaning, written from document 01's "Text program": a reader that takes the lines apart, over the unchanged Rust.
+
+use crate::oracle::polish::{polish, Counts};
+use crate::polish::case::{Case, RESULT_PLACES};
+use crate::tables::{listed, Tables};
+
+const MOST_BYTES: usize = 60_000;
+const MOST_LOCATIONS: usize = 96;
+
+/// What the program writes for a text.
+pub fn answer(text: &[u8]) -> String {
+    let Some(case) = read(text) else {
+        return refused(10);
+    };
+    match case.refusal() {
+        0 => answered(&case),
+        number => refused(number),
+    }
+}
+
+fn refused(number: u32) -> String {
+    format!("refused={number}\n")
+}
+
+fn answered(case: &Case) -> String {
+    let mut route = case.route.clone();
+    let Counts {
+        spent,
+        examined,
+        accepted,
+    } = polish(case, case.allowance, &mut route);
+    let answer = if spent { "spent" } else { "finished" };
+    let (before, after) = (case.length(), case.tables.length(case.depot, &route));
+    let round = listed(&route);
+    format!("answer={answer}\nexamined={examined}\naccepted={accepted}\nbefore={before}\nafter={after}\nround={round}\n")
+}
+
+/// None where a text is not of the form.
+fn read(text: &[u8]) -> Option<Case> {
+    if text.len() > MOST_BYTES {
+        return None;
+    }
+    let text = std::str::from_utf8(text).ok()?;
+    let mut lines = text.strip_suffix('\n')?.split('\n');
+    let k = number(value(lines.next(), "k")?)?;
+    let allowance = number(value(lines.next(), "allowance")?)?;
+    let locations = number(value(lines.next(), "locations")?)? as usize;
+    let depot = number(value(lines.next(), "depot")?)?;
+    if !(1..=MOST_LOCATIONS).contains(&locations) {
+        return None;
+    }
+    let mut legs = Vec::new();
+    for _ in 0..locations {
+        legs.extend(row(value(lines.next(), "legs")?, locations)?);
+    }
+    let latest = row(value(lines.next(), "latest")?, locations)?;
+    let route = match value(lines.next(), "round")? {
+        "" => Vec::new(),
+        words => numbers(words)?,
+    };
+    if lines.next().is_some() {
+        return None;
+    }
+    Some(Case {
+        k: k as usize,
+        allowance: u64::from(allowance),
+        tables: Tables {
+            locations,
+            legs,
+            latest,
+        },
+        depot,
+        route,
+        room: RESULT_PLACES,
+    })
+}
+
+fn value<'t>(line: Option<&'t str>, name: &str) -> Option<&'t str> {
+    line?.strip_prefix(name)?.strip_prefix('=')
+}
+
+fn row(words: &str, entries: usize) -> Option<Vec<u32>> {
+    numbers(words).filter(|row| row.len() == entries)
+}
+
+fn numbers(words: &str) -> Option<Vec<u32>> {
+    words.split(',').map(number).collect()
+}
+
+/// 1 to 10 digits, no leading zero but in 0 itself, at most 4294967295.
+fn number(word: &str) -> Option<u32> {
+    let digits = word.bytes().all(|byte| byte.is_ascii_digit());
+    let leading = word.len() > 1 && word.starts_with('0');
+    if !digits || leading || !(1..=10).contains(&word.len()) {
+        return None;
+    }
+    u32::try_from(word.parse::<u64>().ok()?).ok()
+}

@@ -1,0 +1,83 @@
+//! Rounds polished on several threads, told in their order. The library has no state between calls.
+
+use crate::question::Question;
+use mittenschist::{polish_route, Polished, Refusal, Tables};
+use std::collections::BTreeMap;
+use std::sync::atomic::{AtomicUsize, Ordering};
+use std::sync::mpsc::{self, Receiver, Sender};
+use std::thread;
+
+/// What became of a round: the answer and its stops, or why it was refused.
+pub type Outcome = Result<(Polished, Vec<u32>), Refusal>;
+
+/// Polishes every round, `jobs` at a time, and tells each outcome as soon as those before it are told.
+pub fn polish_all(question: &Question, jobs: usize, tell: impl FnMut(Outcome)) {
+    let next = AtomicUsize::new(0);
+    let (done, outcomes) = mpsc::channel();
+    thread::scope(|scope| {
+        for _ in 0..jobs.min(question.rounds.len()) {
+            let (next, done) = (&next, done.clone());
+            scope.spawn(move || work(question, next, &done));
+        }
+        drop(done);
+        in_order(outcomes, tell);
+    });
+}
+
+/// Takes the next round until none is left.
+fn work(question: &Question, next: &AtomicUsize, done: &Sender<(usize, Outcome)>) {
+    loop {
+        let place = next.fetch_add(1, Ordering::Relaxed);
+        let Some(round) = question.rounds.get(place) else {
+            return;
+        };
+        let outcome = polish(question, round.clone());
+        if done.send((place, outcome)).is_err() {
+            return;
+        }
+    }
+}
+
+/// One round in one call.
+fn polish(question: &Question, mut route: Vec<u32>) -> Outcome {
+    let tables = Tables {
+        locations: question.locations,
+        legs: &question.legs,
+        latest: &question.latest,
+    };
+    let (k, allowance) = (question.k, question.allowance);
+    let polished = polish_route(k, allowance, &tables, question.depot, &mut route)?;
+    Ok((polished, route))
+}
+
+fn in_order(outcomes: Receiver<(usize, Outcome)>, mut tell: impl FnMut(Outcome)) {
+    let mut waiting = BTreeMap::new();
+    let mut next = 0;
+    for (place, outcome) in outcomes {
+        waiting.insert(place, outcome);
+        while let Some(outcome) = waiting.remove(&next) {
+            tell(outcome);
+            next += 1;
+        }
+    }
+}
+
+#[cfg(test)]
+mod tests {
+    use super::in_order;
+    use mittenschist::Refusal;
+    use std::sync::mpsc;
+
+    #[test]
+    fn told_in_order_however_they_come() {
+        let (done, outcomes) = mpsc::channel();
+        for place in [2, 0, 3, 1] {
+            done.send((place, Err(Refusal::Other(place as u32))))
+                .unwrap();
+        }
+        drop(done);
+        let mut told = Vec::new();
+        in_order(outcomes, |outcome| told.push(outcome.unwrap_err().number()));
+        assert_eq!(told, [0, 1, 2, 3]);
+    }
+}

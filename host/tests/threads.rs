@@ -1,0 +1,162 @@
+//! Calls from several threads at once: each gives what it gives alone, writes nothing beside what it was lent, and leaves the tables that all
+//! of them read as they were.
+
+#![forbid(unsafe_code)]
+
+#[path = "support/mod.rs"]
+mod support;
+
+use mittenschist::raw;
+use std::sync::Barrier;
+use std::thread;
+use support::lent::{filled, filled_u32, filled_usize, Lent};
+use support::{kept, written};
+
+const THREADS: u32 = 8;
+const CALLS: u32 = 40;
+const PASSES: u32 = 10;
+const LOCATIONS: usize = 40;
+
+/// Tables that all threads read at once.
+struct Tables<'t> {
+    legs: &'t [u32],
+    latest: &'t [u32],
+    distances: &'t [f64],
+}
+
+/// Everything that a caller sees of one call of each kind; which ones depends on the number.
+fn calls(tables: &Tables, number: u32) -> Vec<Vec<u64>> {
+    vec![
+        polished(tables, number),
+        ran(tables, number),
+        listed(tables, number),
+        moved(number),
+    ]
+}
+
+fn stops(number: u32, count: u32) -> Vec<u32> {
+    (0..count)
+        .map(|place| (place * 7 + number) % LOCATIONS as u32)
+        .collect()
+}
+
+fn cuts(number: u32) -> usize {
+    2 + number as usize % 4
+}
+
+fn polished(tables: &Tables, number: u32) -> Vec<u64> {
+    let (before, room) = (stops(number, 12), filled(7));
+    let (mut route, mut result) = (Lent::new("route", &before), Lent::new("result", &room));
+    let code = raw::polish_route(
+        cuts(number),
+        20_000 + u64::from(number),
+        LOCATIONS,
+        tables.legs,
+        tables.latest,
+        0,
+        route.slice(),
+        result.slice(),
+    );
+    [vec![u64::from(code)], written(&route), written(&result)].concat()
+}
+
+fn ran(tables: &Tables, number: u32) -> Vec<u64> {
+    let (before, room) = (stops(number, 20), filled(13));
+    let (mut all, mut result) = (Lent::new("stops", &before), Lent::new("result", &room));
+    let code = raw::run_list_k_opt(
+        cuts(number),
+        9_000,
+        LOCATIONS,
+        tables.legs,
+        tables.latest,
+        all.slice(),
+        &[9, 3, 8],
+        &[0, 1, 2],
+        &[0, 0, 0],
+        result.slice(),
+    );
+    [vec![u64::from(code)], written(&all), written(&result)].concat()
+}
+
+fn listed(tables: &Tables, number: u32) -> Vec<u64> {
+    let (places, room) = (filled_usize(101), filled(3));
+    let (mut sets, mut result) = (Lent::new("sets", &places), Lent::new("result", &room));
+    let neighbours = 1 + number as usize % 32;
+    let (k, distances) = (cuts(number), tables.distances);
+    let code = raw::nearby_cuts(
+        LOCATIONS,
+        distances,
+        k,
+        2,
+        neighbours,
+        sets.slice(),
+        result.slice(),
+    );
+    [vec![u64::from(code)], written(&sets), written(&result)].concat()
+}
+
+/// Applied and taken back; every third one is refused.
+fn moved(number: u32) -> Vec<u64> {
+    let (before, room) = (stops(number, 30), filled_u32(30));
+    let (mut route, mut journal) = (Lent::new("route", &before), Lent::new("journal", &room));
+    let rounds = [0, 0, u32::from(number % 3 == 0) as usize];
+    let cuts = [1, 5 + number as usize % 5, 28];
+    let pattern = number as usize % 7;
+    let done = raw::k_opt_do_move(
+        3,
+        pattern,
+        0,
+        &rounds,
+        &cuts,
+        route.slice(),
+        journal.slice(),
+    );
+    let after = written(&route);
+    let undone = raw::k_opt_undo_move(route.slice(), journal.slice());
+    let codes = vec![u64::from(done), u64::from(undone)];
+    [codes, after, written(&route), written(&journal)].concat()
+}
+
+#[test]
+fn several_threads_at_once() {
+    let leg = |place: u32| 1 + place.wrapping_mul(2_654_435_761) % 997;
+    let legs: Vec<u32> = (0..(LOCATIONS * LOCATIONS) as u32).map(leg).collect();
+    let latest: Vec<u32> = (0..LOCATIONS as u32)
+        .map(|place| 20_000 + 100 * place)
+        .collect();
+    let distances: Vec<f64> = legs.iter().map(|&leg| f64::from(leg)).collect();
+    let mut lent = (
+        Lent::new("legs", &legs),
+        Lent::new("deadlines", &latest),
+        Lent::new("distances", &distances),
+    );
+    at_once(&Tables {
+        legs: lent.0.slice(),
+        latest: lent.1.slice(),
+        distances: lent.2.slice(),
+    });
+    kept(&lent.0);
+    kept(&lent.1);
+    kept(&lent.2);
+}
+
+fn at_once(tables: &Tables) {
+    let alone: Vec<_> = (0..CALLS).map(|number| calls(tables, number)).collect();
+    let start = Barrier::new(THREADS as usize);
+    thread::scope(|scope| {
+        for thread in 0..THREADS {
+            let (alone, start) = (&alone, &start);
+            scope.spawn(move || {
+                start.wait();
+                // Each thread has its own order, so that different calls meet.
+                for number in (0..PASSES * CALLS).map(|number| (number * 3 + thread * 11) % CALLS) {
+                    assert_eq!(
+                        calls(tables, number),
+                        alone[number as usize],
+                        "call {number}"
+                    );
+                }
+            });
+        }
+    });
+}
