@@ -13,7 +13,7 @@ use Rattle.theory.specs.Moves.{next-cuts}
 use Rattle.theory.specs.Costs.{forward, backward}
 use Rattle.theory.specs.Route.{reconnected, feasible}
 use Rattle.theory.specs.Polish.{search-of, polish-with, move-at}
-use Rattle.theory.specs.Tables.{problem, Stops, CutSet, pattern-rows}
+use Rattle.theory.specs.Tables.{problem, Timed, CutSet, pattern-rows}
 use Rattle.theory.proofs.Stops.{stops-rearranged}
 use Rattle.theory.proofs.Polishing.{within, as-long, gained, passed, finishes, is-spent}
 use Rattle.cuts.specs.Step.{found, or-kept, Stepped}
@@ -25,7 +25,7 @@ use Rattle.shared.proofs.Keeping.{cuts-parted, first-many}
 use Rattle.stretches.specs.declared.Stretch.{Stretch}
 use Rattle.stretches.specs.Stretch.{Stretchable, Stretched}
 use Rattle.stretches.proofs.Counting.{count-least, count-next}
-use Rattle.scanning.specs.Loop.{Scannable}
+use Rattle.scanning.specs.Loop.{Scannable, Measured}
 use Rattle.scanning.proofs.NextCuts.{next-last, next-opened}
 use Rattle.scanning.proofs.Scanning.{At, many, for-cuts, timed, own-cuts, own-rows, own-states, first-set}
 
@@ -38,11 +38,6 @@ first-opened (suc (suc (suc zero))) h l = refl
 first-opened (suc (suc (suc (suc zero)))) h l = refl
 first-opened (suc (suc (suc (suc (suc zero))))) h l = refl
 first-opened (suc (suc (suc (suc (suc (suc k)))))) h l = absurd (omega arith)
-
--- What improves keeps every deadline.
-both-true : (a b : Bool) → (a && b) ≡ true → a ≡ true
-both-true true b h = refl
-both-true false b h = h
 
 module _ (k locations : ℕ) (legs latest : List ℕ) (depot : ℕ) (orders masks rows route₀ : List ℕ) (A : ℕ) (ok : Scannable k locations legs latest depot orders masks rows route₀) where
   as-many : length (pattern-rows k orders masks) ≡ length masks
@@ -124,15 +119,15 @@ module _ (k locations : ℕ) (legs latest : List ℕ) (depot : ℕ) (orders mask
 
     -- ---- before a stretch
 
-    pub stretchable : {forwards backwards table spare : List ℕ} {kept : Bool} → Sums r (forward (leg locations legs) r) forwards → Sums r (backward (leg locations legs) r) backwards → Padded table → length spare ≡ 512 →
-        Opened cuts → (kept ≡ true → feasible (problem locations legs latest depot) r ≡ true) → Stretchable locations legs latest depot orders masks rows r forwards backwards kept cuts table spare
-    stretchable f b p s o t =
+    pub stretchable : {forwards backwards table spare late : List ℕ} {longest : ℕ} → Measured locations legs latest depot r forwards backwards longest late → Padded table → length spare ≡ 512 → Opened cuts →
+        Stretchable locations legs latest depot orders masks rows r forwards backwards longest late cuts table spare
+    stretchable m p s o =
         record {
           gainable = record {
             searchable = record {
               timed = timed k locations legs latest depot orders masks rows route₀ A ok cuts e c r now;
-              forwards = f;
-              backwards = b;
+              forwards = m .forwards;
+              backwards = m .backwards;
               cut-set = own-cuts k locations legs latest depot orders masks rows route₀ A ok cuts e c r now;
               rows = own-rows k locations legs latest depot orders masks rows route₀ A ok cuts e c r now;
               allowed = omega arith;
@@ -142,7 +137,8 @@ module _ (k locations : ℕ) (legs latest : List ℕ) (depot : ℕ) (orders mask
             places = s;
           };
           first = o;
-          in-time = t;
+          head = m .head;
+          latenesses = m .latenesses;
         }
 
     -- ---- behind a stretch
@@ -204,11 +200,10 @@ module _ (k locations : ℕ) (legs latest : List ℕ) (depot : ℕ) (orders mask
             (λ x h. idle t x (end .gain g .1 .least) (end .gain g .1 .most) (omega (arith, listed)) (omega (arith, number)))
             (for-cuts k locations legs latest depot orders masks rows route₀ A ok) (omega (arith, as-many, listed)) (omega (arith, number, room-for-it)) gains-there)
 
-        pub candidate-stops : Stops locations r′
-        candidate-stops = stops-rearranged route₀ r′ (begins-again .same) locations (ok .timed .measurable .stops)
-
-        pub then-kept : feasible (problem locations legs latest depot) r′ ≡ true
-        then-kept = rw built (both-true _ _ gains-there)
+        pub candidate-timed : Timed locations legs latest depot r′
+        candidate-timed =
+            let m = ok .timed .measurable in
+            record { measurable = record { table = m .table; depot-known = m .depot-known; stops = stops-rearranged route₀ r′ (begins-again .same) locations (m .stops) }; deadlines = ok .timed .deadlines }
 
       pub spent-now : answer .gains ≡ false → answer .through ≡ false →
           record { finished = false; examined = e + answer .examined; accepted = c; route = r } ≡ polish-with (problem locations legs latest depot) (pattern-rows k orders masks) k A route₀

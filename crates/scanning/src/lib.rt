@@ -1,6 +1,6 @@
 // The scan of document 01, stretch by stretch: the cut sets with the same first cuts are one. No entry: crate polishing calls it.
 ghost use Rattle.theory.specs.Tables.{problem, pattern-rows};
-ghost use Rattle.scanning.specs.Loop.{Built, Taken, Scannable, Scans};
+ghost use Rattle.scanning.specs.Loop.{Measurable, Measured, Built, Taken, Scannable, Scans};
 
 // What the scan counted when it ended.
 pub struct Scanned {
@@ -9,22 +9,52 @@ pub struct Scanned {
     pub accepted: u64,
 }
 
-// The accepted candidate as the route, with its sums: the old ones say nothing of it.
+// The running sums of a route, and what it leaves to its candidates; the answer is the longest head.
+fn measure(
+    locations: usize,
+    legs: &[u32],
+    latest: &[u32],
+    depot: u32,
+    route: &[u32],
+    forward: &mut [u64; 512],
+    backward: &mut [u64; 512],
+    lateness: &mut [u64; 513],
+) -> usize
+    requires { ⌜ Measurable locations (now legs) (now latest) depot (now route) (now forward) (now backward) (now lateness) ⌝ }
+    ensures { λ r. ⌜ Measured locations (now (legs .entry)) (now (latest .entry)) depot (now (route .entry)) (now (forward .exit)) (now (backward .exit)) r (now (lateness .exit)) ⌝ }
+{
+    costs::forward_sums(locations, legs, route, forward);
+    costs::backward_sums(locations, legs, route, backward);
+    deadlines::fill_lateness(locations, legs, latest, depot, route, forward, lateness)
+}
+
+// The accepted candidate as the route, measured anew: the old sums say nothing of it.
 fn take_gain(
     locations: usize,
     legs: &[u32],
+    latest: &[u32],
+    depot: u32,
     spare: &[u32],
     route: &mut [u32],
     forward: &mut [u64; 512],
     backward: &mut [u64; 512],
-)
-    requires { ⌜ Built locations (now legs) (now spare) (now route) (now forward) (now backward) ⌝ }
-    ensures { λ _. ⌜ Taken locations (now (legs .entry)) (now (spare .entry)) (now (route .entry)) (now (route .exit)) (now (forward .exit)) (now (backward .exit)) ⌝ }
+    lateness: &mut [u64; 513],
+) -> usize
+    requires { ⌜ Built locations (now legs) (now latest) depot (now spare) (now route) (now forward) (now backward) (now lateness) ⌝ }
+    ensures { λ r. ⌜ Taken locations (now (legs .entry)) (now (latest .entry)) depot (now (spare .entry)) (now (route .entry)) (now (route .exit)) (now (forward .exit)) (now (backward .exit)) r (now (lateness .exit)) ⌝ }
 {
     let n = route.len();
     reconnection::copy_in(&spare[..n], route, 0);
-    costs::forward_sums(locations, legs, &route[..], forward);
-    costs::backward_sums(locations, legs, &route[..], backward);
+    measure(
+        locations,
+        legs,
+        latest,
+        depot,
+        &route[..],
+        forward,
+        backward,
+        lateness,
+    )
 }
 
 // The scan: the first improving candidate of a stretch is taken and the scan begins again, or the stretch is passed.
@@ -47,9 +77,17 @@ pub fn scan_cut_sets(
     let mut backward = [0u64; 512];
     let mut joint = [0u64; 160];
     let mut spare = [0u32; 512];
-    costs::forward_sums(locations, legs, &route[..], &mut forward);
-    costs::backward_sums(locations, legs, &route[..], &mut backward);
-    let mut kept = deadlines::is_feasible(locations, legs, latest, depot, &route[..]);
+    let mut lateness = [0u64; 513];
+    let mut longest = measure(
+        locations,
+        legs,
+        latest,
+        depot,
+        &route[..],
+        &mut forward,
+        &mut backward,
+        &mut lateness,
+    );
     let mut cut = [0usize, 1, 2, 3, 4];
     let mut examined = 0u64;
     let mut accepted = 0u64;
@@ -65,7 +103,8 @@ pub fn scan_cut_sets(
             &route[..],
             &forward,
             &backward,
-            kept,
+            longest,
+            &lateness,
             &mut cut[..k],
             &mut joint,
             &mut spare,
@@ -73,8 +112,17 @@ pub fn scan_cut_sets(
         );
         examined += stretch.examined;
         if stretch.gains {
-            take_gain(locations, legs, &spare, route, &mut forward, &mut backward);
-            kept = true;
+            longest = take_gain(
+                locations,
+                legs,
+                latest,
+                depot,
+                &spare,
+                route,
+                &mut forward,
+                &mut backward,
+                &mut lateness,
+            );
             cut = [0, 1, 2, 3, 4];
             examined += 1;
             accepted += 1;
