@@ -30,6 +30,19 @@ pub lateness-step : (P : Problem) (r : List ℕ) (c : ℕ) → c < length r → 
 unfolding lateness most
 lateness-step P r c h = let e : length r - c ≡ suc (length r - suc c) = omega arith in rw e
 
+-- Further on, no stop is later.
+no-later : (P : Problem) (r : List ℕ) (c : ℕ) → lateness P r (suc c) ≤ lateness P r c
+no-later P r c = by (decLt c (length r))
+  where
+    by : Dec (c < length r) → lateness P r (suc c) ≤ lateness P r c
+    by (yes h) = omega (arith, lateness-step P r c h)
+    by (no n) = omega (arith, lateness-end P r (suc c) (omega arith))
+
+-- Where no stop is late, none is from any position on.
+pub none-late : (P : Problem) (r : List ℕ) (c : ℕ) → lateness P r 0 ≡ 0 → lateness P r c ≡ 0
+none-late P r zero e = e
+none-late P r (suc c) e = omega (arith, none-late P r c e, no-later P r c)
+
 -- ---- a tail that is reached sooner
 
 arrival-next : (P : Problem) (r : List ℕ) (c : ℕ) → suc c < length r → arrival P r (suc c) ≡ arrival P r c + P .leg (getD r c 0) (getD r (suc c) 0)
@@ -93,6 +106,32 @@ module _ (P : Problem) (r : List ℕ) (p : ℕ) (f : LongestHead P r p) (c : ℕ
       (λ i k.
       let h : i < c = omega (arith, long) in
       rw (take-take (suc i) c r h, getD-take c r i 0 h) (f .in-time i i (omega arith) (omega arith) (omega (arith, f .within))))
+
+-- ---- a route that keeps every deadline
+
+most-none : (t : ℕ → ℕ) (from n : ℕ) → ((i : ℕ) → i < from + n → t i ≡ 0) → most t from n ≡ 0
+unfolding most
+most-none t from zero h = refl
+most-none t from (suc n) h = omega (arith, h from (omega arith), most-none t (suc from) n (λ i l. h i (omega arith)))
+
+arrival-later : (P : Problem) (r : List ℕ) (i n : ℕ) → i + n < length r → arrival P r i ≤ arrival P r (i + n)
+arrival-later P r i zero h = let e : i + 0 ≡ i = omega arith in rw e (omega arith)
+arrival-later P r i (suc n) h =
+    let e : i + suc n ≡ suc (i + n) = omega arith in
+    rw e (omega (arith, arrival-later P r i n (omega arith), arrival-next P r (i + n) (omega arith)))
+
+module _ (P : Problem) (r : List ℕ) (kept : feasible P r ≡ true) where
+  pub kept-not-late : lateness P r 0 ≡ 0
+  unfolding lateness late-by
+  kept-not-late = most-none (λ i. arrival P r i - P .latest (getD r i 0)) 0 (length r - 0) (λ i h. omega (arith, feasible-iff P r .0 kept i (omega arith)))
+
+  pub kept-head : LongestHead P r (length r)
+  kept-head =
+      record {
+        within = omega arith;
+        in-time = λ i j h k l. let e : i + (j - i) ≡ j = omega arith in omega (arith, rw e at (arrival-later P r i (j - i) (omega arith)), feasible-iff P r .0 kept j l);
+        beyond = λ h. absurd (omega arith);
+      }
 
 -- With a longer one, no order of what is behind it keeps every deadline.
 on-time-soon : (P : Problem) (a t : ℕ) (xs : List ℕ) → on-time P a t xs ≡ true → (g : ℕ → ℕ) → ((x : ℕ) → t ≤ P .latest x → g x ≡ 0) → total g xs ≡ 0

@@ -13,19 +13,21 @@ use Rattle.theory.specs.Moves.{next-cuts}
 use Rattle.theory.specs.Costs.{forward, backward}
 use Rattle.theory.specs.Route.{reconnected, feasible}
 use Rattle.theory.specs.Polish.{search-of, polish-with, move-at}
-use Rattle.theory.specs.Tables.{problem, Timed, CutSet, pattern-rows}
+use Rattle.theory.specs.Tables.{problem, Stops, CutSet, pattern-rows}
 use Rattle.theory.proofs.Stops.{stops-rearranged}
 use Rattle.theory.proofs.Polishing.{within, as-long, gained, passed, finishes, is-spent}
 use Rattle.cuts.specs.Step.{found, or-kept, Stepped}
 use Rattle.costs.specs.RouteCosts.{leg, Sums}
 use Rattle.costs.proofs.Segments.{cut-below}
+use Rattle.deadlines.specs.Lateness.{Latenesses}
+use Rattle.deadlines.proofs.Lateness.{none-late, kept-not-late, kept-head}
 use Rattle.joints.specs.JointTable.{Padded}
 use Rattle.shared.specs.Kept.{Opened, first-cuts, last-cut}
 use Rattle.shared.proofs.Keeping.{cuts-parted, first-many}
 use Rattle.stretches.specs.declared.Stretch.{Stretch}
 use Rattle.stretches.specs.Stretch.{Stretchable, Stretched}
 use Rattle.stretches.proofs.Counting.{count-least, count-next}
-use Rattle.scanning.specs.Loop.{Scannable, Measured}
+use Rattle.scanning.specs.Loop.{Scannable, Measured, Cleared}
 use Rattle.scanning.proofs.NextCuts.{next-last, next-opened}
 use Rattle.scanning.proofs.Scanning.{At, many, for-cuts, timed, own-cuts, own-rows, own-states, first-set}
 
@@ -38,6 +40,11 @@ first-opened (suc (suc (suc zero))) h l = refl
 first-opened (suc (suc (suc (suc zero)))) h l = refl
 first-opened (suc (suc (suc (suc (suc zero))))) h l = refl
 first-opened (suc (suc (suc (suc (suc (suc k)))))) h l = absurd (omega arith)
+
+-- What improves keeps every deadline.
+both-true : (a b : Bool) → (a && b) ≡ true → a ≡ true
+both-true true b h = refl
+both-true false b h = h
 
 module _ (k locations : ℕ) (legs latest : List ℕ) (depot : ℕ) (orders masks rows route₀ : List ℕ) (A : ℕ) (ok : Scannable k locations legs latest depot orders masks rows route₀) where
   as-many : length (pattern-rows k orders masks) ≡ length masks
@@ -200,10 +207,24 @@ module _ (k locations : ℕ) (legs latest : List ℕ) (depot : ℕ) (orders mask
             (λ x h. idle t x (end .gain g .1 .least) (end .gain g .1 .most) (omega (arith, listed)) (omega (arith, number)))
             (for-cuts k locations legs latest depot orders masks rows route₀ A ok) (omega (arith, as-many, listed)) (omega (arith, number, room-for-it)) gains-there)
 
-        pub candidate-timed : Timed locations legs latest depot r′
-        candidate-timed =
-            let m = ok .timed .measurable in
-            record { measurable = record { table = m .table; depot-known = m .depot-known; stops = stops-rearranged route₀ r′ (begins-again .same) locations (m .stops) }; deadlines = ok .timed .deadlines }
+        pub candidate-stops : Stops locations r′
+        candidate-stops = stops-rearranged route₀ r′ (begins-again .same) locations (ok .timed .measurable .stops)
+
+        then-kept : feasible (problem locations legs latest depot) r′ ≡ true
+        then-kept = rw built (both-true _ _ gains-there)
+
+        -- It is measured by its sums, since no stop is late.
+        pub measured-anew : {forwards backwards late late′ : List ℕ} → Latenesses (problem locations legs latest depot) r late → Cleared (length r) late late′ → length r′ ≡ length r →
+            Sums r′ (forward (leg locations legs) r′) forwards → Sums r′ (backward (leg locations legs) r′) backwards → Measured locations legs latest depot r′ forwards backwards (length r′) late′
+        measured-anew {late = late} old cleared long f b =
+            let P = problem locations legs latest depot in
+            let none = cleared .none (λ z j l. old .each j l ∙ none-late P r j (sym (old .each 0 (omega arith)) ∙ z)) in
+            record {
+              forwards = f;
+              backwards = b;
+              head = kept-head P r′ then-kept;
+              latenesses = record { places = cleared .places; each = λ j l. none j (omega arith) ∙ sym (none-late P r′ j (kept-not-late P r′ then-kept)) };
+            }
 
       pub spent-now : answer .gains ≡ false → answer .through ≡ false →
           record { finished = false; examined = e + answer .examined; accepted = c; route = r } ≡ polish-with (problem locations legs latest depot) (pattern-rows k orders masks) k A route₀

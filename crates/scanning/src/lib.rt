@@ -1,6 +1,6 @@
 // The scan of document 01, stretch by stretch: the cut sets with the same first cuts are one. No entry: crate polishing calls it.
 ghost use Rattle.theory.specs.Tables.{problem, pattern-rows};
-ghost use Rattle.scanning.specs.Loop.{Measurable, Measured, Built, Taken, Scannable, Scans};
+ghost use Rattle.scanning.specs.Loop.{Measurable, Measured, Clearable, Cleared, Built, Taken, Scannable, Scans};
 
 // What the scan counted when it ended.
 pub struct Scanned {
@@ -28,33 +28,39 @@ fn measure(
     deadlines::fill_lateness(locations, legs, latest, depot, route, forward, lateness)
 }
 
-// The accepted candidate as the route, measured anew: the old sums say nothing of it.
+// No stop of an accepted route is late. Where none was before, the table says so already.
+fn clear_lateness(stops: usize, lateness: &mut [u64; 513])
+    requires { ⌜ Clearable stops (now lateness) ⌝ }
+    ensures { λ _. ⌜ Cleared stops (now (lateness .entry)) (now (lateness .exit)) ⌝ }
+{
+    if lateness[0] == 0 {
+        return;
+    }
+    let mut c = 0;
+    while c <= stops {
+        lateness[c] = 0;
+        c += 1;
+    }
+}
+
+// The accepted candidate as the route, with its sums: the old ones say nothing of it.
 fn take_gain(
     locations: usize,
     legs: &[u32],
-    latest: &[u32],
-    depot: u32,
     spare: &[u32],
     route: &mut [u32],
     forward: &mut [u64; 512],
     backward: &mut [u64; 512],
     lateness: &mut [u64; 513],
-) -> usize
-    requires { ⌜ Built locations (now legs) (now latest) depot (now spare) (now route) (now forward) (now backward) (now lateness) ⌝ }
-    ensures { λ r. ⌜ Taken locations (now (legs .entry)) (now (latest .entry)) depot (now (spare .entry)) (now (route .entry)) (now (route .exit)) (now (forward .exit)) (now (backward .exit)) r (now (lateness .exit)) ⌝ }
+)
+    requires { ⌜ Built locations (now legs) (now spare) (now route) (now forward) (now backward) (now lateness) ⌝ }
+    ensures { λ _. ⌜ Taken locations (now (legs .entry)) (now (spare .entry)) (now (route .entry)) (now (lateness .entry)) (now (route .exit)) (now (forward .exit)) (now (backward .exit)) (now (lateness .exit)) ⌝ }
 {
     let n = route.len();
     reconnection::copy_in(&spare[..n], route, 0);
-    measure(
-        locations,
-        legs,
-        latest,
-        depot,
-        &route[..],
-        forward,
-        backward,
-        lateness,
-    )
+    costs::forward_sums(locations, legs, &route[..], forward);
+    costs::backward_sums(locations, legs, &route[..], backward);
+    clear_lateness(n, lateness);
 }
 
 // The scan: the first improving candidate of a stretch is taken and the scan begins again, or the stretch is passed.
@@ -112,17 +118,16 @@ pub fn scan_cut_sets(
         );
         examined += stretch.examined;
         if stretch.gains {
-            longest = take_gain(
+            take_gain(
                 locations,
                 legs,
-                latest,
-                depot,
                 &spare,
                 route,
                 &mut forward,
                 &mut backward,
                 &mut lateness,
             );
+            longest = route.len();
             cut = [0, 1, 2, 3, 4];
             examined += 1;
             accepted += 1;

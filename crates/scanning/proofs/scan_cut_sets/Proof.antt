@@ -15,7 +15,7 @@ use Rattle.shared.specs.Kept.{Opened}
 use Rattle.shared.proofs.Keeping.{no-cells}
 use Rattle.scanning.specs.Loop.{Measured}
 use Rattle.scanning.proofs.Scanning.{starts, below, same-size}
-use Rattle.scanning.proofs.Passing.{first-opened, stretchable, in-allowance, room-for-it, begins-again, candidate-timed, spent-now, some-examined, cuts-then, moves-on, ends-now}
+use Rattle.scanning.proofs.Passing.{first-opened, stretchable, in-allowance, room-for-it, begins-again, candidate-stops, measured-anew, spent-now, some-examined, cuts-then, moves-on, ends-now}
 use Rattle.scanning.proofs.scan_cut_sets.Statement.{statement}
 use Rattle.scanning.proofs.scan_cut_sets.Tie as tie
 
@@ -76,14 +76,15 @@ take-gain-requires c κs =
     let s = c .before .before .before .before .before .before .before .before .before .before .before .before .before .before .before .before .before .before .before .before .before .before .before .before .before .before .before in
     let l = c .before .before .before .before .before .before .before .before .before .before .before .before .before .before .before .before .loop in
     let e = c .before .before .before .before .before .before .before .before .scan-stretch .ensures in
+    let same = same-size (s .args .k) (s .args .locations) (s .args .legs .now) (s .args .latest .now) (s .args .depot) (s .args .orders .now) (s .args .masks .now) (s .args .rows .now) (s .args .route .now) (s .args .allowance) (s .pre) (take (s .args .k) (l .cut)) (l .examined) (l .accepted) (l .route) (l .inv .1) in
     record {
-      room = omega (arith, e .places, same-size (s .args .k) (s .args .locations) (s .args .legs .now) (s .args .latest .now) (s .args .depot) (s .args .orders .now) (s .args .masks .now) (s .args .rows .now) (s .args .route .now) (s .args .allowance) (s .pre) (take (s .args .k) (l .cut)) (l .examined) (l .accepted) (l .route) (l .inv .1), s .pre .timed .measurable .stops .short);
-      measurable = record {
-        timed = candidate-timed (s .args .k) (s .args .locations) (s .args .legs .now) (s .args .latest .now) (s .args .depot) (s .args .orders .now) (s .args .masks .now) (s .args .rows .now) (s .args .route .now) (s .args .allowance) (s .pre) (take (s .args .k) (l .cut)) (l .examined) (l .accepted) (l .route) (l .inv .1) e (c .before .before .before .before .before .if1 .taken) _ refl;
-        forward-places = l .inv .2 .forwards .places;
-        backward-places = l .inv .2 .backwards .places;
-        late-places = l .inv .2 .latenesses .places;
-      };
+      table = s .pre .timed .measurable .table;
+      stops = candidate-stops (s .args .k) (s .args .locations) (s .args .legs .now) (s .args .latest .now) (s .args .depot) (s .args .orders .now) (s .args .masks .now) (s .args .rows .now) (s .args .route .now) (s .args .allowance) (s .pre) (take (s .args .k) (l .cut)) (l .examined) (l .accepted) (l .route) (l .inv .1) e (c .before .before .before .before .before .if1 .taken) _ refl;
+      room = omega (arith, e .places, same, s .pre .timed .measurable .stops .short);
+      short = omega (arith, same, s .pre .timed .measurable .stops .short);
+      forward-places = l .inv .2 .forwards .places;
+      backward-places = l .inv .2 .backwards .places;
+      late-places = l .inv .2 .latenesses .places;
     }
 
 add-examined-2 : tie.Need-add-examined-2 Inv-loop μ-loop
@@ -118,7 +119,7 @@ loop-again c =
     let t = c .before .before .take-gain .ensures in (
       refl,
       begins-again (s .args .k) (s .args .locations) (s .args .legs .now) (s .args .latest .now) (s .args .depot) (s .args .orders .now) (s .args .masks .now) (s .args .rows .now) (s .args .route .now) (s .args .allowance) (s .pre) (take (s .args .k) (l .cut)) (l .examined) (l .accepted) (l .route) (l .inv .1) e (c .before .before .before .before .before .before .before .before .if1 .taken) _ (t .route-is),
-      t .measured,
+      measured-anew (s .args .k) (s .args .locations) (s .args .legs .now) (s .args .latest .now) (s .args .depot) (s .args .orders .now) (s .args .masks .now) (s .args .rows .now) (s .args .route .now) (s .args .allowance) (s .pre) (take (s .args .k) (l .cut)) (l .examined) (l .accepted) (l .route) (l .inv .1) e (c .before .before .before .before .before .before .before .before .if1 .taken) _ (t .route-is) (l .inv .2 .latenesses) (t .cleared) (c .before .before .take-gain .kept .1 .1 .1 .0) (t .forwards) (t .backwards),
       e .padded,
       e .places,
       first-opened (s .args .k) (s .pre .least) (s .pre .most),
