@@ -28,9 +28,17 @@ const INCLUDED: (&str, &str) = ("iter", "heuristic/selector/move_selector/iter.r
 /// The crate of polishing: the scan is this one and those below it.
 const POLISHING: &str = "polishing";
 
-/// Where the scan counts the cut sets passed over, and what is put behind it.
-const PASSED: &str = "examined += over;";
-const COUNTED: &str = "crate::share::count(hit - cuts[last], hit <= route.len());";
+/// Where the scan counts cut sets passed over, among those of a stretch and a whole stretch, and what is put before it.
+const PASSED: [(&str, &str); 2] = [
+    (
+        "examined += over;",
+        "crate::share::count(hit - cuts[last], hit <= route.len());",
+    ),
+    (
+        "cuts[last] = stops;",
+        "crate::share::count(stops + 1 - cuts[last], false);",
+    ),
+];
 
 fn main() -> ExitCode {
     match prepare() {
@@ -97,13 +105,13 @@ fn write_scan(root: &Path) -> Result<(), String> {
         let source = read(&root.join("crates").join(&name).join("src/lib.rt"))?;
         modules += &format!("pub mod {name} {{\nuse super::*;\n{}}}\n", code_of(&source));
     }
-    if modules.matches(PASSED).count() != 1 {
-        return Err(format!("the scan has no single line {PASSED:?}"));
+    for (passed, counted) in PASSED {
+        if modules.matches(passed).count() != 1 {
+            return Err(format!("the scan has no single line {passed:?}"));
+        }
+        modules = modules.replace(passed, &format!("{counted} {passed}"));
     }
-    write_down(
-        "scan",
-        &modules.replace(PASSED, &format!("{PASSED} {COUNTED}")),
-    )
+    write_down("scan", &modules)
 }
 
 /// The source without its contracts; what it uses stands beside it.

@@ -1,3 +1,6 @@
 pub mod Clock
 pub mod Answer
-pub mod Walking
+pub mod Along
+pub mod Lateness
+mod Arriving
+mod Filling

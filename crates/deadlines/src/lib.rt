@@ -1,12 +1,10 @@
 // The deadline rule of document 01, checked along a route. It holds no entry; those are in crate mittenschist.
 use theory::Deadline;
 ghost use mathlib.Core.Path.{_≡_};
-ghost use Prim.Native.Nat.{_<_};
-ghost use lib.ListN.{length, getD};
-ghost use Rattle.theory.specs.Route.{reverse-if, feasible};
+ghost use Prim.Native.Nat.{min, max, _-_};
 ghost use Rattle.theory.specs.Tables.{problem, Timed};
 ghost use Rattle.theory.specs.Answers.{Checked};
-ghost use Rattle.deadlines.specs.Walk.{Walkable, WalkedPart};
+ghost use Rattle.deadlines.specs.Lateness.{Arriving, Arrives, LatestOf, LatestIs, LaterFits, LatenessFillable, LatenessFilled};
 
 // Kept exactly where no stop is late, else the first late position.
 pub fn check_deadlines(
@@ -36,76 +34,78 @@ pub fn check_deadlines(
     Deadline::Kept
 }
 
-// Whether no stop is late.
-pub fn is_feasible(
+fn least(a: u64, b: u64) -> u64
+    ensures { λ r. ⌜ r ≡ min a b ⌝ }
+{
+    if a < b {
+        return a;
+    }
+    b
+}
+
+// When the stop at position i is reached, from the running sums.
+pub fn arrival(
+    locations: usize,
+    legs: &[u32],
+    depot: u32,
+    route: &[u32],
+    forward: &[u64; 512],
+    i: usize,
+) -> u64
+    requires { ⌜ Arriving locations (now legs) depot (now route) (now forward) i ⌝ }
+    ensures { λ r. ⌜ Arrives locations (now (legs .entry)) depot (now (route .entry)) i r ⌝ }
+{
+    costs::route_distance(locations, legs, depot, route[0]) + forward[i]
+}
+
+fn latest_of(latest: &[u32], stop: u32) -> u64
+    requires { ⌜ LatestOf (now latest) stop ⌝ }
+    ensures { λ r. ⌜ LatestIs (now (latest .entry)) stop r ⌝ }
+{
+    let place = stop as usize;
+    latest[place] as u64
+}
+
+// The most of what was so far, and by how much a stop is late.
+fn later(most: u64, reached: u64, deadline: u64) -> u64
+    requires { ⌜ LaterFits most reached deadline ⌝ }
+    ensures { λ r. ⌜ r ≡ max (reached - deadline) most ⌝ }
+{
+    if deadline + most < reached {
+        return reached - deadline;
+    }
+    most
+}
+
+// The lateness from each position on, up to the end; the answer is the longest head with which a candidate may keep every deadline.
+pub fn fill_lateness(
     locations: usize,
     legs: &[u32],
     latest: &[u32],
     depot: u32,
     route: &[u32],
-) -> bool
-    requires { ⌜ Timed locations (now legs) (now latest) depot (now route) ⌝ }
-    ensures { λ r. ⌜ r ≡ feasible (problem locations (now (legs .entry)) (now (latest .entry)) depot) (now (route .entry)) ⌝ }
+    forward: &[u64; 512],
+    lateness: &mut [u64; 513],
+) -> usize
+    requires { ⌜ LatenessFillable locations (now legs) (now latest) depot (now route) (now forward) (now lateness) ⌝ }
+    ensures { λ r. ⌜ LatenessFilled (problem locations (now (legs .entry)) (now (latest .entry)) depot) (now (route .entry)) r (now (lateness .exit)) ⌝ }
 {
-    let answer = check_deadlines(locations, legs, latest, depot, route);
-    let Deadline::Late(_) = answer else {
-        return true;
-    };
-    false
-}
-
-// How a walk along a part of a route ended: whether no stop was late, and then the last stop and the second at which it was reached.
-pub struct Walked {
-    pub kept: bool,
-    pub last: u32,
-    pub clock: u64,
-}
-
-// The stop at place i of a part as it is placed.
-fn stop_of(part: &[u32], reversed: bool, i: usize) -> u32
-    requires { ⌜ i < length (now part) ⌝ }
-    ensures { λ r. ⌜ r ≡ getD (reverse-if reversed (now (part .entry))) i 0 ⌝ }
-{
-    if reversed {
-        return part[part.len() - 1 - i];
-    }
-    part[i]
-}
-
-// Along a part as it is placed, from a location left at second `clock`, up to the first late stop.
-pub fn walk(
-    locations: usize,
-    legs: &[u32],
-    latest: &[u32],
-    part: &[u32],
-    reversed: bool,
-    from: u32,
-    clock: u64,
-) -> Walked
-    requires { ⌜ Walkable locations (now legs) (now latest) (now part) from clock ⌝ }
-    ensures { λ r. ⌜ WalkedPart locations (problem locations (now (legs .entry)) (now (latest .entry)) 0) from clock (reverse-if reversed (now (part .entry))) r ⌝ }
-{
-    let mut now = clock;
-    let mut last = from;
-    let mut i = 0;
-    while i < part.len() {
-        let next = stop_of(part, reversed, i);
-        now += costs::route_distance(locations, legs, last, next);
-        let place = next as usize;
-        let deadline = latest[place] as u64;
-        if deadline < now {
-            return Walked {
-                kept: false,
-                last,
-                clock: now,
-            };
+    let mut c = route.len();
+    let mut longest = c;
+    let mut soonest = 4294967295u64;
+    let mut most = 0u64;
+    lateness[c] = 0;
+    while 0 < c {
+        let i = c - 1;
+        let reached = arrival(locations, legs, depot, route, forward, i);
+        let deadline = latest_of(latest, route[i]);
+        soonest = least(soonest, deadline);
+        if soonest < reached {
+            longest = i;
         }
-        last = next;
-        i += 1;
+        most = later(most, reached, deadline);
+        lateness[i] = most;
+        c = i;
     }
-    Walked {
-        kept: true,
-        last,
-        clock: now,
-    }
+    longest
 }

@@ -15,7 +15,7 @@ use Rattle.theory.specs.Tables.{CutSet, ForK}
 use Rattle.theory.proofs.Index.{getD-map}
 use Rattle.theory.proofs.Orders.{in-range}
 use Rattle.costs.proofs.Orders.{middle-is, pattern-middle}
-use Rattle.deadlines.proofs.Walking.{path-in, on-time-append}
+use Rattle.deadlines.proofs.Along.{path-in, on-time-append}
 use Rattle.joints.specs.States.{state-count, state-of, placed-in, states, row}
 use Rattle.joints.specs.JointTable.{cell, JointRow, JointTable}
 use Rattle.joints.proofs.States.{state-below, placed-states}

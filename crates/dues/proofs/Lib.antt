@@ -1,3 +1,5 @@
 pub mod InTime
 pub mod Filling
 pub mod Held
+pub mod Judged
+mod Head

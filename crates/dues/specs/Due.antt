@@ -1,6 +1,6 @@
 -- The dues of the placed segments of a cut set, shared by the cut sets with the same first cuts.
 use mathlib.Core.Path.{_≡_}
-use mathlib.Core.Bool.{Bool, true, _&&_}
+use mathlib.Core.Bool.{Bool, true, false, _&&_}
 use mathlib.Core.Logic.{_⊎_}
 use mathlib.Core.List.{List, [], _∷_, _++_}
 use Prim.Native.Nat.{ℕ, _+_, _-_, _*_, _^_, _≤_, _<_}
@@ -14,6 +14,8 @@ use Rattle.costs.specs.RouteCosts.{leg, Sums}
 use Rattle.growth.specs.Due.{Due, SegmentDues}
 use Rattle.joints.specs.States.{state-count, placed-in}
 use Rattle.joints.specs.JointTable.{Padded, cell}
+use Rattle.dues.specs.declared.Timing.{Timing}
+use Rattle.dues.specs.declared.Timing.the-variants as Judged
 
 -- Places for the dues, and a middle segment.
 pub record Puttable (dues : List ℕ) (segment : ℕ) : Type 0 where
@@ -40,6 +42,11 @@ pub record SegmentsDue (P : Problem) (cuts route : List ℕ) (count : ℕ) (dues
 unfoldable pub in-time : List ℕ → List ℕ → ℕ → ℕ → List ℕ → Bool
 in-time table dues a t [] = true
 in-time table dues a t (b ∷ bs) = ltb (t + cell table a b) (getD dues b 0) && in-time table dues b (t + cell table a b) bs
+
+-- What a judgement says of a row.
+abbrev pub is-in-time : Timing → Bool
+is-in-time Judged.InTime = true
+is-in-time Judged.Late = false
 
 -- A joint table, a row of at least m states, and the dues of the states.
 pub record RowTimed (table rows dues : List ℕ) (i m clock : ℕ) : Type 0 where

@@ -6,7 +6,8 @@ ghost use Prim.Native.Nat.{_+_, _-_, _*_, _<_};
 ghost use lib.ListN.{length, getD, set};
 ghost use lib.Seq.{slice};
 ghost use Rattle.theory.specs.Tables.{problem};
-ghost use Rattle.dues.specs.Due.{in-time, Puttable, DuesFillable, SegmentsDue, DuesReachable, DuesReached, RowTimed};
+ghost use Rattle.dues.specs.Parts.{HeadTimed, HeadClock};
+ghost use Rattle.dues.specs.Due.{in-time, is-in-time, Puttable, DuesFillable, SegmentsDue, DuesReachable, DuesReached, RowTimed};
 
 // The dues of a middle segment into the places of its two states.
 fn put_dues(dues: &mut [u64; 9], segment: usize, straight: u64, reversed: u64)
@@ -105,17 +106,23 @@ fn wide(x: u8) -> usize
     x as usize
 }
 
-// Whether each of the first `m` states of row i is left before its due, when the head is left at second `clock`.
-pub fn row_in_time(
+// Whether the middle of a candidate is left in time.
+pub enum Timing {
+    InTime,
+    Late,
+}
+
+// In time where each of the first `m` states of row i is left before its due, when the head is left at second `clock`.
+pub fn judge_row(
     joint: &[u64; 160],
     rows: &[u8; 1532],
     dues: &[u64; 9],
     i: usize,
     m: usize,
     clock: u64,
-) -> bool
+) -> Timing
     requires { ⌜ RowTimed (now joint) (now rows) (now dues) i m clock ⌝ }
-    ensures { λ r. ⌜ r ≡ in-time (now (joint .entry)) (now (dues .entry)) 9 clock (slice (4 * i) (4 * i + m) (now (rows .entry))) ⌝ }
+    ensures { λ r. ⌜ is-in-time r ≡ in-time (now (joint .entry)) (now (dues .entry)) 9 clock (slice (4 * i) (4 * i + m) (now (rows .entry))) ⌝ }
 {
     let mut from = 9;
     let mut now = clock;
@@ -125,10 +132,29 @@ pub fn row_in_time(
         let state = wide(rows[at]);
         now += joint[16 * from + state];
         if dues[state] <= now {
-            return false;
+            return Timing::Late;
         }
         from = state;
         at += 1;
     }
-    true
+    Timing::InTime
+}
+
+// When the head is left.
+pub fn head_clock(
+    locations: usize,
+    legs: &[u32],
+    depot: u32,
+    route: &[u32],
+    forward: &[u64; 512],
+    cuts: &[usize],
+) -> u64
+    requires { ⌜ HeadTimed locations (now legs) depot (now route) (now forward) (now cuts) ⌝ }
+    ensures { λ r. ⌜ HeadClock locations (now (legs .entry)) depot (now (route .entry)) (now (cuts .entry)) r ⌝ }
+{
+    let first = cuts[0];
+    if first == 0 {
+        return 0;
+    }
+    deadlines::arrival(locations, legs, depot, route, forward, first - 1)
 }

@@ -15,7 +15,7 @@ use Rattle.theory.specs.Costs.{last-of, inner, backward}
 use Rattle.theory.specs.Tables.{problem}
 use Rattle.theory.proofs.Costs.{path-append, backward-inner}
 use Rattle.costs.proofs.Segments.{last-placed}
-use Rattle.deadlines.proofs.Walking.{on-time-append}
+use Rattle.deadlines.proofs.Along.{on-time-append}
 use Rattle.growth.specs.Due.{Due, SegmentDues, Spannable, Growable}
 
 -- ---- numbers

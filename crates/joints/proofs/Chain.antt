@@ -1,7 +1,8 @@
 -- The chain of a pattern's row is the way through its placed segments, so that chains compare as the lengths do. Assumes nothing.
 use mathlib.Core.Path.{_≡_, refl, ap, _∙_}
 use mathlib.Core.List.{List, [], _∷_, _++_, map, List·Memᴰ, List·Memᴰ·head, List·Memᴰ·tail, Memᴰ·of-map}
-use Prim.Native.Nat.{ℕ, zero, suc, _+_, _-_, _/_, _%_, _≤_, _<_}
+use Prim.Native.Nat.{ℕ, zero, suc, _+_, _-_, _*_, _/_, _%_, _≤_, _<_}
+use native.Mathlib.Nat.{pow-suc}
 use native.Mathlib.Omega.{arith}
 use lib.Dec.{eqb, ltb}
 use lib.ListN.{length, getD, replicate}
@@ -13,7 +14,7 @@ use Rattle.theory.specs.Tables.{CutSet, ForK}
 use Rattle.theory.proofs.Moves.{Shape}
 use Rattle.theory.proofs.ForK.{for-k-shape}
 use Rattle.theory.proofs.Orders.{in-range}
-use Rattle.theory.proofs.Delta.{shorter-iff, length-reverse-if}
+use Rattle.theory.proofs.Delta.{shorter-iff, delta-through, even-head, small-tail, length-reverse-if}
 use Rattle.costs.proofs.Segments.{cut-below, segment-is, segment-filled}
 use Rattle.costs.proofs.Orders.{middle-is}
 use Rattle.joints.specs.States.{state-count, state-of, placed-in, states, standing-row}
@@ -109,12 +110,22 @@ shorter-through P cs r k m p s many rising e =
     let less : suc m - 1 ≡ m = omega arith in
     rw (e, less) (shorter-iff P cs r m many rising p s)
 
--- A pattern's route is shorter exactly when its chain is below the standing one.
-pub shorter : (P : Problem) (cs r J order : List ℕ) (mask : ℕ) → CutSet (length cs) (length r) cs → ForK (length cs) order mask →
+delta-shape : (P : Problem) (cs r : List ℕ) (k m : ℕ) (p : Pattern) (s : Shape m p) → length cs ≡ suc m → Rising 0 cs (length r) → k ≡ suc m →
+    tour-length P (reconnected (record { cuts = cs; pattern = p }) r)
+    + through (P .leg) (last-of (P .depot) (getD (segments 0 cs r) 0 [])) (placed 0 (segments 0 cs r) (upfrom 1 (k - 1))) (first-of (getD (segments 0 cs r) k []) (P .depot))
+    ≡ tour-length P r
+    + through (P .leg) (last-of (P .depot) (getD (segments 0 cs r) 0 [])) (placed (p .mask) (segments 0 cs r) (s .middle)) (first-of (getD (segments 0 cs r) k []) (P .depot))
+delta-shape P cs r k m p s many rising e =
+    let less : suc m - 1 ≡ m = omega arith in
+    rw (e, less, s .is)
+    (delta-through P cs r m many rising (s .middle) (2 * s .bits) (s .once) (even-head (s .bits)) (small-tail (2 * s .bits) (suc m) (omega (arith, s .few, pow-suc 2 m))))
+
+-- A pattern's route and the standing one differ in length as their chains do.
+pub chain-delta : (P : Problem) (cs r J order : List ℕ) (mask : ℕ) → CutSet (length cs) (length r) cs → ForK (length cs) order mask →
     JointTable (P .leg) (placed-in cs r) (state-count (length cs)) (last-of (P .depot) (getD (segments 0 cs r) 0 [])) (first-of (getD (segments 0 cs r) (length cs) []) (P .depot)) J →
-    ltb (tour-length P (reconnected (record { cuts = cs; pattern = record { order = order; mask = mask } }) r)) (tour-length P r)
-    ≡ ltb (chain J 9 (states (length cs) order mask)) (chain J 9 (standing-row (length cs)))
-shorter P cs r J order mask cut-set f t =
+    tour-length P (reconnected (record { cuts = cs; pattern = record { order = order; mask = mask } }) r) + chain J 9 (standing-row (length cs))
+    ≡ tour-length P r + chain J 9 (states (length cs) order mask)
+chain-delta P cs r J order mask cut-set f t =
     let e : length cs ≡ suc (length cs - 1) = omega (arith, cut-set .least) in
     rw (pattern-chain cs r cut-set t order mask f, standing-chain cs r cut-set t)
-    (shorter-through P cs r (length cs) (length cs - 1) (record { order = order; mask = mask }) (for-k-shape (length cs) (length cs - 1) order mask e f) e (cut-set .rising) e)
+    (delta-shape P cs r (length cs) (length cs - 1) (record { order = order; mask = mask }) (for-k-shape (length cs) (length cs - 1) order mask e f) e (cut-set .rising) e)

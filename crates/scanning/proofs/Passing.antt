@@ -19,13 +19,15 @@ use Rattle.theory.proofs.Polishing.{within, as-long, gained, passed, finishes, 
 use Rattle.cuts.specs.Step.{found, or-kept, Stepped}
 use Rattle.costs.specs.RouteCosts.{leg, Sums}
 use Rattle.costs.proofs.Segments.{cut-below}
+use Rattle.deadlines.specs.Lateness.{Latenesses}
+use Rattle.deadlines.proofs.Lateness.{none-late, kept-not-late, kept-head}
 use Rattle.joints.specs.JointTable.{Padded}
 use Rattle.shared.specs.Kept.{Opened, first-cuts, last-cut}
 use Rattle.shared.proofs.Keeping.{cuts-parted, first-many}
 use Rattle.stretches.specs.declared.Stretch.{Stretch}
 use Rattle.stretches.specs.Stretch.{Stretchable, Stretched}
 use Rattle.stretches.proofs.Counting.{count-least, count-next}
-use Rattle.scanning.specs.Loop.{Scannable}
+use Rattle.scanning.specs.Loop.{Scannable, Measured, Cleared}
 use Rattle.scanning.proofs.NextCuts.{next-last, next-opened}
 use Rattle.scanning.proofs.Scanning.{At, many, for-cuts, timed, own-cuts, own-rows, own-states, first-set}
 
@@ -124,15 +126,15 @@ module _ (k locations : ℕ) (legs latest : List ℕ) (depot : ℕ) (orders mask
 
     -- ---- before a stretch
 
-    pub stretchable : {forwards backwards table spare : List ℕ} {kept : Bool} → Sums r (forward (leg locations legs) r) forwards → Sums r (backward (leg locations legs) r) backwards → Padded table → length spare ≡ 512 →
-        Opened cuts → (kept ≡ true → feasible (problem locations legs latest depot) r ≡ true) → Stretchable locations legs latest depot orders masks rows r forwards backwards kept cuts table spare
-    stretchable f b p s o t =
+    pub stretchable : {forwards backwards table spare late : List ℕ} {longest : ℕ} → Measured locations legs latest depot r forwards backwards longest late → Padded table → length spare ≡ 512 → Opened cuts →
+        Stretchable locations legs latest depot orders masks rows r forwards backwards longest late cuts table spare
+    stretchable m p s o =
         record {
           gainable = record {
             searchable = record {
               timed = timed k locations legs latest depot orders masks rows route₀ A ok cuts e c r now;
-              forwards = f;
-              backwards = b;
+              forwards = m .forwards;
+              backwards = m .backwards;
               cut-set = own-cuts k locations legs latest depot orders masks rows route₀ A ok cuts e c r now;
               rows = own-rows k locations legs latest depot orders masks rows route₀ A ok cuts e c r now;
               allowed = omega arith;
@@ -142,7 +144,8 @@ module _ (k locations : ℕ) (legs latest : List ℕ) (depot : ℕ) (orders mask
             places = s;
           };
           first = o;
-          in-time = t;
+          head = m .head;
+          latenesses = m .latenesses;
         }
 
     -- ---- behind a stretch
@@ -207,8 +210,21 @@ module _ (k locations : ℕ) (legs latest : List ℕ) (depot : ℕ) (orders mask
         pub candidate-stops : Stops locations r′
         candidate-stops = stops-rearranged route₀ r′ (begins-again .same) locations (ok .timed .measurable .stops)
 
-        pub then-kept : feasible (problem locations legs latest depot) r′ ≡ true
+        then-kept : feasible (problem locations legs latest depot) r′ ≡ true
         then-kept = rw built (both-true _ _ gains-there)
+
+        -- It is measured by its sums, since no stop is late.
+        pub measured-anew : {forwards backwards late late′ : List ℕ} → Latenesses (problem locations legs latest depot) r late → Cleared (length r) late late′ → length r′ ≡ length r →
+            Sums r′ (forward (leg locations legs) r′) forwards → Sums r′ (backward (leg locations legs) r′) backwards → Measured locations legs latest depot r′ forwards backwards (length r′) late′
+        measured-anew {late = late} old cleared long f b =
+            let P = problem locations legs latest depot in
+            let none = cleared .none (λ z j l. old .each j l ∙ none-late P r j (sym (old .each 0 (omega arith)) ∙ z)) in
+            record {
+              forwards = f;
+              backwards = b;
+              head = kept-head P r′ then-kept;
+              latenesses = record { places = cleared .places; each = λ j l. none j (omega arith) ∙ sym (none-late P r′ j (kept-not-late P r′ then-kept)) };
+            }
 
       pub spent-now : answer .gains ≡ false → answer .through ≡ false →
           record { finished = false; examined = e + answer .examined; accepted = c; route = r } ≡ polish-with (problem locations legs latest depot) (pattern-rows k orders masks) k A route₀

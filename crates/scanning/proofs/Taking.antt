@@ -1,25 +1,42 @@
--- The candidate in the spare places is copied over the route, and its sums can be written. Assumes nothing.
+-- The candidate in the spare places is copied over the route. Assumes nothing.
 use mathlib.Core.Path.{_≡_, _∙_}
 use mathlib.Core.List.{List, _++_, append-nil}
-use Prim.Native.Nat.{ℕ, _+_, _≤_}
+use Prim.Native.Nat.{ℕ, _+_, _≤_, _<_}
+use native.Mathlib.Decide.{ℕ-discrete}
 use native.Mathlib.Omega.{arith}
-use lib.ListN.{length, take, drop, length-take, drop-of-length-le}
+use lib.ListN.{length, getD, set, take, drop, length-take, length-set, drop-of-length-le}
+use lib.Seq.{getD-set-same, getD-set-other}
 use Rattle.costs.specs.RouteCosts.{Summable}
 use Rattle.reconnection.specs.Segments.{Fits}
-use Rattle.scanning.specs.Loop.{Built}
+use Rattle.scanning.specs.Loop.{Cleared, Built}
 
-module _ (locations : ℕ) (legs spare route forward-sums backward-sums : List ℕ) (ok : Built locations legs spare route forward-sums backward-sums) where
+module _ {locations : ℕ} {legs spare route forward-sums backward-sums late : List ℕ} (ok : Built locations legs spare route forward-sums backward-sums late) where
   pub room : length route ≡ length (take (length route) spare)
   room = simp length-take (omega (arith, ok .room))
 
   pub fits : Fits (take (length route) spare) route 0
   fits = record { room = omega (arith, room) }
 
-  module _ (last : List ℕ) (copied : last ≡ take 0 route ++ take (length route) spare ++ drop (0 + length (take (length route) spare)) route) where
-    pub is-candidate : last ≡ take (length route) spare
-    is-candidate =
-        let n : length route ≤ 0 + length (take (length route) spare) = omega (arith, room) in
-        copied ∙ rw (drop-of-length-le route n) (append-nil (take (length route) spare))
+  pub is-candidate : {last : List ℕ} → last ≡ take 0 route ++ take (length route) spare ++ drop (0 + length (take (length route) spare)) route → last ≡ take (length route) spare
+  is-candidate copied =
+      let n : length route ≤ 0 + length (take (length route) spare) = omega (arith, room) in
+      copied ∙ rw (drop-of-length-le route n) (append-nil (take (length route) spare))
 
-    pub summable : (sums : List ℕ) → length sums ≡ 512 → Summable locations legs last sums
-    summable sums h = record { table = ok .table; stops = rw is-candidate (ok .stops); places = h }
+  pub summable : {last : List ℕ} → last ≡ take (length route) spare → (sums : List ℕ) → length sums ≡ 512 → Summable locations legs last sums
+  summable e sums h = record { table = ok .table; stops = rw e (ok .stops); places = h }
+
+-- ---- no lateness
+
+pub record Clearing (late : List ℕ) (c : ℕ) : Type 0 where
+  pub places : length late ≡ 513
+  pub none : (j : ℕ) → j < c → getD late j 0 ≡ 0
+
+pub clear-next : {late : List ℕ} {c : ℕ} → c < 513 → Clearing late c → Clearing (set late c 0) (c + 1)
+clear-next {late} {c} l w = record { places = simp length-set (w .places); none = λ j h. by j h (ℕ-discrete j c) }
+  where
+    by : (j : ℕ) → j < c + 1 → Dec (j ≡ c) → getD (set late c 0) j 0 ≡ 0
+    by j h (yes e) = rw e (getD-set-same late c 0 0 (omega (arith, w .places)))
+    by j h (no n) = getD-set-other late c j 0 0 n ∙ w .none j (omega arith)
+
+pub all-clear : {stops : ℕ} {late₀ late : List ℕ} {c : ℕ} → stops < c → Clearing late c → Cleared stops late₀ late
+all-clear h w = record { places = w .places; none = λ _ j l. w .none j (omega arith) }

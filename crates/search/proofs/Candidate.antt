@@ -1,6 +1,6 @@
 -- The candidate of a pattern: its order as code lends it, and the route that it makes, which has the same stops. Assumes nothing.
 use mathlib.Core.Path.{_≡_, sym, ap, _∙_}
-use mathlib.Core.List.{List, _++_}
+use mathlib.Core.List.{List, [], _++_}
 use Prim.Native.Nat.{ℕ}
 use native.Mathlib.Omega.{arith}
 use lib.ListN.{length, getD, take, drop, length-append, length-drop}
@@ -10,25 +10,27 @@ use Rattle.theory.specs.Route.{reconnected}
 use Rattle.theory.specs.Polish.{move-at}
 use Rattle.theory.specs.Tables.{Order, pattern-rows}
 use Rattle.theory.proofs.Route.{total-reconnected}
-use Rattle.theory.proofs.Rows.{lent-row}
+use Rattle.theory.proofs.Rows.{lent-row, lent-at, listed-for-k}
 use Rattle.theory.proofs.ForK.{for-k-order}
 use Rattle.theory.proofs.Stops.{as-many}
-use Rattle.walking.specs.Parts.{Candidate}
-use Rattle.walking.proofs.Candidate.{lent-pattern, for-k}
-use Rattle.search.specs.Candidate.{candidate, BuildableFront, BuiltFront}
+use Rattle.search.specs.Candidate.{candidate, Candidate, BuildableFront, BuiltFront}
 
 module _ {r cs orders masks : List ℕ} {i : ℕ} (given : Candidate r cs orders masks i) where
   abbrev move : Move
   move = move-at (pattern-rows (length cs) orders masks) cs i
 
+  -- As code lends the order and the mask.
+  lent-pattern : move .pattern ≡ record { order = lent-row (length cs) orders i; mask = getD masks i 0 }
+  lent-pattern = lent-at (length cs) orders masks i (record { order = []; mask = 0 }) (given .listed)
+
   order-of : Order (length cs) (move .pattern .order)
-  order-of = for-k-order (length cs) _ _ (omega (arith, given .cut-set .least)) (for-k given)
+  order-of = for-k-order (length cs) _ _ (omega (arith, given .cut-set .least)) (listed-for-k (length cs) orders masks (given .patterns) i _ (given .listed))
 
   pub lent-once : Order (length cs) (lent-row (length cs) orders i)
-  lent-once = rw (ap (λ p. p .order) (lent-pattern given)) at order-of
+  lent-once = rw (ap (λ p. p .order) lent-pattern) at order-of
 
   pub lent-candidate : reconnected (record { cuts = cs; pattern = record { order = lent-row (length cs) orders i; mask = getD masks i 0 } }) r ≡ candidate r cs orders masks i
-  lent-candidate = ap (λ p. reconnected (record { cuts = cs; pattern = p }) r) (sym (lent-pattern given))
+  lent-candidate = ap (λ p. reconnected (record { cuts = cs; pattern = p }) r) (sym lent-pattern)
 
   same-stops : (g : ℕ → ℕ) → total g (candidate r cs orders masks i) ≡ total g r
   same-stops g = total-reconnected g (length r) move r (given .cut-set .rising) (order-of .once)

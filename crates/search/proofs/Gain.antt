@@ -1,56 +1,66 @@
--- The scan's test of a candidate, from its chain in the joint table and its deadlines. Assumes nothing.
+-- The scan's test of a candidate, from its chain in the joint table and from the dues of its states. Assumes nothing.
 use mathlib.Core.Path.{_≡_, refl, sym, ap, _∙_}
-use mathlib.Core.Bool.{Bool, true, false, _&&_, and-false}
+use mathlib.Core.Bool.{Bool, true, false, _&&_, and-true, and-false}
 use mathlib.Core.List.{List}
-use Prim.Native.Nat.{ℕ, _+_, _*_, _≤_, _<_}
-use native.Mathlib.Omega.{arith}
+use Prim.Native.Nat.{ℕ, _+_, _-_, _*_, _^_, _≤_, _<_}
 use native.Mathlib.Decide.{decLt}
-use borrow.Author.Count.{below-more}
-use borrow.Author.Tests.{lt-ltb, le-ltb}
-use lib.Dec.{ltb}
-use lib.ListN.{length}
-use Rattle.theory.specs.Route.{feasible, on-time}
-use Rattle.theory.specs.Tables.{problem, pattern-rows}
+use native.Mathlib.Omega.{arith}
+use lib.Dec.{ltb, leb}
+use lib.ListN.{length, getD}
+use lib.Seq.{slice}
+use borrow.Author.Tests.{lt-ltb, le-ltb, le-leb, lt-leb}
+use Rattle.theory.specs.Moves.{Pattern}
+use Rattle.theory.specs.Route.{Problem, path, tour-length, reconnected, feasible, on-time}
+use Rattle.theory.specs.Costs.{last-of}
 use Rattle.theory.specs.Polish.{move-at}
+use Rattle.theory.specs.Tables.{problem, pattern-rows, ForK}
 use Rattle.theory.proofs.Rows.{listed-for-k}
+use Rattle.costs.proofs.Segments.{last-cut}
+use Rattle.deadlines.specs.Lateness.{lateness}
+use Rattle.deadlines.proofs.Along.{any-depot}
 use Rattle.joints.specs.States.{row, standing-row}
 use Rattle.joints.specs.JointTable.{chain, JointOf}
-use Rattle.joints.proofs.Chain.{shorter}
-use Rattle.deadlines.specs.declared.Walked.{Walked}
-use Rattle.deadlines.specs.Walk.{WalkedPart}
-use Rattle.search.specs.Candidate.{candidate}
-use Rattle.walking.specs.Parts.{head, after-head, WalkFrom, Candidate, CandidateWalk}
-use Rattle.search.specs.Gain.{gains, Gainable, Chains, NextShorter, Tabled, FirstGain}
-use Rattle.walking.proofs.Candidate.{for-k}
-use Rattle.walking.proofs.Parts.{behind-head, head-late}
+use Rattle.joints.proofs.Chain.{chain-delta}
+use Rattle.dues.specs.Parts.{head, middle}
+use Rattle.dues.specs.Due.{in-time, DuesOf}
+use Rattle.dues.proofs.InTime.{row-kept, row-known}
+use Rattle.dues.proofs.Judged.{candidate-judged}
+use Rattle.search.specs.Gain.{gains, below, due-gain, Gainable, Findable, Chains, NextShorter, Tabled, FirstGain, DueRows, FirstDue}
+
+-- Below the threshold: so much shorter that the tail is on time.
+enough : (cost standing late : ℕ) → cost < standing → leb late (standing - cost) ≡ ltb cost (below standing late)
+enough cost standing late h = by (decLt (standing - cost) late)
+  where
+    by : Dec (standing - cost < late) → leb late (standing - cost) ≡ ltb cost (below standing late)
+    by (yes l) = lt-leb late (standing - cost) l ∙ sym (le-ltb cost (below standing late) (omega arith))
+    by (no n) = le-leb late (standing - cost) (omega arith) ∙ sym (lt-ltb cost (below standing late) (omega arith))
 
 module _ {locations : ℕ} {legs latest : List ℕ} {depot : ℕ} {r cs orders masks rows J : List ℕ} {limit : ℕ}
     (given : Tabled locations legs latest depot r cs orders masks rows J limit) where
+  abbrev P : Problem
+  P = problem locations legs latest depot
+
+  abbrev pattern : ℕ → Pattern
+  pattern i = move-at (pattern-rows (length cs) orders masks) cs i .pattern
+
   abbrev gain : ℕ → Bool
   gain i = gains locations legs latest depot r cs orders masks i
-
-  abbrev kept : ℕ → Bool
-  kept i = feasible (problem locations legs latest depot) (candidate r cs orders masks i)
 
   abbrev standing : ℕ
   standing = chain J 9 (standing-row (length cs))
 
-  gain-is : (i : ℕ) → i < length masks → gain i ≡ (kept i && ltb (chain J 9 (row rows i)) standing)
-  gain-is i h =
-      ap (λ b. kept i && b)
-      (shorter (problem locations legs latest depot) cs r J _ _ (given .cut-set) (listed-for-k (length cs) orders masks (given .patterns) i _ h) (given .joined)
-      ∙ ap (λ l. ltb (chain J 9 l) standing) (sym (given .state-rows .each i h)))
+  abbrev cost : ℕ → ℕ
+  cost i = chain J 9 (row rows i)
 
-  pub not-shorter : (i : ℕ) → i < length masks → standing ≤ chain J 9 (row rows i) → gain i ≡ false
-  not-shorter i h l = gain-is i h ∙ ap (λ b. kept i && b) (le-ltb _ _ l) ∙ and-false (kept i)
+  -- When the head is left.
+  abbrev clock : ℕ
+  clock = path (P .leg) depot (head r cs)
 
-  not-kept : (i : ℕ) → i < length masks → false ≡ kept i → gain i ≡ false
-  not-kept i h e = gain-is i h ∙ ap (λ b. b && ltb (chain J 9 (row rows i)) standing) (sym e)
+  abbrev middle-on-time : ℕ → Bool
+  middle-on-time i = on-time P (last-of depot (head r cs)) clock (middle r cs (pattern i .order) (pattern i .mask))
 
-  shorter-kept : (i : ℕ) → i < length masks → chain J 9 (row rows i) < standing → true ≡ kept i → gain i ≡ true
-  shorter-kept i h l e = gain-is i h ∙ ap (λ b. b && ltb (chain J 9 (row rows i)) standing) (sym e) ∙ lt-ltb _ _ l
-
-  -- ---- the loop's steps
+  for-k : (i : ℕ) → i < length masks → ForK (length cs) (pattern i .order) (pattern i .mask)
+  for-k i h = listed-for-k (length cs) orders masks (given .patterns) i _ h
 
   pub chains : (from : ℕ) → from ≤ limit → Chains J rows from limit
   chains from h =
@@ -62,68 +72,85 @@ module _ {locations : ℕ} {legs latest : List ℕ} {depot : ℕ} {r cs orders m
         known = λ c l. given .state-rows .small c (omega (arith, given .allowed));
       }
 
-  candidate-of : (i : ℕ) → i < length masks → Candidate r cs orders masks i
-  candidate-of i h = record { cut-set = given .cut-set; patterns = given .patterns; listed = h }
+  module _ {late : ℕ} (late-is : late ≡ lateness P r (getD cs (length cs - 1) 0)) (early : on-time P depot 0 (head r cs) ≡ true) where
+    gain-is : (i : ℕ) → i < length masks → gain i ≡ (middle-on-time i && ltb (cost i) (below standing late))
+    gain-is i h = by (decLt (cost i) standing)
+      where
+        after : ℕ
+        after = tour-length P (reconnected (record { cuts = cs; pattern = pattern i }) r)
 
-  pub walk-from : (from clock : ℕ) → from < locations → clock ≤ 7 * 512 * 1000000 → WalkFrom locations legs latest r cs from clock
-  walk-from from clock h e =
-      let m = given .timed .measurable in
-      record { table = m .table; deadlines = given .timed .deadlines; stops = m .stops; cut-set = given .cut-set; from-known = h; early = e }
+        moved : after + standing ≡ tour-length P r + cost i
+        moved =
+            chain-delta P cs r J (pattern i .order) (pattern i .mask) (given .cut-set) (for-k i h) (given .joined)
+            ∙ ap (λ s. tour-length P r + chain J 9 s) (sym (given .state-rows .each i h))
 
-  -- None improves before the next one that is shorter.
-  pub passed-on : (s from : ℕ) {i : ℕ} → s ≡ standing → ((x : ℕ) → x < from → gain x ≡ false) → NextShorter J rows s from limit i → (x : ℕ) → x < i → gain x ≡ false
-  passed-on s from e before next x h = by (decLt x from)
-    where
-      by : Dec (x < from) → gain x ≡ false
-      by (yes l) = before x l
-      by (no n) = not-shorter x (omega (arith, next .most, given .allowed)) (rw e at (next .passed x (omega arith) h))
+        kept : Bool
+        kept = feasible P (reconnected (record { cuts = cs; pattern = pattern i }) r)
 
-  pub not-found : (i : ℕ) → limit ≤ i → i ≤ limit → ((x : ℕ) → x < i → gain x ≡ false) → FirstGain (problem locations legs latest depot) (pattern-rows (length cs) orders masks) (length cs) r cs limit i
-  not-found i h k before = record { within = k; passed = before; gains = λ m. absurd (omega arith) }
+        by : Dec (cost i < standing) → gain i ≡ (middle-on-time i && ltb (cost i) (below standing late))
+        by (yes l) =
+            ap (λ b. kept && b) (lt-ltb after (tour-length P r) (omega (arith, moved)))
+            ∙ and-true kept
+            ∙ candidate-judged cs r (given .cut-set) P (pattern i) (standing - cost i) (for-k i h) early (omega (arith, moved))
+            ∙ ap (λ n. middle-on-time i && leb n (standing - cost i)) (sym late-is)
+            ∙ ap (λ b. middle-on-time i && b) (enough (cost i) standing late l)
+        by (no n) =
+            ap (λ b. kept && b) (le-ltb after (tour-length P r) (omega (arith, moved)))
+            ∙ and-false kept
+            ∙ sym (ap (λ b. middle-on-time i && b) (le-ltb (cost i) (below standing late) (omega arith)) ∙ and-false (middle-on-time i))
 
-  pub first-passed : (s : ℕ) {i : ℕ} → s ≡ standing → NextShorter J rows s 0 limit i → (x : ℕ) → x < i → gain x ≡ false
-  first-passed s e next = passed-on s 0 e (λ y l. absurd (omega arith)) next
-
-  pub none-shorter : (s : ℕ) → s ≡ standing → NextShorter J rows s 0 limit limit → FirstGain (problem locations legs latest depot) (pattern-rows (length cs) orders masks) (length cs) r cs limit limit
-  none-shorter s e next = not-found limit (omega arith) (omega arith) (first-passed s e next)
-
-  -- With the head walked.
-  module _ {w : Walked} (walked : WalkedPart locations (problem locations legs latest 0) depot 0 (head r cs) w) where
-    abbrev kept-behind : ℕ → Bool
-    kept-behind i = on-time (problem locations legs latest 0) (w .last) (w .clock) (after-head r cs (move-at (pattern-rows (length cs) orders masks) cs i .pattern))
-
-    kept-is : w .kept ≡ true → (i : ℕ) → i < length masks → kept i ≡ kept-behind i
-    kept-is k i h =
-        behind-head locations legs latest depot r cs (move-at (pattern-rows (length cs) orders masks) cs i .pattern) (given .cut-set .least) (for-k (candidate-of i h)) (walked .walks) k
-
-    -- Where the head is late, so is every candidate.
-    pub none-kept : w .kept ≡ false → FirstGain (problem locations legs latest depot) (pattern-rows (length cs) orders masks) (length cs) r cs limit limit
-    none-kept k =
-        not-found limit (omega arith) (omega arith)
-        (λ x h.
-        let l : x < length masks = omega (arith, given .allowed) in
-        not-kept x l (sym (head-late locations legs latest depot r cs (move-at (pattern-rows (length cs) orders masks) cs x .pattern) (given .cut-set .least) (for-k (candidate-of x l)) (walked .walks) k)))
-
-    pub behind : (i : ℕ) → i < limit → CandidateWalk locations legs latest r cs orders masks i (w .last) (w .clock)
-    behind i h =
+    -- Where no pattern costs so little, none improves.
+    pub none-below : (limit′ b : ℕ) → limit′ ≡ limit → b ≡ below standing late → NextShorter J rows b 0 limit limit′ → FirstGain P (pattern-rows (length cs) orders masks) (length cs) r cs limit limit
+    none-below limit′ b e is next =
         record {
-          of = candidate-of i (omega (arith, given .allowed));
-          walk = walk-from (w .last) (w .clock) (walked .known) (omega (arith, walked .early));
-          soon = omega (arith, walked .early);
+          within = omega arith;
+          passed = λ x h.
+              gain-is x (omega (arith, given .allowed))
+              ∙ ap (λ t. middle-on-time x && t) (le-ltb (cost x) (below standing late) (omega (arith, is, next .passed x (omega arith) (omega arith))))
+              ∙ and-false (middle-on-time x);
+          gains = λ m. absurd (omega arith);
         }
 
-    -- A shorter one that is late is passed.
-    pub passed-late : (i : ℕ) → i < limit → w .kept ≡ true → false ≡ kept-behind i → ((x : ℕ) → x < i → gain x ≡ false) → (x : ℕ) → x < i + 1 → gain x ≡ false
-    passed-late i h k e before =
-        let l : i < length masks = omega (arith, given .allowed) in
-        below-more (λ x. gain x ≡ false) i before (not-kept i l (e ∙ sym (kept-is k i l)))
+    -- With the dues of the states.
+    module _ (D : List ℕ) (dues : DuesOf (problem locations legs latest 0) cs r D) where
+      gain-due : (i : ℕ) → i < limit → gain i ≡ due-gain J rows D (length cs - 1) clock (below standing late) i
+      gain-due i h =
+          let k : i < length masks = omega (arith, given .allowed) in
+          gain-is i k
+          ∙ ap (λ b. b && ltb (cost i) (below standing late))
+          (any-depot locations legs latest depot 0 (last-of depot (head r cs)) clock (middle r cs (pattern i .order) (pattern i .mask))
+          ∙ sym (row-kept (problem locations legs latest 0) cs r J D (given .cut-set) (given .joined) dues (pattern i .order) rows (pattern i .mask) i clock (for-k i k) (given .state-rows .each i k)))
 
-    pub found : (s i : ℕ) → s ≡ standing → i < limit → w .kept ≡ true → chain J 9 (row rows i) < s → ((x : ℕ) → x < i → gain x ≡ false) → true ≡ kept-behind i →
-        FirstGain (problem locations legs latest depot) (pattern-rows (length cs) orders masks) (length cs) r cs limit i
-    found s i d h k l before e =
-        record { within = omega arith; passed = before; gains = λ m. shorter-kept i (omega (arith, given .allowed)) (rw d at l) (e ∙ sym (kept-is k i (omega (arith, given .allowed)))) }
+      pub first-due-gain : (b i : ℕ) → b ≡ below standing late → FirstDue J rows D (length cs - 1) clock b limit i → FirstGain P (pattern-rows (length cs) orders masks) (length cs) r cs limit i
+      first-due-gain b i e f =
+          let d : FirstDue J rows D (length cs - 1) clock (below standing late) limit i = rw e at f in
+          record {
+            within = d .within;
+            passed = λ x h. gain-due x (omega (arith, d .within)) ∙ d .passed x h;
+            gains = λ h. gain-due i h ∙ d .gains h;
+          }
+
+  -- The rows can be judged by the dues.
+  pub due-rows : (D : List ℕ) → length D ≡ 9 → (b shorter : ℕ) → clock ≤ 2 ^ 40 → NextShorter J rows b 0 limit shorter → DueRows J rows D (length cs - 1) clock b shorter limit
+  due-rows D places b shorter e next =
+      record {
+        chains = chains 0 (omega arith);
+        most = omega (arith, given .cut-set .most);
+        due-places = places;
+        states = λ i h c l m.
+            let k : i < length masks = omega (arith, given .allowed) in
+            row-known (length cs) (pattern i .order) rows (pattern i .mask) i (given .cut-set .least) (given .cut-set .most) (for-k i k) (given .state-rows .each i k) c l m;
+        early = e;
+        first = next;
+      }
 
 -- Once the joint table is filled.
 pub tabled : {locations : ℕ} {legs latest : List ℕ} {depot : ℕ} {r forwards backwards cs orders masks rows J J′ spare : List ℕ} {limit : ℕ} →
     Gainable locations legs latest depot r forwards backwards cs orders masks rows J spare limit → JointOf locations legs depot r cs J′ → Tabled locations legs latest depot r cs orders masks rows J′ limit
 tabled g j = let s = g .searchable in record { timed = s .timed; cut-set = s .cut-set; patterns = s .rows; allowed = s .allowed; state-rows = g .state-rows; joined = j }
+
+-- What is read of the lateness is that of the tail.
+pub told-late : {locations : ℕ} {legs latest : List ℕ} {depot : ℕ} {r forwards backwards cs orders masks rows late J spare D : List ℕ} {limit : ℕ} →
+    Findable locations legs latest depot r forwards backwards cs orders masks rows late J spare D limit → {v : ℕ} → v ≡ getD late (getD cs (length cs - 1) 0) 0 →
+    v ≡ lateness (problem locations legs latest depot) r (getD cs (length cs - 1) 0)
+told-late {r = r} {cs = cs} given e = e ∙ given .latenesses .each _ (last-cut cs r (given .gainable .searchable .cut-set))

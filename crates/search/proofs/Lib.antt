@@ -1,4 +1,3 @@
 pub mod Candidate
 pub mod Gain
-pub mod DueGain
 pub mod FirstDue

@@ -9,11 +9,13 @@ use lib.ListN.{length, getD, take}
 use Rattle.theory.specs.Moves.{Pattern}
 use Rattle.theory.specs.Scan.{improves}
 use Rattle.theory.specs.Polish.{search-of, move-at}
-use Rattle.theory.specs.Route.{Problem, reconnected, feasible}
+use Rattle.theory.specs.Route.{Problem, reconnected, on-time}
 use Rattle.theory.specs.Costs.{forward, backward}
 use Rattle.theory.specs.Tables.{problem, Timed, CutSet, PatternRows, pattern-rows}
 use Rattle.costs.specs.RouteCosts.{leg, Sums}
-use Rattle.joints.specs.States.{row, standing-row, StateRows}
+use Rattle.deadlines.specs.Lateness.{Latenesses}
+use Rattle.joints.specs.States.{row, StateRows}
+use Rattle.dues.specs.Parts.{head}
 use Rattle.dues.specs.Due.{in-time, DuesHeld}
 use Rattle.joints.specs.JointTable.{chain, Padded, JointOf}
 
@@ -46,10 +48,17 @@ pub record Gained (P : Problem) (ps : List Pattern) (k : ℕ) (route cuts : List
   pub padded : Padded table
   pub places : length spare ≡ 512
 
--- With what is known of the deadlines: whether the route keeps every one, and what is held of the dues for the first cuts.
-pub record Findable (locations : ℕ) (legs latest : List ℕ) (depot : ℕ) (route forward-sums backward-sums cuts orders masks rows : List ℕ) (kept : Bool) (table spare dues : List ℕ) (limit : ℕ) : Type 0 where
+-- A cut, and a place for the lateness behind it.
+pub record LateBehind (late cuts : List ℕ) : Type 0 where
+  pub some : 1 ≤ length cuts
+  pub within : getD cuts (length cuts - 1) 0 < length late
+  pub places : length late ≡ 513
+
+-- With what is known of the deadlines: the head is on time, by how much the stops behind are late, and what is held of the dues for the first cuts.
+pub record Findable (locations : ℕ) (legs latest : List ℕ) (depot : ℕ) (route forward-sums backward-sums cuts orders masks rows late table spare dues : List ℕ) (limit : ℕ) : Type 0 where
   pub gainable : Gainable locations legs latest depot route forward-sums backward-sums cuts orders masks rows table spare limit
-  pub in-time : kept ≡ true → feasible (problem locations legs latest depot) route ≡ true
+  pub early : on-time (problem locations legs latest depot) depot 0 (head route cuts) ≡ true
+  pub latenesses : Latenesses (problem locations legs latest depot) route late
   pub held : DuesHeld (problem locations legs latest 0) route (take (length cuts - 1) cuts) dues
   pub behind : getD dues 8 0 ≤ getD cuts (length cuts - 1) 0
 
@@ -91,28 +100,11 @@ pub record Tabled (locations : ℕ) (legs latest : List ℕ) (depot : ℕ) (rout
   pub state-rows : StateRows (length cuts) orders masks (length masks) rows
   pub joined : JointOf locations legs depot route cuts table
 
--- With what the standing order costs, and the first pattern that costs less, or `limit` where none does.
-pub record Shortened (locations : ℕ) (legs latest : List ℕ) (depot : ℕ) (route cuts orders masks rows table : List ℕ) (standing shorter limit : ℕ) : Type 0 where
-  pub tabled : Tabled locations legs latest depot route cuts orders masks rows table limit
-  pub stands : standing ≡ chain table 9 (standing-row (length cuts))
-  pub first : NextShorter table rows standing 0 limit shorter
+-- What a pattern must cost less than: what stands, and so much less that the tail, late by at most `late`, is on time.
+abbrev pub below : ℕ → ℕ → ℕ
+below standing late = standing - (late - 1)
 
--- With what is known of the deadlines, as for the whole step.
-pub record Improvable (locations : ℕ) (legs latest : List ℕ) (depot : ℕ) (route forward-sums backward-sums cuts orders masks rows : List ℕ) (kept : Bool) (table dues : List ℕ) (standing shorter limit : ℕ) : Type 0 where
-  pub shortened : Shortened locations legs latest depot route cuts orders masks rows table standing shorter limit
-  pub forwards : Sums route (forward (leg locations legs) route) forward-sums
-  pub backwards : Sums route (backward (leg locations legs) route) backward-sums
-  pub in-time : kept ≡ true → feasible (problem locations legs latest depot) route ≡ true
-  pub held : DuesHeld (problem locations legs latest 0) route (take (length cuts - 1) cuts) dues
-  pub behind : getD dues 8 0 ≤ getD cuts (length cuts - 1) 0
-
--- The first that improves, with what is then held of the dues.
-pub record Improving (locations : ℕ) (legs latest : List ℕ) (depot : ℕ) (route cuts orders masks : List ℕ) (limit i : ℕ) (dues : List ℕ) : Type 0 where
-  pub first : FirstGain (problem locations legs latest depot) (pattern-rows (length cuts) orders masks) (length cuts) route cuts limit i
-  pub held : DuesHeld (problem locations legs latest 0) route (take (length cuts - 1) cuts) dues
-  pub behind : getD dues 8 0 ≤ getD cuts (length cuts - 1) 0
-
--- ---- for a route that keeps every deadline, by the dues of the states
+-- ---- by the dues of the states
 
 -- Row x costs less than `below`, and its first `m` states are left in time.
 abbrev pub due-gain : List ℕ → List ℕ → List ℕ → ℕ → ℕ → ℕ → ℕ → Bool

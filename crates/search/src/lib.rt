@@ -1,9 +1,10 @@
 // The inner step of the scan: the first pattern on a cut set that improves the route and keeps every deadline. No entry: for the scan.
+use dues::Timing;
 ghost use mathlib.Core.Path.{_≡_};
-ghost use lib.ListN.{length};
-ghost use Rattle.theory.specs.Tables.{problem, pattern-rows};
+ghost use Prim.Native.Nat.{_-_};
+ghost use lib.ListN.{length, getD};
 ghost use Rattle.search.specs.Candidate.{candidate, Buildable, BuildableFront, BuiltFront};
-ghost use Rattle.search.specs.Gain.{FirstGain, Findable, Found, Chains, NextShorter, Shortened, Improvable, Improving, DueRows, FirstDue};
+ghost use Rattle.search.specs.Gain.{below, LateBehind, Findable, Found, Chains, NextShorter, DueRows, FirstDue};
 
 // The candidate of pattern i.
 fn build_candidate(
@@ -60,52 +61,6 @@ fn next_shorter(
     i
 }
 
-// The first pattern from `shorter` on that costs less than the standing order and keeps every deadline, or `limit`. The head is walked once.
-fn first_kept(
-    locations: usize,
-    legs: &[u32],
-    latest: &[u32],
-    depot: u32,
-    route: &[u32],
-    cuts: &[usize],
-    orders: &[u8],
-    masks: &[u8],
-    rows: &[u8; 1532],
-    joint: &[u64; 160],
-    standing: u64,
-    shorter: usize,
-    limit: usize,
-) -> usize
-    requires { ⌜ Shortened locations (now legs) (now latest) depot (now route) (now cuts) (now orders) (now masks) (now rows) (now joint) standing shorter limit ⌝ }
-    ensures { λ r. ⌜ FirstGain (problem locations (now (legs .entry)) (now (latest .entry)) depot) (pattern-rows (length (now (cuts .entry))) (now (orders .entry)) (now (masks .entry))) (length (now (cuts .entry))) (now (route .entry)) (now (cuts .entry)) limit r ⌝ }
-{
-    let head = walking::walk_head(locations, legs, latest, depot, route, cuts);
-    if !head.kept {
-        return limit;
-    }
-    let from = head.last;
-    let clock = head.clock;
-    let mut i = shorter;
-    while i < limit {
-        if walking::keeps_after_head(
-            locations,
-            legs,
-            latest,
-            route,
-            cuts,
-            orders,
-            masks,
-            i,
-            from,
-            clock,
-        ) {
-            return i;
-        }
-        i = next_shorter(joint, rows, standing, i + 1, limit);
-    }
-    i
-}
-
 // The first row from `shorter` on that costs less than `below` and is left in time, or `limit`.
 fn first_due(
     joint: &[u64; 160],
@@ -122,7 +77,8 @@ fn first_due(
 {
     let mut i = shorter;
     while i < limit {
-        if dues::row_in_time(joint, rows, dues, i, m, clock) {
+        let judged = dues::judge_row(joint, rows, dues, i, m, clock);
+        if let Timing::InTime = judged {
             return i;
         }
         i = next_shorter(joint, rows, below, i + 1, limit);
@@ -130,53 +86,30 @@ fn first_due(
     i
 }
 
-// The first pattern from `shorter` on that improves the route, or `limit`. Where the route keeps every deadline, only the middle of a candidate is judged, by the dues of its states.
-fn first_improving(
-    locations: usize,
-    legs: &[u32],
-    latest: &[u32],
-    depot: u32,
-    route: &[u32],
-    forward: &[u64; 512],
-    backward: &[u64; 512],
-    cuts: &[usize],
-    orders: &[u8],
-    masks: &[u8],
-    rows: &[u8; 1532],
-    kept: bool,
-    joint: &[u64; 160],
-    dues: &mut [u64; 9],
-    standing: u64,
-    shorter: usize,
-    limit: usize,
-) -> usize
-    requires { ⌜ Improvable locations (now legs) (now latest) depot (now route) (now forward) (now backward) (now cuts) (now orders) (now masks) (now rows) kept (now joint) (now dues) standing shorter limit ⌝ }
-    ensures { λ r. ⌜ Improving locations (now (legs .entry)) (now (latest .entry)) depot (now (route .entry)) (now (cuts .entry)) (now (orders .entry)) (now (masks .entry)) limit r (now (dues .exit)) ⌝ }
+// What a candidate must cost less than: what stands, and so much less that the tail is on time.
+fn threshold(standing: u64, late: u64) -> u64
+    ensures { λ r. ⌜ r ≡ below standing late ⌝ }
 {
-    if !kept {
-        return first_kept(
-            locations,
-            legs,
-            latest,
-            depot,
-            route,
-            cuts,
-            orders,
-            masks,
-            rows,
-            joint,
-            standing,
-            shorter,
-            limit,
-        );
+    if late <= 1 {
+        return standing;
     }
-    dues::reach_dues(locations, legs, latest, route, backward, cuts, dues);
-    let clock = walking::head_clock(locations, legs, depot, route, forward, cuts);
-    let m = cuts.len() - 1;
-    first_due(joint, rows, dues, m, clock, standing, shorter, limit)
+    let more = late - 1;
+    if standing < more {
+        return 0;
+    }
+    standing - more
 }
 
-// The first of the first `limit` patterns on the cut set that improves the route, with its candidate in `spare`, or `limit`. Deadlines are looked at only where a pattern is shorter.
+// By how much a stop behind the last cut is late at most.
+fn late_behind(lateness: &[u64; 513], cuts: &[usize]) -> u64
+    requires { ⌜ LateBehind (now lateness) (now cuts) ⌝ }
+    ensures { λ r. ⌜ r ≡ getD (now (lateness .entry)) (getD (now (cuts .entry)) (length (now (cuts .entry)) - 1) 0) 0 ⌝ }
+{
+    let c = cuts[cuts.len() - 1];
+    lateness[c]
+}
+
+// The first of the first `limit` patterns on the cut set that improves the route, with its candidate in `spare`, or `limit`. Deadlines are looked at only where a pattern gains enough.
 pub fn first_gain(
     locations: usize,
     legs: &[u32],
@@ -189,13 +122,13 @@ pub fn first_gain(
     orders: &[u8],
     masks: &[u8],
     rows: &[u8; 1532],
-    kept: bool,
+    lateness: &[u64; 513],
     joint: &mut [u64; 160],
     spare: &mut [u32; 512],
     dues: &mut [u64; 9],
     limit: usize,
 ) -> usize
-    requires { ⌜ Findable locations (now legs) (now latest) depot (now route) (now forward) (now backward) (now cuts) (now orders) (now masks) (now rows) kept (now joint) (now spare) (now dues) limit ⌝ }
+    requires { ⌜ Findable locations (now legs) (now latest) depot (now route) (now forward) (now backward) (now cuts) (now orders) (now masks) (now rows) (now lateness) (now joint) (now spare) (now dues) limit ⌝ }
     ensures { λ r. ⌜ Found locations (now (legs .entry)) (now (latest .entry)) depot (now (route .entry)) (now (cuts .entry)) (now (orders .entry)) (now (masks .entry)) limit r (now (joint .exit)) (now (spare .exit)) (now (dues .exit)) ⌝ }
 {
     joint_table::fill_joint(
@@ -209,29 +142,15 @@ pub fn first_gain(
         joint,
     );
     let standing = joints::standing_cost(joint, cuts.len());
-    let shorter = next_shorter(joint, rows, standing, 0, limit);
+    let below = threshold(standing, late_behind(lateness, cuts));
+    let shorter = next_shorter(joint, rows, below, 0, limit);
     if shorter == limit {
         return limit;
     }
-    let i = first_improving(
-        locations,
-        legs,
-        latest,
-        depot,
-        route,
-        forward,
-        backward,
-        cuts,
-        orders,
-        masks,
-        rows,
-        kept,
-        joint,
-        dues,
-        standing,
-        shorter,
-        limit,
-    );
+    dues::reach_dues(locations, legs, latest, route, backward, cuts, dues);
+    let clock = dues::head_clock(locations, legs, depot, route, forward, cuts);
+    let m = cuts.len() - 1;
+    let i = first_due(joint, rows, dues, m, clock, below, shorter, limit);
     if i == limit {
         return limit;
     }

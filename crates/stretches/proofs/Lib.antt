@@ -1,2 +1,4 @@
 pub mod Counting
+mod LastCut
 mod Stretching
+mod Hopeless

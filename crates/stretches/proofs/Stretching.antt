@@ -8,11 +8,12 @@ use native.Mathlib.Omega.{arith}
 use native.Mathlib.Nat.{zero-mul}
 use native.Mathlib.Decide.{decLt}
 use lib.ListN.{length, getD, set, take, replicate, length-append}
-use lib.Seq.{set-at}
+use lib.Seq.{set-at, getD-take}
 use Rattle.theory.specs.Route.{reconnected, feasible}
 use Rattle.theory.specs.Polish.{move-at}
 use Rattle.theory.specs.Tables.{problem, CutSet, ForK, pattern-rows}
 use Rattle.theory.proofs.Rows.{length-rows, listed-for-k}
+use Rattle.costs.proofs.Segments.{head-at}
 use Rattle.joints.specs.JointTable.{Padded}
 use Rattle.joints.specs.States.{row, states, pattern-row}
 use Rattle.shared.specs.Kept.{Cut, Kept, Places, first-cuts, last-cut}
@@ -22,7 +23,8 @@ use Rattle.room.specs.Tests.{Nextable, NextRoom}
 use Rattle.room.proofs.Shared.{other-cut, last-two}
 use Rattle.dues.specs.Due.{DuesHeld}
 use Rattle.search.specs.Gain.{Findable, Found}
-use Rattle.stretches.specs.Stretch.{Stretchable, Stretched, GainAt, improves-at}
+use Rattle.stretches.specs.Stretch.{Hopeful, Stretched, GainAt, improves-at}
+use Rattle.stretches.proofs.LastCut.{two, some, long, at-cut}
 use Rattle.stretches.proofs.Counting.{count-to, count-next, count-least, up-to}
 
 -- At the last cut of `cuts`: the candidates before it are examined, and none improves the route.
@@ -41,31 +43,13 @@ pub record Going (locations : ℕ) (legs latest : List ℕ) (depot : ℕ) (order
 
 -- ---- the last cut as the array has it
 
-last-stored : (l : List ℕ) (v : ℕ) → 1 ≤ length l → set l (length l - 1) v ≡ first-cuts l ++ (v ∷ [])
+pub last-stored : (l : List ℕ) (v : ℕ) → 1 ≤ length l → set l (length l - 1) v ≡ first-cuts l ++ (v ∷ [])
 last-stored l v h = ap (λ z. set z (length l - 1) v) (cuts-parted l h) ∙ set-at (first-cuts l) (last-cut l) [] v (length l - 1) (first-many l)
 
-module _ {locations : ℕ} {legs latest : List ℕ} {depot : ℕ} {orders masks rows r forwards backwards : List ℕ} {kept : Bool} {cuts₀ table₀ spare₀ : List ℕ}
-    (given : Stretchable locations legs latest depot orders masks rows r forwards backwards kept cuts₀ table₀ spare₀) where
-  as-many : length (pattern-rows (length cuts₀) orders masks) ≡ length masks
-  as-many = length-rows (length cuts₀) orders masks
-
-  two : 2 ≤ length cuts₀
-  two = given .gainable .searchable .cut-set .least
-
-  some : 1 ≤ length (first-cuts cuts₀)
-  some = omega (arith, first-many cuts₀, two)
-
-  own : CutSet (length (first-cuts cuts₀ ++ (last-cut cuts₀ ∷ []))) (length r) (first-cuts cuts₀ ++ (last-cut cuts₀ ∷ []))
-  own = rw (← (cuts-parted cuts₀ (omega (arith, two)))) (given .gainable .searchable .cut-set)
-
-  first-below : (getD (first-cuts cuts₀) (length (first-cuts cuts₀) - 1) 0 < last-cut cuts₀) × (last-cut cuts₀ ≤ length r)
-  first-below = last-two (length r) 0 (first-cuts cuts₀) (last-cut cuts₀) some (own .rising)
-
-  long : (v : ℕ) → length (first-cuts cuts₀ ++ (v ∷ [])) ≡ length cuts₀
-  long v = simp length-append (omega (arith, first-many cuts₀, two))
-
-  at-cut : (v : ℕ) → last-cut cuts₀ ≤ v → v ≤ length r → CutSet (length (first-cuts cuts₀ ++ (v ∷ []))) (length r) (first-cuts cuts₀ ++ (v ∷ []))
-  at-cut v h l = other-cut (length r) (first-cuts cuts₀) (last-cut cuts₀) v some own (omega (arith, first-below .0)) l
+module _ {locations : ℕ} {legs latest : List ℕ} {depot : ℕ} {orders masks rows r forwards backwards late cuts₀ table₀ spare₀ : List ℕ}
+    (given : Hopeful locations legs latest depot orders masks rows r forwards backwards late cuts₀ table₀ spare₀) where
+  abbrev cut₀ : CutSet (length cuts₀) (length r) cuts₀
+  cut₀ = given .gainable .searchable .cut-set
 
   cut-of : (cuts : List ℕ) → CutSet (length cuts) (length r) cuts → Cut locations legs depot r forwards backwards cuts
   cut-of cuts s = let g = given .gainable .searchable in record { measurable = g .timed .measurable; forwards = g .forwards; backwards = g .backwards; cut-set = s }
@@ -79,11 +63,11 @@ module _ {locations : ℕ} {legs latest : List ℕ} {depot : ℕ} {orders masks 
       Stretched (problem locations legs latest depot) (pattern-rows (length cuts₀) orders masks) r cuts₀ left (record { examined = e; gains = g; through = w }) cuts′ table spare
   answered idle allowed gain over spent padded places =
       record {
-        idle = λ t x h l i n. idle t x h (rw as-many at i) (rw as-many at n);
+        idle = λ t x h l i n. idle t x h (rw (length-rows (length cuts₀) orders masks) at i) (rw (length-rows (length cuts₀) orders masks) at n);
         allowed = allowed;
         gain = gain;
-        over = λ e. rw as-many (over e);
-        spent = λ a b. rw as-many (spent a b);
+        over = λ e. rw (length-rows (length cuts₀) orders masks) (over e);
+        spent = λ a b. rw (length-rows (length cuts₀) orders masks) (spent a b);
         padded = padded;
         places = places;
       }
@@ -123,14 +107,14 @@ module _ {locations : ℕ} {legs latest : List ℕ} {depot : ℕ} {orders masks 
     stored : (v : ℕ) → set cuts (length cuts₀ - 1) v ≡ first-cuts cuts₀ ++ (v ∷ [])
     stored v =
         ap (λ n. set cuts (n - 1) v) (sym (going .many))
-        ∙ last-stored cuts v (omega (arith, going .many, two))
+        ∙ last-stored cuts v (omega (arith, going .many, (two r cuts₀ cut₀)))
         ∙ ap (λ l. l ++ (v ∷ [])) (going .first)
 
     pub last-read : getD cuts (length cuts₀ - 1) 0 ≡ last-cut cuts
     last-read = ap (λ n. getD cuts (n - 1) 0) (sym (going .many))
 
     pub last-within : length cuts₀ - 1 < length cuts
-    last-within = omega (arith, going .many, two)
+    last-within = omega (arith, going .many, (two r cuts₀ cut₀))
 
     pub last-set : (v : ℕ) → last-cut (set cuts (length cuts₀ - 1) v) ≡ v
     last-set v = ap last-cut (stored v) ∙ last-of-cuts (first-cuts cuts₀) v
@@ -138,8 +122,8 @@ module _ {locations : ℕ} {legs latest : List ℕ} {depot : ℕ} {orders masks 
     pub last-most : last-cut cuts ≤ length r
     last-most =
         let s : CutSet (length (first-cuts cuts ++ (last-cut cuts ∷ []))) (length r) (first-cuts cuts ++ (last-cut cuts ∷ [])) =
-        rw (← (cuts-parted cuts (omega (arith, going .many, two)))) (going .cut-set) in
-        last-two (length r) 0 (first-cuts cuts) (last-cut cuts) (rw (going .first) some) (s .rising) .1
+        rw (← (cuts-parted cuts (omega (arith, going .many, (two r cuts₀ cut₀))))) (going .cut-set) in
+        last-two (length r) 0 (first-cuts cuts) (last-cut cuts) (rw (going .first) (some r cuts₀ cut₀)) (s .rising) .1
 
   module _ {left : ℕ} {cuts table spare dues : List ℕ} {examined : ℕ} {entries exits inside low : List ℕ}
       (going : Going locations legs latest depot orders masks r cuts₀ left cuts table spare dues examined)
@@ -164,7 +148,7 @@ module _ {locations : ℕ} {legs latest : List ℕ} {depot : ℕ} {orders masks 
       no-gain : (t x : ℕ) → last-cut cuts ≤ t → t < hit → x < length masks → improves-at (problem locations legs latest depot) (pattern-rows (length cuts₀) orders masks) r cuts₀ t x ≡ false
       no-gain t x h l i =
           let p = pattern-row (length cuts₀) orders masks x in
-          let n : suc (length (first-cuts cuts₀)) ≡ length cuts₀ = omega (arith, first-many cuts₀, two) in
+          let n : suc (length (first-cuts cuts₀)) ≡ length cuts₀ = omega (arith, first-many cuts₀, (two r cuts₀ cut₀)) in
           let f : ForK (suc (length (first-cuts cuts₀))) (p .order) (p .mask) = rw n (listed-for-k (length cuts₀) orders masks (given .gainable .searchable .rows) x _ i) in
           let w : row rows x ≡ states (suc (length (first-cuts cuts₀))) (p .order) (p .mask) = rw n (given .gainable .state-rows .each x i) in
           let q = rw (going .first) at (next .idle t h l) in
@@ -228,8 +212,8 @@ module _ {locations : ℕ} {legs latest : List ℕ} {depot : ℕ} {orders masks 
               let e = last-of-cuts (first-cuts cuts₀) hit in
               rw (stored going hit)
               (record {
-                cut-set = at-cut hit behind-hit l;
-                many = long hit;
+                cut-set = at-cut r cuts₀ cut₀ hit behind-hit l;
+                many = long r cuts₀ cut₀ hit;
                 first = f;
                 from = rw e behind-hit;
                 count = reaches ∙ ap (λ c. (c - last-cut cuts₀) * length masks) (sym e);
@@ -245,9 +229,15 @@ module _ {locations : ℕ} {legs latest : List ℕ} {depot : ℕ} {orders masks 
 
   module _ {left : ℕ} {cuts table spare dues : List ℕ} {examined : ℕ} (going : Going locations legs latest depot orders masks r cuts₀ left cuts table spare dues examined) where
     cuts-are : cuts ≡ first-cuts cuts₀ ++ (last-cut cuts ∷ [])
-    cuts-are = cuts-parted cuts (omega (arith, going .many, two)) ∙ ap (λ l. l ++ (last-cut cuts ∷ [])) (going .first)
+    cuts-are = cuts-parted cuts (omega (arith, going .many, (two r cuts₀ cut₀))) ∙ ap (λ l. l ++ (last-cut cuts ∷ [])) (going .first)
 
-    pub findable : {limit : ℕ} → limit ≡ min (length masks) (left - examined) → Findable locations legs latest depot r forwards backwards cuts orders masks rows kept table spare dues limit
+    first-same : getD cuts 0 0 ≡ getD cuts₀ 0 0
+    first-same =
+        sym (getD-take (length cuts - 1) cuts 0 0 (omega (arith, going .many, (two r cuts₀ cut₀))))
+        ∙ ap (λ l. getD l 0 0) (going .first)
+        ∙ getD-take (length cuts₀ - 1) cuts₀ 0 0 (omega (arith, (two r cuts₀ cut₀)))
+
+    pub findable : {limit : ℕ} → limit ≡ min (length masks) (left - examined) → Findable locations legs latest depot r forwards backwards cuts orders masks rows late table spare dues limit
     findable e =
         let g = given .gainable in
         record {
@@ -264,7 +254,8 @@ module _ {locations : ℕ} {legs latest : List ℕ} {depot : ℕ} {orders masks 
             padded = going .padded;
             places = going .places;
           };
-          in-time = given .in-time;
+          early = rw (head-at cuts r (omega (arith, going .many, (two r cuts₀ cut₀))), first-same) (given .early);
+          latenesses = given .latenesses;
           held = rw (going .first) (going .held);
           behind = going .behind;
         }
@@ -297,8 +288,8 @@ module _ {locations : ℕ} {legs latest : List ℕ} {depot : ℕ} {orders masks 
               pattern = i;
               least = going .from;
               most = last-most going;
-              listed = rw as-many (omega arith);
-              is = rw as-many (ap (λ n. n + i) (going .count));
+              listed = rw (length-rows (length cuts₀) orders masks) (omega arith);
+              is = rw (length-rows (length cuts₀) orders masks) (ap (λ n. n + i) (going .count));
               improves = rw (going .many, cuts-are) at (found .gained .first .gains h);
               built = rw (going .many, cuts-are) at (found .gained .built h);
             },
@@ -347,8 +338,8 @@ module _ {locations : ℕ} {legs latest : List ℕ} {depot : ℕ} {orders masks 
               let e = last-of-cuts (first-cuts cuts₀) (v + 1) in
               rw (stored going (v + 1))
               (record {
-                cut-set = at-cut (v + 1) (omega (arith, going .from, is-last)) (omega (arith, last-most going, is-last, n));
-                many = long (v + 1);
+                cut-set = at-cut r cuts₀ cut₀ (v + 1) (omega (arith, going .from, is-last)) (omega (arith, last-most going, is-last, n));
+                many = long r cuts₀ cut₀ (v + 1);
                 first = f;
                 from = rw e (omega (arith, going .from, is-last));
                 count = counted ∙ ap (λ c. (c + 1 - last-cut cuts₀) * length masks) is-last ∙ ap (λ c. (c - last-cut cuts₀) * length masks) (sym e);

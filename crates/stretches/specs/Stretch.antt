@@ -3,22 +3,45 @@ use mathlib.Core.Path.{_≡_}
 use mathlib.Core.Bool.{Bool, true, false}
 use mathlib.Core.List.{List, [], _∷_, _++_}
 use Prim.Native.Nat.{ℕ, _+_, _-_, _*_, _≤_, _<_}
-use lib.ListN.{length, take}
+use lib.ListN.{length, getD, take}
 use Rattle.theory.specs.Moves.{Pattern, Move}
 use Rattle.theory.specs.Scan.{improves}
-use Rattle.theory.specs.Route.{Problem, reconnected, feasible}
+use Rattle.theory.specs.Route.{Problem, reconnected, on-time}
 use Rattle.theory.specs.Polish.{search-of, move-at}
 use Rattle.theory.specs.Tables.{problem}
+use Rattle.deadlines.specs.Lateness.{LongestHead, Latenesses}
 use Rattle.joints.specs.JointTable.{Padded}
 use Rattle.shared.specs.Kept.{Opened, first-cuts, last-cut}
 use Rattle.search.specs.Gain.{Gainable}
 use Rattle.stretches.specs.declared.Stretch.{Stretch}
 
--- What a stretch is scanned from: its first cut set, and what the inner step reads; where `kept` is set, a route that keeps every deadline.
-pub record Stretchable (locations : ℕ) (legs latest : List ℕ) (depot : ℕ) (orders masks rows route forward-sums backward-sums : List ℕ) (kept : Bool) (cuts table spare : List ℕ) : Type 0 where
+-- What a stretch is scanned from, behind a head that is on time: its first cut set, and what the inner step reads.
+pub record Hopeful (locations : ℕ) (legs latest : List ℕ) (depot : ℕ) (orders masks rows route forward-sums backward-sums late cuts table spare : List ℕ) : Type 0 where
   pub gainable : Gainable locations legs latest depot route forward-sums backward-sums cuts orders masks rows table spare 0
   pub first : Opened cuts
-  pub in-time : kept ≡ true → feasible (problem locations legs latest depot) route ≡ true
+  pub early : on-time (problem locations legs latest depot) depot 0 (take (getD cuts 0 0) route) ≡ true
+  pub latenesses : Latenesses (problem locations legs latest depot) route late
+
+-- The same behind any head, with the longest that a candidate may have.
+pub record Stretchable (locations : ℕ) (legs latest : List ℕ) (depot : ℕ) (orders masks rows route forward-sums backward-sums : List ℕ) (longest : ℕ) (late cuts table spare : List ℕ) : Type 0 where
+  pub gainable : Gainable locations legs latest depot route forward-sums backward-sums cuts orders masks rows table spare 0
+  pub first : Opened cuts
+  pub head : LongestHead (problem locations legs latest depot) route longest
+  pub latenesses : Latenesses (problem locations legs latest depot) route late
+
+-- The last cut of a route of so many stops, to be passed over with the last cuts behind it.
+pub record Passable (stops patterns : ℕ) (cuts : List ℕ) : Type 0 where
+  pub some : 1 ≤ length cuts
+  pub most : length cuts ≤ 5
+  pub within : last-cut cuts ≤ stops
+  pub short : stops ≤ 512
+  pub few : patterns ≤ 383
+
+-- All of their candidates are examined, or as many as are left.
+pub record Passed (stops patterns : ℕ) (cuts : List ℕ) (left : ℕ) (answer : Stretch) (cuts′ : List ℕ) : Type 0 where
+  pub no-gain : answer .gains ≡ false
+  pub over : answer .through ≡ true → (answer .examined ≡ (stops + 1 - last-cut cuts) * patterns) × (answer .examined ≤ left) × (cuts′ ≡ first-cuts cuts ++ (stops ∷ []))
+  pub spent : answer .through ≡ false → (answer .examined ≡ left) × (left < (stops + 1 - last-cut cuts) * patterns)
 
 -- Whether pattern x at the last cut t, behind the first cuts, improves the route.
 abbrev pub improves-at : Problem → List Pattern → List ℕ → List ℕ → ℕ → ℕ → Bool

@@ -3,7 +3,7 @@ ghost use mathlib.Core.Path.{_≡_};
 ghost use Prim.Native.Nat.{min, _*_, _≤_};
 ghost use lib.ListN.{length};
 ghost use Rattle.theory.specs.Tables.{problem, pattern-rows};
-ghost use Rattle.stretches.specs.Stretch.{Stretchable, Stretched};
+ghost use Rattle.stretches.specs.Stretch.{Passable, Passed, Hopeful, Stretchable, Stretched};
 
 // How a stretch ended: at an improving candidate, or through it, or else with the candidates allowed. Those before were examined.
 pub struct Stretch {
@@ -30,8 +30,30 @@ fn passed_patterns(sets: usize, patterns: usize) -> u64
     (sets * patterns) as u64
 }
 
-// From the first cut set with its first cuts on, the first of the `left` candidates still allowed that improves the route; its candidate is in `spare`.
-pub fn scan_stretch(
+// The whole stretch is passed over: none of its candidates improves the route.
+fn pass_stretch(stops: usize, patterns: usize, cuts: &mut [usize], left: u64) -> Stretch
+    requires { ⌜ Passable stops patterns (now cuts) ⌝ }
+    ensures { λ r. ⌜ Passed stops patterns (now (cuts .entry)) left r (now (cuts .exit)) ⌝ }
+{
+    let last = cuts.len() - 1;
+    let over = passed_patterns(stops + 1 - cuts[last], patterns);
+    if left < over {
+        return Stretch {
+            examined: left,
+            gains: false,
+            through: false,
+        };
+    }
+    cuts[last] = stops;
+    Stretch {
+        examined: over,
+        gains: false,
+        through: true,
+    }
+}
+
+// Last cut by last cut, behind a head that is on time.
+fn scan_last_cuts(
     locations: usize,
     legs: &[u32],
     latest: &[u32],
@@ -42,13 +64,13 @@ pub fn scan_stretch(
     route: &[u32],
     forward: &[u64; 512],
     backward: &[u64; 512],
-    kept: bool,
+    lateness: &[u64; 513],
     cuts: &mut [usize],
     joint: &mut [u64; 160],
     spare: &mut [u32; 512],
     left: u64,
 ) -> Stretch
-    requires { ⌜ Stretchable locations (now legs) (now latest) depot (now orders) (now masks) (now rows) (now route) (now forward) (now backward) kept (now cuts) (now joint) (now spare) ⌝ }
+    requires { ⌜ Hopeful locations (now legs) (now latest) depot (now orders) (now masks) (now rows) (now route) (now forward) (now backward) (now lateness) (now cuts) (now joint) (now spare) ⌝ }
     ensures { λ r. ⌜ Stretched (problem locations (now (legs .entry)) (now (latest .entry)) depot) (pattern-rows (length (now (cuts .entry))) (now (orders .entry)) (now (masks .entry))) (now (route .entry)) (now (cuts .entry)) left r (now (cuts .exit)) (now (joint .exit)) (now (spare .exit)) ⌝ }
 {
     let mut entries = [0u32; 8];
@@ -120,7 +142,7 @@ pub fn scan_stretch(
             orders,
             masks,
             rows,
-            kept,
+            lateness,
             joint,
             spare,
             &mut dues,
@@ -150,4 +172,49 @@ pub fn scan_stretch(
         }
         cuts[last] = hit + 1;
     }
+}
+
+// From the first cut set with its first cuts on, the first of the `left` candidates still allowed that improves the route; its candidate is in `spare`. With a head
+// beyond the longest, no candidate keeps every deadline.
+pub fn scan_stretch(
+    locations: usize,
+    legs: &[u32],
+    latest: &[u32],
+    depot: u32,
+    orders: &[u8],
+    masks: &[u8],
+    rows: &[u8; 1532],
+    route: &[u32],
+    forward: &[u64; 512],
+    backward: &[u64; 512],
+    longest: usize,
+    lateness: &[u64; 513],
+    cuts: &mut [usize],
+    joint: &mut [u64; 160],
+    spare: &mut [u32; 512],
+    left: u64,
+) -> Stretch
+    requires { ⌜ Stretchable locations (now legs) (now latest) depot (now orders) (now masks) (now rows) (now route) (now forward) (now backward) longest (now lateness) (now cuts) (now joint) (now spare) ⌝ }
+    ensures { λ r. ⌜ Stretched (problem locations (now (legs .entry)) (now (latest .entry)) depot) (pattern-rows (length (now (cuts .entry))) (now (orders .entry)) (now (masks .entry))) (now (route .entry)) (now (cuts .entry)) left r (now (cuts .exit)) (now (joint .exit)) (now (spare .exit)) ⌝ }
+{
+    if longest < cuts[0] {
+        return pass_stretch(route.len(), masks.len(), cuts, left);
+    }
+    scan_last_cuts(
+        locations,
+        legs,
+        latest,
+        depot,
+        orders,
+        masks,
+        rows,
+        route,
+        forward,
+        backward,
+        lateness,
+        cuts,
+        joint,
+        spare,
+        left,
+    )
 }

@@ -1,7 +1,6 @@
--- `scanning::scan_cut_sets` meets its contract. The invariant: what is left from here is the whole scan, and the sums and `kept` are of the route at hand. Assumes
+-- `scanning::scan_cut_sets` meets its contract. The invariant: what is left from here is the whole scan, and what is measured is of the route at hand. Assumes
 -- nothing.
 use mathlib.Core.Path.{_≡_, refl, sym, ap, _∙_}
-use mathlib.Core.Bool.{true}
 use mathlib.Core.List.{_++_}
 use Prim.Native.Nat.{_+_, _-_}
 use lib.ListN.{length, take, drop, length-append, length-drop}
@@ -10,75 +9,63 @@ use borrow.Author.Tests.{not-true, not-false}
 use borrow.Author.Needs.{needs}
 use native.Mathlib.Omega.{arith}
 use Rattle.theory.specs.Tables.{problem, pattern-rows}
-use Rattle.theory.specs.Route.{feasible}
-use Rattle.theory.specs.Costs.{forward as forward-sum, backward as backward-sum}
 use Rattle.theory.proofs.Polishing.{Polishing}
-use Rattle.costs.specs.RouteCosts.{leg, Sums}
 use Rattle.joints.specs.JointTable.{Padded}
 use Rattle.shared.specs.Kept.{Opened}
 use Rattle.shared.proofs.Keeping.{no-cells}
+use Rattle.scanning.specs.Loop.{Measured}
 use Rattle.scanning.proofs.Scanning.{starts, below, same-size}
-use Rattle.scanning.proofs.Passing.{first-opened, stretchable, in-allowance, room-for-it, begins-again, candidate-stops, then-kept, spent-now, some-examined, cuts-then, moves-on, ends-now}
+use Rattle.scanning.proofs.Passing.{first-opened, stretchable, in-allowance, room-for-it, begins-again, candidate-stops, measured-anew, spent-now, some-examined, cuts-then, moves-on, ends-now}
 use Rattle.scanning.proofs.scan_cut_sets.Statement.{statement}
 use Rattle.scanning.proofs.scan_cut_sets.Tie as tie
 
 abbrev Inv-loop : tie.InvT-loop
-Inv-loop k allowance locations legs latest depot orders masks rows route₀ forward₀ backward₀ joint₀ spare₀ kept₀ cut₀ examined₀ accepted₀ route forward backward joint spare kept cut examined accepted =
+Inv-loop k allowance locations legs latest depot orders masks rows route₀ forward₀ backward₀ joint₀ spare₀ lateness₀ longest₀ cut₀ examined₀ accepted₀ route forward backward joint spare lateness longest cut examined accepted =
     (length cut ≡ 5)
     × Polishing (problem locations legs latest depot) (pattern-rows k orders masks) k allowance route₀ (take k cut) examined accepted route
-    × Sums route (forward-sum (leg locations legs) route) forward
-    × Sums route (backward-sum (leg locations legs) route) backward
+    × Measured locations legs latest depot route forward backward longest lateness
     × Padded joint
     × (length spare ≡ 512)
     × Opened (take k cut)
-    × (kept ≡ true → feasible (problem locations legs latest depot) route ≡ true)
 
 abbrev μ-loop : tie.MeasureT-loop
-μ-loop k allowance locations legs latest depot orders masks rows route₀ forward₀ backward₀ joint₀ spare₀ kept₀ cut₀ examined₀ accepted₀ route forward backward joint spare kept cut examined accepted = allowance - examined
+μ-loop k allowance locations legs latest depot orders masks rows route₀ forward₀ backward₀ joint₀ spare₀ lateness₀ longest₀ cut₀ examined₀ accepted₀ route forward backward joint spare lateness longest cut examined accepted = allowance - examined
 
-forward-sums-requires : tie.Need-forward-sums-requires Inv-loop μ-loop
-forward-sums-requires c κs =
-    let s = c .before .before .before .before .before .before .before in
-    record { table = s .pre .timed .measurable .table; stops = s .pre .timed .measurable .stops; places = refl }
-
-backward-sums-requires : tie.Need-backward-sums-requires Inv-loop μ-loop
-backward-sums-requires c κs =
-    let s = c .before .before .before .before .before .before .before .before .before .before in
-    record { table = s .pre .timed .measurable .table; stops = s .pre .timed .measurable .stops; places = refl }
-
-is-feasible-requires : tie.Need-is-feasible-requires Inv-loop μ-loop
-is-feasible-requires c κs = c .before .before .before .before .before .before .before .before .before .before .before .before .pre .timed
+measure-requires : tie.Need-measure-requires Inv-loop μ-loop
+measure-requires c κs =
+    let s = c .before .before .before .before .before .before .before .before .before in
+    record { timed = s .pre .timed; forward-places = refl; backward-places = refl; late-places = refl }
 
 loop-holds : tie.Need-loop-holds Inv-loop μ-loop
 loop-holds c =
-    let s = c .before .before .before .before .before .before .before .before .before .before .before .before .before in
-    (refl, starts (s .args .k) (s .args .locations) (s .args .legs .now) (s .args .latest .now) (s .args .depot) (s .args .orders .now) (s .args .masks .now) (s .args .rows .now) (s .args .route .now) (s .args .allowance) (s .pre), c .before .before .before .before .before .forward-sums .ensures .sums, c .before .before .backward-sums .ensures .sums, no-cells, refl, first-opened (s .args .k) (s .pre .least) (s .pre .most), λ e. sym (c .is-feasible .ensures) ∙ e)
+    let s = c .before .before .before .before .before .before .before .before .before .before in
+    (refl, starts (s .args .k) (s .args .locations) (s .args .legs .now) (s .args .latest .now) (s .args .depot) (s .args .orders .now) (s .args .masks .now) (s .args .rows .now) (s .args .route .now) (s .args .allowance) (s .pre), c .measure .ensures, no-cells, refl, first-opened (s .args .k) (s .pre .least) (s .pre .most))
 
 array-borrow-prefix-cut : tie.Need-array-borrow-prefix-cut Inv-loop μ-loop
 array-borrow-prefix-cut c =
-    let s = c .before .before .before .before .before .before .before .before .before .before .before .before .before .before .before .before .before in
-    let l = c .before .before .before .loop in
+    let s = c .before .before .before .before .before .before .before .before .before .before .before .before .before .before .before in
+    let l = c .before .before .before .before .loop in
     omega (arith, l .inv .0, s .pre .most)
 
 slice-aggregate-scan-stretch : tie.Need-slice-aggregate-scan-stretch Inv-loop μ-loop
-slice-aggregate-scan-stretch c = sym (c .before .before .before .before .loop .inv .1 .cut-set .many)
+slice-aggregate-scan-stretch c = sym (c .before .before .before .before .before .loop .inv .1 .cut-set .many)
 
 sub-scan-stretch : tie.Need-sub-scan-stretch Inv-loop μ-loop
 sub-scan-stretch c =
-    let s = c .before .before .before .before .before .before .before .before .before .before .before .before .before .before .before .before .before .before .before .before in
-    let l = c .before .before .before .before .before .before .loop in
+    let s = c .before .before .before .before .before .before .before .before .before .before .before .before .before .before .before .before .before .before in
+    let l = c .before .before .before .before .before .before .before .loop in
     below (s .args .k) (s .args .locations) (s .args .legs .now) (s .args .latest .now) (s .args .depot) (s .args .orders .now) (s .args .masks .now) (s .args .rows .now) (s .args .route .now) (s .args .allowance) (s .pre) (take (s .args .k) (l .cut)) (l .examined) (l .accepted) (l .route) (l .inv .1)
 
 scan-stretch-requires : tie.Need-scan-stretch-requires Inv-loop μ-loop
 scan-stretch-requires c κs =
-    let s = c .before .before .before .before .before .before .before .before .before .before .before .before .before .before .before .before .before .before .before .before in
-    let l = c .before .before .before .before .before .before .loop in
-    stretchable (s .args .k) (s .args .locations) (s .args .legs .now) (s .args .latest .now) (s .args .depot) (s .args .orders .now) (s .args .masks .now) (s .args .rows .now) (s .args .route .now) (s .args .allowance) (s .pre) (take (s .args .k) (l .cut)) (l .examined) (l .accepted) (l .route) (l .inv .1) (l .inv .2) (l .inv .3) (l .inv .4) (l .inv .5) (l .inv .6) (l .inv .7)
+    let s = c .before .before .before .before .before .before .before .before .before .before .before .before .before .before .before .before .before .before in
+    let l = c .before .before .before .before .before .before .before .loop in
+    stretchable (s .args .k) (s .args .locations) (s .args .legs .now) (s .args .latest .now) (s .args .depot) (s .args .orders .now) (s .args .masks .now) (s .args .rows .now) (s .args .route .now) (s .args .allowance) (s .pre) (take (s .args .k) (l .cut)) (l .examined) (l .accepted) (l .route) (l .inv .1) (l .inv .2) (l .inv .3) (l .inv .4) (l .inv .5)
 
 add-examined : tie.Need-add-examined Inv-loop μ-loop
 add-examined c =
-    let s = c .before .before .before .before .before .before .before .before .before .before .before .before .before .before .before .before .before .before .before .before .before .before .before in
-    let l = c .before .before .before .before .before .before .before .before .before .loop in
+    let s = c .before .before .before .before .before .before .before .before .before .before .before .before .before .before .before .before .before .before .before .before .before in
+    let l = c .before .before .before .before .before .before .before .before .before .before .loop in
     omega (arith, in-allowance (s .args .k) (s .args .locations) (s .args .legs .now) (s .args .latest .now) (s .args .depot) (s .args .orders .now) (s .args .masks .now) (s .args .rows .now) (s .args .route .now) (s .args .allowance) (s .pre) (take (s .args .k) (l .cut)) (l .examined) (l .accepted) (l .route) (l .inv .1) (c .before .before .scan-stretch .ensures), s .fits .allowance)
 
 slice-aggregate-take-gain : tie.Need-slice-aggregate-take-gain Inv-loop μ-loop
@@ -86,123 +73,128 @@ slice-aggregate-take-gain c = sym (c .before .before .before .before .scan-stret
 
 take-gain-requires : tie.Need-take-gain-requires Inv-loop μ-loop
 take-gain-requires c κs =
-    let s = c .before .before .before .before .before .before .before .before .before .before .before .before .before .before .before .before .before .before .before .before .before .before .before .before .before .before .before .before in
-    let l = c .before .before .before .before .before .before .before .before .before .before .before .before .before .before .loop in
-    let e = c .before .before .before .before .before .before .before .scan-stretch .ensures in
-    record { table = s .pre .timed .measurable .table; stops = candidate-stops (s .args .k) (s .args .locations) (s .args .legs .now) (s .args .latest .now) (s .args .depot) (s .args .orders .now) (s .args .masks .now) (s .args .rows .now) (s .args .route .now) (s .args .allowance) (s .pre) (take (s .args .k) (l .cut)) (l .examined) (l .accepted) (l .route) (l .inv .1) e (c .before .before .before .before .if1 .taken) _ refl; room = omega (arith, e .places, same-size (s .args .k) (s .args .locations) (s .args .legs .now) (s .args .latest .now) (s .args .depot) (s .args .orders .now) (s .args .masks .now) (s .args .rows .now) (s .args .route .now) (s .args .allowance) (s .pre) (take (s .args .k) (l .cut)) (l .examined) (l .accepted) (l .route) (l .inv .1), s .pre .timed .measurable .stops .short); forward-places = l .inv .2 .places; backward-places = l .inv .3 .places }
+    let s = c .before .before .before .before .before .before .before .before .before .before .before .before .before .before .before .before .before .before .before .before .before .before .before .before .before .before .before in
+    let l = c .before .before .before .before .before .before .before .before .before .before .before .before .before .before .before .before .loop in
+    let e = c .before .before .before .before .before .before .before .before .scan-stretch .ensures in
+    let same = same-size (s .args .k) (s .args .locations) (s .args .legs .now) (s .args .latest .now) (s .args .depot) (s .args .orders .now) (s .args .masks .now) (s .args .rows .now) (s .args .route .now) (s .args .allowance) (s .pre) (take (s .args .k) (l .cut)) (l .examined) (l .accepted) (l .route) (l .inv .1) in
+    record {
+      table = s .pre .timed .measurable .table;
+      stops = candidate-stops (s .args .k) (s .args .locations) (s .args .legs .now) (s .args .latest .now) (s .args .depot) (s .args .orders .now) (s .args .masks .now) (s .args .rows .now) (s .args .route .now) (s .args .allowance) (s .pre) (take (s .args .k) (l .cut)) (l .examined) (l .accepted) (l .route) (l .inv .1) e (c .before .before .before .before .before .if1 .taken) _ refl;
+      room = omega (arith, e .places, same, s .pre .timed .measurable .stops .short);
+      short = omega (arith, same, s .pre .timed .measurable .stops .short);
+      forward-places = l .inv .2 .forwards .places;
+      backward-places = l .inv .2 .backwards .places;
+      late-places = l .inv .2 .latenesses .places;
+    }
 
 add-examined-2 : tie.Need-add-examined-2 Inv-loop μ-loop
 add-examined-2 c =
-    let s = c .before .before .before .before .before .before .before .before .before .before .before .before .before .before .before .before .before .before .before .before .before .before .before .before .before .before .before .before .before .before .before in
-    let l = c .before .before .before .before .before .before .before .before .before .before .before .before .before .before .before .before .before .loop in
-    let e = c .before .before .before .before .before .before .before .before .before .before .scan-stretch .ensures in
+    let s = c .before .before .before .before .before .before .before .before .before .before .before .before .before .before .before .before .before .before .before .before .before .before .before .before .before .before .before .before .before .before in
+    let l = c .before .before .before .before .before .before .before .before .before .before .before .before .before .before .before .before .before .before .before .loop in
+    let e = c .before .before .before .before .before .before .before .before .before .before .before .scan-stretch .ensures in
     let t = c .before .before .take-gain .ensures in
-    omega (arith, room-for-it (s .args .k) (s .args .locations) (s .args .legs .now) (s .args .latest .now) (s .args .depot) (s .args .orders .now) (s .args .masks .now) (s .args .rows .now) (s .args .route .now) (s .args .allowance) (s .pre) (take (s .args .k) (l .cut)) (l .examined) (l .accepted) (l .route) (l .inv .1) e (c .before .before .before .before .before .before .before .if1 .taken) _ (t .route-is), s .fits .allowance)
+    omega (arith, room-for-it (s .args .k) (s .args .locations) (s .args .legs .now) (s .args .latest .now) (s .args .depot) (s .args .orders .now) (s .args .masks .now) (s .args .rows .now) (s .args .route .now) (s .args .allowance) (s .pre) (take (s .args .k) (l .cut)) (l .examined) (l .accepted) (l .route) (l .inv .1) e (c .before .before .before .before .before .before .before .before .if1 .taken) _ (t .route-is), s .fits .allowance)
 
 add-accepted : tie.Need-add-accepted Inv-loop μ-loop
 add-accepted c =
-    let s = c .before .before .before .before .before .before .before .before .before .before .before .before .before .before .before .before .before .before .before .before .before .before .before .before .before .before .before .before .before .before .before in
-    let l = c .before .before .before .before .before .before .before .before .before .before .before .before .before .before .before .before .before .loop in
-    let e = c .before .before .before .before .before .before .before .before .before .before .scan-stretch .ensures in
+    let s = c .before .before .before .before .before .before .before .before .before .before .before .before .before .before .before .before .before .before .before .before .before .before .before .before .before .before .before .before .before .before in
+    let l = c .before .before .before .before .before .before .before .before .before .before .before .before .before .before .before .before .before .before .before .loop in
+    let e = c .before .before .before .before .before .before .before .before .before .before .before .scan-stretch .ensures in
     let t = c .before .before .take-gain .ensures in
-    omega (arith, room-for-it (s .args .k) (s .args .locations) (s .args .legs .now) (s .args .latest .now) (s .args .depot) (s .args .orders .now) (s .args .masks .now) (s .args .rows .now) (s .args .route .now) (s .args .allowance) (s .pre) (take (s .args .k) (l .cut)) (l .examined) (l .accepted) (l .route) (l .inv .1) e (c .before .before .before .before .before .before .before .if1 .taken) _ (t .route-is), l .inv .1 .counted, s .fits .allowance)
+    omega (arith, room-for-it (s .args .k) (s .args .locations) (s .args .legs .now) (s .args .latest .now) (s .args .depot) (s .args .orders .now) (s .args .masks .now) (s .args .rows .now) (s .args .route .now) (s .args .allowance) (s .pre) (take (s .args .k) (l .cut)) (l .examined) (l .accepted) (l .route) (l .inv .1) e (c .before .before .before .before .before .before .before .before .if1 .taken) _ (t .route-is), l .inv .1 .counted, s .fits .allowance)
 
 loop-less : tie.Need-loop-less Inv-loop μ-loop
 loop-less c =
-    let s = c .before .before .before .before .before .before .before .before .before .before .before .before .before .before .before .before .before .before .before .before .before .before .before .before .before .before .before .before .before .before .before in
-    let l = c .before .before .before .before .before .before .before .before .before .before .before .before .before .before .before .before .before .loop in
-    let e = c .before .before .before .before .before .before .before .before .before .before .scan-stretch .ensures in
+    let s = c .before .before .before .before .before .before .before .before .before .before .before .before .before .before .before .before .before .before .before .before .before .before .before .before .before .before .before .before .before .before in
+    let l = c .before .before .before .before .before .before .before .before .before .before .before .before .before .before .before .before .before .before .before .loop in
+    let e = c .before .before .before .before .before .before .before .before .before .before .before .scan-stretch .ensures in
     let t = c .before .before .take-gain .ensures in
-    omega (arith, room-for-it (s .args .k) (s .args .locations) (s .args .legs .now) (s .args .latest .now) (s .args .depot) (s .args .orders .now) (s .args .masks .now) (s .args .rows .now) (s .args .route .now) (s .args .allowance) (s .pre) (take (s .args .k) (l .cut)) (l .examined) (l .accepted) (l .route) (l .inv .1) e (c .before .before .before .before .before .before .before .if1 .taken) _ (t .route-is))
+    omega (arith, room-for-it (s .args .k) (s .args .locations) (s .args .legs .now) (s .args .latest .now) (s .args .depot) (s .args .orders .now) (s .args .masks .now) (s .args .rows .now) (s .args .route .now) (s .args .allowance) (s .pre) (take (s .args .k) (l .cut)) (l .examined) (l .accepted) (l .route) (l .inv .1) e (c .before .before .before .before .before .before .before .before .if1 .taken) _ (t .route-is))
 
 loop-again : tie.Need-loop-again Inv-loop μ-loop
 loop-again c =
-    let s = c .before .before .before .before .before .before .before .before .before .before .before .before .before .before .before .before .before .before .before .before .before .before .before .before .before .before .before .before .before .before .before in
-    let l = c .before .before .before .before .before .before .before .before .before .before .before .before .before .before .before .before .before .loop in
-    let e = c .before .before .before .before .before .before .before .before .before .before .scan-stretch .ensures in
+    let s = c .before .before .before .before .before .before .before .before .before .before .before .before .before .before .before .before .before .before .before .before .before .before .before .before .before .before .before .before .before .before in
+    let l = c .before .before .before .before .before .before .before .before .before .before .before .before .before .before .before .before .before .before .before .loop in
+    let e = c .before .before .before .before .before .before .before .before .before .before .before .scan-stretch .ensures in
     let t = c .before .before .take-gain .ensures in (
       refl,
-      begins-again (s .args .k) (s .args .locations) (s .args .legs .now) (s .args .latest .now) (s .args .depot) (s .args .orders .now) (s .args .masks .now) (s .args .rows .now) (s .args .route .now) (s .args .allowance) (s .pre) (take (s .args .k) (l .cut)) (l .examined) (l .accepted) (l .route) (l .inv .1) e (c .before .before .before .before .before .before .before .if1 .taken) _ (t .route-is),
-      t .forwards,
-      t .backwards,
+      begins-again (s .args .k) (s .args .locations) (s .args .legs .now) (s .args .latest .now) (s .args .depot) (s .args .orders .now) (s .args .masks .now) (s .args .rows .now) (s .args .route .now) (s .args .allowance) (s .pre) (take (s .args .k) (l .cut)) (l .examined) (l .accepted) (l .route) (l .inv .1) e (c .before .before .before .before .before .before .before .before .if1 .taken) _ (t .route-is),
+      measured-anew (s .args .k) (s .args .locations) (s .args .legs .now) (s .args .latest .now) (s .args .depot) (s .args .orders .now) (s .args .masks .now) (s .args .rows .now) (s .args .route .now) (s .args .allowance) (s .pre) (take (s .args .k) (l .cut)) (l .examined) (l .accepted) (l .route) (l .inv .1) e (c .before .before .before .before .before .before .before .before .if1 .taken) _ (t .route-is) (l .inv .2 .latenesses) (t .cleared) (c .before .before .take-gain .kept .1 .1 .1 .0) (t .forwards) (t .backwards),
       e .padded,
       e .places,
       first-opened (s .args .k) (s .pre .least) (s .pre .most),
-      λ _. then-kept (s .args .k) (s .args .locations) (s .args .legs .now) (s .args .latest .now) (s .args .depot) (s .args .orders .now) (s .args .masks .now) (s .args .rows .now) (s .args .route .now) (s .args .allowance) (s .pre) (take (s .args .k) (l .cut)) (l .examined) (l .accepted) (l .route) (l .inv .1) e (c .before .before .before .before .before .before .before .if1 .taken) _ (t .route-is),
     )
 
 same-length : tie.Need-same-length Inv-loop μ-loop
 same-length c =
-    let s = c .before .before .before .before .before .before .before .before .before .before .before .before .before .before .before .before .before .before .before .before .before .before .before .before .before .before in
-    let l = c .before .before .before .before .before .before .before .before .before .before .before .before .loop in
+    let s = c .before .before .before .before .before .before .before .before .before .before .before .before .before .before .before .before .before .before .before .before .before .before .before .before in
+    let l = c .before .before .before .before .before .before .before .before .before .before .before .before .before .loop in
     same-size (s .args .k) (s .args .locations) (s .args .legs .now) (s .args .latest .now) (s .args .depot) (s .args .orders .now) (s .args .masks .now) (s .args .rows .now) (s .args .route .now) (s .args .allowance) (s .pre) (take (s .args .k) (l .cut)) (l .examined) (l .accepted) (l .route) (l .inv .1)
 
 returns : tie.Need-returns Inv-loop μ-loop
 returns c =
-    let s = c .before .before .before .before .before .before .before .before .before .before .before .before .before .before .before .before .before .before .before .before .before .before .before .before .before .before in
-    let l = c .before .before .before .before .before .before .before .before .before .before .before .before .loop in
+    let s = c .before .before .before .before .before .before .before .before .before .before .before .before .before .before .before .before .before .before .before .before .before .before .before .before in
+    let l = c .before .before .before .before .before .before .before .before .before .before .before .before .before .loop in
     let e = c .before .before .before .before .before .scan-stretch .ensures in
     record { scan = spent-now (s .args .k) (s .args .locations) (s .args .legs .now) (s .args .latest .now) (s .args .depot) (s .args .orders .now) (s .args .masks .now) (s .args .rows .now) (s .args .route .now) (s .args .allowance) (s .pre) (take (s .args .k) (l .cut)) (l .examined) (l .accepted) (l .route) (l .inv .1) e (c .before .before .if1 .left) (not-true _ (c .if2 .taken)) }
 
 array-borrow-prefix-cut-2 : tie.Need-array-borrow-prefix-cut-2 Inv-loop μ-loop
 array-borrow-prefix-cut-2 c =
-    let s = c .before .before .before .before .before .before .before .before .before .before .before .before .before .before .before .before .before .before .before .before .before .before .before .before .before .before in
-    let l = c .before .before .before .before .before .before .before .before .before .before .before .before .loop in
-    simp (length-append, length-drop) (omega (arith, c .before .before .before .before .before .scan-stretch .kept .1 .1 .1 .1 .1 .1 .1 .1 .1 .1 .1 .0, l .inv .1 .cut-set .many, l .inv .0, s .pre .most))
+    let s = c .before .before .before .before .before .before .before .before .before .before .before .before .before .before .before .before .before .before .before .before .before .before .before .before in
+    let l = c .before .before .before .before .before .before .before .before .before .before .before .before .before .loop in
+    simp (length-append, length-drop) (omega (arith, c .before .before .before .before .before .scan-stretch .kept .1 .1 .1 .1 .1 .1 .1 .1 .1 .1 .1 .1 .0, l .inv .1 .cut-set .many, l .inv .0, s .pre .most))
 
 slice-aggregate-next-cut-set : tie.Need-slice-aggregate-next-cut-set Inv-loop μ-loop
 slice-aggregate-next-cut-set c =
-    let s = c .before .before .before .before .before .before .before .before .before .before .before .before .before .before .before .before .before .before .before .before .before .before .before .before .before .before .before in
-    let l = c .before .before .before .before .before .before .before .before .before .before .before .before .before .loop in
-    rw (take-at (c .before .before .before .before .before .before .scan-stretch .last .1 .1 .1 .1 .1 .1 .1 .1 .1 .1 .1 .0) (drop (s .args .k) (l .cut)) (s .args .k) (c .before .before .before .before .before .before .scan-stretch .kept .1 .1 .1 .1 .1 .1 .1 .1 .1 .1 .1 .0 ∙ l .inv .1 .cut-set .many)) (sym (c .before .before .before .before .before .before .scan-stretch .kept .1 .1 .1 .1 .1 .1 .1 .1 .1 .1 .1 .0 ∙ l .inv .1 .cut-set .many))
+    let s = c .before .before .before .before .before .before .before .before .before .before .before .before .before .before .before .before .before .before .before .before .before .before .before .before .before in
+    let l = c .before .before .before .before .before .before .before .before .before .before .before .before .before .before .loop in
+    rw (take-at (c .before .before .before .before .before .before .scan-stretch .last .1 .1 .1 .1 .1 .1 .1 .1 .1 .1 .1 .1 .0) (drop (s .args .k) (l .cut)) (s .args .k) (c .before .before .before .before .before .before .scan-stretch .kept .1 .1 .1 .1 .1 .1 .1 .1 .1 .1 .1 .1 .0 ∙ l .inv .1 .cut-set .many)) (sym (c .before .before .before .before .before .before .scan-stretch .kept .1 .1 .1 .1 .1 .1 .1 .1 .1 .1 .1 .1 .0 ∙ l .inv .1 .cut-set .many))
 
 next-cut-set-requires : tie.Need-next-cut-set-requires Inv-loop μ-loop
 next-cut-set-requires c κs =
-    let s = c .before .before .before .before .before .before .before .before .before .before .before .before .before .before .before .before .before .before .before .before .before .before .before .before .before .before .before in
-    let l = c .before .before .before .before .before .before .before .before .before .before .before .before .before .loop in
+    let s = c .before .before .before .before .before .before .before .before .before .before .before .before .before .before .before .before .before .before .before .before .before .before .before .before .before in
+    let l = c .before .before .before .before .before .before .before .before .before .before .before .before .before .before .loop in
     let e = c .before .before .before .before .before .before .scan-stretch .ensures in
-    rw (take-at (c .before .before .before .before .before .before .scan-stretch .last .1 .1 .1 .1 .1 .1 .1 .1 .1 .1 .1 .0) (drop (s .args .k) (l .cut)) (s .args .k) (c .before .before .before .before .before .before .scan-stretch .kept .1 .1 .1 .1 .1 .1 .1 .1 .1 .1 .1 .0 ∙ l .inv .1 .cut-set .many)) (cuts-then (s .args .k) (s .args .locations) (s .args .legs .now) (s .args .latest .now) (s .args .depot) (s .args .orders .now) (s .args .masks .now) (s .args .rows .now) (s .args .route .now) (s .args .allowance) (s .pre) (take (s .args .k) (l .cut)) (l .examined) (l .accepted) (l .route) (l .inv .1) e (not-false _ (c .before .if2 .left)))
+    rw (take-at (c .before .before .before .before .before .before .scan-stretch .last .1 .1 .1 .1 .1 .1 .1 .1 .1 .1 .1 .1 .0) (drop (s .args .k) (l .cut)) (s .args .k) (c .before .before .before .before .before .before .scan-stretch .kept .1 .1 .1 .1 .1 .1 .1 .1 .1 .1 .1 .1 .0 ∙ l .inv .1 .cut-set .many)) (cuts-then (s .args .k) (s .args .locations) (s .args .legs .now) (s .args .latest .now) (s .args .depot) (s .args .orders .now) (s .args .masks .now) (s .args .rows .now) (s .args .route .now) (s .args .allowance) (s .pre) (take (s .args .k) (l .cut)) (l .examined) (l .accepted) (l .route) (l .inv .1) e (not-false _ (c .before .if2 .left)))
 
 same-length-2 : tie.Need-same-length-2 Inv-loop μ-loop
 same-length-2 c =
-    let s = c .before .before .before .before .before .before .before .before .before .before .before .before .before .before .before .before .before .before .before .before .before .before .before .before .before .before .before .before .before .before in
-    let l = c .before .before .before .before .before .before .before .before .before .before .before .before .before .before .before .before .loop in
+    let s = c .before .before .before .before .before .before .before .before .before .before .before .before .before .before .before .before .before .before .before .before .before .before .before .before .before .before .before .before in
+    let l = c .before .before .before .before .before .before .before .before .before .before .before .before .before .before .before .before .before .loop in
     same-size (s .args .k) (s .args .locations) (s .args .legs .now) (s .args .latest .now) (s .args .depot) (s .args .orders .now) (s .args .masks .now) (s .args .rows .now) (s .args .route .now) (s .args .allowance) (s .pre) (take (s .args .k) (l .cut)) (l .examined) (l .accepted) (l .route) (l .inv .1)
 
 returns-2 : tie.Need-returns-2 Inv-loop μ-loop
 returns-2 c =
-    let s = c .before .before .before .before .before .before .before .before .before .before .before .before .before .before .before .before .before .before .before .before .before .before .before .before .before .before .before .before .before .before in
-    let l = c .before .before .before .before .before .before .before .before .before .before .before .before .before .before .before .before .loop in
+    let s = c .before .before .before .before .before .before .before .before .before .before .before .before .before .before .before .before .before .before .before .before .before .before .before .before .before .before .before .before in
+    let l = c .before .before .before .before .before .before .before .before .before .before .before .before .before .before .before .before .before .loop in
     let e = c .before .before .before .before .before .before .before .before .before .scan-stretch .ensures in
     let n = c .before .before .next-cut-set in
-    record { scan = ends-now (s .args .k) (s .args .locations) (s .args .legs .now) (s .args .latest .now) (s .args .depot) (s .args .orders .now) (s .args .masks .now) (s .args .rows .now) (s .args .route .now) (s .args .allowance) (s .pre) (take (s .args .k) (l .cut)) (l .examined) (l .accepted) (l .route) (l .inv .1) e (not-false _ (c .before .before .before .before .if2 .left)) _ (rw (not-true (n .result) (c .if3 .taken), take-at (c .before .before .before .before .before .before .before .before .before .scan-stretch .last .1 .1 .1 .1 .1 .1 .1 .1 .1 .1 .1 .0) (drop (s .args .k) (l .cut)) (s .args .k) (c .before .before .before .before .before .before .before .before .before .scan-stretch .kept .1 .1 .1 .1 .1 .1 .1 .1 .1 .1 .1 .0 ∙ l .inv .1 .cut-set .many)) at (n .ensures)) }
+    record { scan = ends-now (s .args .k) (s .args .locations) (s .args .legs .now) (s .args .latest .now) (s .args .depot) (s .args .orders .now) (s .args .masks .now) (s .args .rows .now) (s .args .route .now) (s .args .allowance) (s .pre) (take (s .args .k) (l .cut)) (l .examined) (l .accepted) (l .route) (l .inv .1) e (not-false _ (c .before .before .before .before .if2 .left)) _ (rw (not-true (n .result) (c .if3 .taken), take-at (c .before .before .before .before .before .before .before .before .before .scan-stretch .last .1 .1 .1 .1 .1 .1 .1 .1 .1 .1 .1 .1 .0) (drop (s .args .k) (l .cut)) (s .args .k) (c .before .before .before .before .before .before .before .before .before .scan-stretch .kept .1 .1 .1 .1 .1 .1 .1 .1 .1 .1 .1 .1 .0 ∙ l .inv .1 .cut-set .many)) at (n .ensures)) }
 
 loop-less-2 : tie.Need-loop-less-2 Inv-loop μ-loop
 loop-less-2 c =
-    let s = c .before .before .before .before .before .before .before .before .before .before .before .before .before .before .before .before .before .before .before .before .before .before .before .before .before .before .before .before .before .before in
-    let l = c .before .before .before .before .before .before .before .before .before .before .before .before .before .before .before .before .loop in
+    let s = c .before .before .before .before .before .before .before .before .before .before .before .before .before .before .before .before .before .before .before .before .before .before .before .before .before .before .before .before in
+    let l = c .before .before .before .before .before .before .before .before .before .before .before .before .before .before .before .before .before .loop in
     let e = c .before .before .before .before .before .before .before .before .before .scan-stretch .ensures in
     let n = c .before .before .next-cut-set in
     omega (arith, in-allowance (s .args .k) (s .args .locations) (s .args .legs .now) (s .args .latest .now) (s .args .depot) (s .args .orders .now) (s .args .masks .now) (s .args .rows .now) (s .args .route .now) (s .args .allowance) (s .pre) (take (s .args .k) (l .cut)) (l .examined) (l .accepted) (l .route) (l .inv .1) e, some-examined (s .args .k) (s .args .locations) (s .args .legs .now) (s .args .latest .now) (s .args .depot) (s .args .orders .now) (s .args .masks .now) (s .args .rows .now) (s .args .route .now) (s .args .allowance) (s .pre) (take (s .args .k) (l .cut)) (l .examined) (l .accepted) (l .route) (l .inv .1) e (not-false _ (c .before .before .before .before .if2 .left)))
 
 loop-again-2 : tie.Need-loop-again-2 Inv-loop μ-loop
 loop-again-2 c =
-    let s = c .before .before .before .before .before .before .before .before .before .before .before .before .before .before .before .before .before .before .before .before .before .before .before .before .before .before .before .before .before .before in
-    let l = c .before .before .before .before .before .before .before .before .before .before .before .before .before .before .before .before .loop in
+    let s = c .before .before .before .before .before .before .before .before .before .before .before .before .before .before .before .before .before .before .before .before .before .before .before .before .before .before .before .before in
+    let l = c .before .before .before .before .before .before .before .before .before .before .before .before .before .before .before .before .before .loop in
     let e = c .before .before .before .before .before .before .before .before .before .scan-stretch .ensures in
     let n = c .before .before .next-cut-set in
-    let size = c .before .before .before .before .before .before .before .before .before .scan-stretch .kept .1 .1 .1 .1 .1 .1 .1 .1 .1 .1 .1 .0 ∙ l .inv .1 .cut-set .many in
-    let long : length (n .last .0) ≡ s .args .k = n .kept .0 ∙ ap length (take-at (c .before .before .before .before .before .before .before .before .before .scan-stretch .last .1 .1 .1 .1 .1 .1 .1 .1 .1 .1 .1 .0) (drop (s .args .k) (l .cut)) (s .args .k) size) ∙ size in
-    let cuts-are = take-at (n .last .0) (drop (s .args .k) (c .before .before .before .before .before .before .before .before .before .scan-stretch .last .1 .1 .1 .1 .1 .1 .1 .1 .1 .1 .1 .0 ++ drop (s .args .k) (l .cut))) (s .args .k) long in
-    let m = moves-on (s .args .k) (s .args .locations) (s .args .legs .now) (s .args .latest .now) (s .args .depot) (s .args .orders .now) (s .args .masks .now) (s .args .rows .now) (s .args .route .now) (s .args .allowance) (s .pre) (take (s .args .k) (l .cut)) (l .examined) (l .accepted) (l .route) (l .inv .1) e (not-false _ (c .before .before .before .before .if2 .left)) _ (rw (not-false (n .result) (c .if3 .left), take-at (c .before .before .before .before .before .before .before .before .before .scan-stretch .last .1 .1 .1 .1 .1 .1 .1 .1 .1 .1 .1 .0) (drop (s .args .k) (l .cut)) (s .args .k) (c .before .before .before .before .before .before .before .before .before .scan-stretch .kept .1 .1 .1 .1 .1 .1 .1 .1 .1 .1 .1 .0 ∙ l .inv .1 .cut-set .many)) at (n .ensures)) in (
+    let size = c .before .before .before .before .before .before .before .before .before .scan-stretch .kept .1 .1 .1 .1 .1 .1 .1 .1 .1 .1 .1 .1 .0 ∙ l .inv .1 .cut-set .many in
+    let long : length (n .last .0) ≡ s .args .k = n .kept .0 ∙ ap length (take-at (c .before .before .before .before .before .before .before .before .before .scan-stretch .last .1 .1 .1 .1 .1 .1 .1 .1 .1 .1 .1 .1 .0) (drop (s .args .k) (l .cut)) (s .args .k) size) ∙ size in
+    let cuts-are = take-at (n .last .0) (drop (s .args .k) (c .before .before .before .before .before .before .before .before .before .scan-stretch .last .1 .1 .1 .1 .1 .1 .1 .1 .1 .1 .1 .1 .0 ++ drop (s .args .k) (l .cut))) (s .args .k) long in
+    let m = moves-on (s .args .k) (s .args .locations) (s .args .legs .now) (s .args .latest .now) (s .args .depot) (s .args .orders .now) (s .args .masks .now) (s .args .rows .now) (s .args .route .now) (s .args .allowance) (s .pre) (take (s .args .k) (l .cut)) (l .examined) (l .accepted) (l .route) (l .inv .1) e (not-false _ (c .before .before .before .before .if2 .left)) _ (rw (not-false (n .result) (c .if3 .left), take-at (c .before .before .before .before .before .before .before .before .before .scan-stretch .last .1 .1 .1 .1 .1 .1 .1 .1 .1 .1 .1 .1 .0) (drop (s .args .k) (l .cut)) (s .args .k) (c .before .before .before .before .before .before .before .before .before .scan-stretch .kept .1 .1 .1 .1 .1 .1 .1 .1 .1 .1 .1 .1 .0 ∙ l .inv .1 .cut-set .many)) at (n .ensures)) in (
       simp (length-append, length-drop) (omega (arith, long, size, l .inv .0, s .pre .most)),
       rw cuts-are (m .0),
       l .inv .2,
-      l .inv .3,
       e .padded,
       e .places,
       rw cuts-are (m .1),
-      l .inv .7,
     )
 
 pub scan-cut-sets-spec : {M : Type 1} → statement M
@@ -211,9 +203,7 @@ scan-cut-sets-spec =
     (tie.spec
     Inv-loop
     μ-loop
-    forward-sums-requires
-    backward-sums-requires
-    is-feasible-requires
+    measure-requires
     loop-holds
     array-borrow-prefix-cut
     slice-aggregate-scan-stretch

@@ -5,35 +5,31 @@ use Rattle.scanning.proofs.take_gain.Statement.{statement}
 use Rattle.scanning.proofs.take_gain.Tie as tie
 
 slice-aggregate-copy-in : tie.Need-slice-aggregate-copy-in
-slice-aggregate-copy-in c =
-    let s = c .before .before .before .before in
-    room (s .args .locations) (s .args .legs .now) (s .args .spare .now) (s .args .route .now) (s .args .forward .now) (s .args .backward .now) (s .pre)
+slice-aggregate-copy-in c = room (c .before .before .before .before .pre)
 
 copy-in-requires : tie.Need-copy-in-requires
-copy-in-requires c κs =
-    let s = c .before .before .before .before .before in
-    fits (s .args .locations) (s .args .legs .now) (s .args .spare .now) (s .args .route .now) (s .args .forward .now) (s .args .backward .now) (s .pre)
+copy-in-requires c κs = fits (c .before .before .before .before .before .pre)
 
 forward-sums-requires : tie.Need-forward-sums-requires
-forward-sums-requires c κs =
-    let s = c .before .before .before .before .before .before .before .before .before .before in
-    summable (s .args .locations) (s .args .legs .now) (s .args .spare .now) (s .args .route .now) (s .args .forward .now) (s .args .backward .now) (s .pre) _ (c .before .before .before .before .copy-in .ensures) _ (s .pre .forward-places)
+forward-sums-requires c κs = let s = c .before .before .before .before .before .before .before .before .before .before in summable (s .pre) (is-candidate (s .pre) (c .before .before .before .before .copy-in .ensures)) _ (s .pre .forward-places)
 
 backward-sums-requires : tie.Need-backward-sums-requires
-backward-sums-requires c κs =
-    let s = c .before .before .before .before .before .before .before .before .before .before .before .before .before in
-    summable (s .args .locations) (s .args .legs .now) (s .args .spare .now) (s .args .route .now) (s .args .forward .now) (s .args .backward .now) (s .pre) _ (c .before .before .before .before .before .before .before .copy-in .ensures) _ (s .pre .backward-places)
+backward-sums-requires c κs = let s = c .before .before .before .before .before .before .before .before .before .before .before .before .before in summable (s .pre) (is-candidate (s .pre) (c .before .before .before .before .before .before .before .copy-in .ensures)) _ (s .pre .backward-places)
+
+clear-lateness-requires : tie.Need-clear-lateness-requires
+clear-lateness-requires c κs = let s = c .before .before .before .before .before .before .before .before .before .before .before .before .before .before .before in record { short = s .pre .short; places = s .pre .late-places }
 
 same-length : tie.Need-same-length
 same-length c = search needs
 
 returns : tie.Need-returns
 returns c =
-    let s = c .before .before .before .before .before .before .before .before .before .before .before .before .before .before in
+    let s = c .before .before .before .before .before .before .before .before .before .before .before .before .before .before .before .before in
     record {
-      route-is = is-candidate (s .args .locations) (s .args .legs .now) (s .args .spare .now) (s .args .route .now) (s .args .forward .now) (s .args .backward .now) (s .pre) _ (c .before .before .before .before .before .before .before .before .copy-in .ensures);
-      forwards = c .before .before .before .forward-sums .ensures .sums;
-      backwards = c .backward-sums .ensures .sums;
+      route-is = is-candidate (s .pre) (c .before .before .before .before .before .before .before .before .before .before .copy-in .ensures);
+      forwards = c .before .before .before .before .before .forward-sums .ensures .sums;
+      backwards = c .before .before .backward-sums .ensures .sums;
+      cleared = c .clear-lateness .ensures;
     }
 
 pub take-gain-spec : {M : Type 1} → statement M
@@ -44,5 +40,6 @@ take-gain-spec =
     copy-in-requires
     forward-sums-requires
     backward-sums-requires
+    clear-lateness-requires
     same-length
     returns)

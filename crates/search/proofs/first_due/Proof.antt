@@ -1,14 +1,24 @@
 -- `search::first_due` meets its contract. The invariant: no row passed is shorter and in time, and the one at i is shorter. Assumes nothing.
 use mathlib.Core.Path.{_≡_}
-use mathlib.Core.Bool.{false}
+use mathlib.Core.Bool.{Bool, true, false}
 use Prim.Native.Nat.{ℕ, _+_, _-_, _≤_, _<_}
 use Rattle.joints.specs.States.{row}
 use Rattle.joints.specs.JointTable.{chain}
+use Rattle.dues.specs.Due.{is-in-time}
+use Rattle.dues.specs.declared.Timing.{Timing}
+use Rattle.dues.specs.declared.Timing.the-variants as Judged
 use Rattle.search.specs.Gain.{due-gain}
 use Rattle.search.proofs.FirstDue.{chains-from, row-timed, due-passed, due-first, due-late, due-found, due-not-found}
 use native.Mathlib.Omega.{arith}
+use borrow.Author.Needs.{needs}
 use Rattle.search.proofs.first_due.Statement.{statement}
 use Rattle.search.proofs.first_due.Tie as tie
+
+told : {t : Timing} {b : Bool} → t ≡ Judged.InTime → is-in-time t ≡ b → true ≡ b
+told e h = rw e at h
+
+told-late : {t : Timing} {b : Bool} → t ≡ Judged.Late → is-in-time t ≡ b → false ≡ b
+told-late e h = rw e at h
 
 abbrev Inv-loop : tie.InvT-loop
 Inv-loop joint rows dues m clock below shorter limit i₀ i =
@@ -20,30 +30,36 @@ abbrev μ-loop : tie.MeasureT-loop
 loop-holds : tie.Need-loop-holds Inv-loop μ-loop
 loop-holds c = (c .pre .first .most, due-first (c .pre), c .pre .first .shorter)
 
-row-in-time-requires : tie.Need-row-in-time-requires Inv-loop μ-loop
-row-in-time-requires c κs = row-timed (c .before .before .pre) (c .before .loop .i) (c .loop-test .taken)
+judge-row-requires : tie.Need-judge-row-requires Inv-loop μ-loop
+judge-row-requires c κs = row-timed (c .before .before .pre) (c .before .loop .i) (c .loop-test .taken)
+
+enum-told : tie.Need-enum-told Inv-loop μ-loop
+enum-told c = search needs
 
 returns : tie.Need-returns Inv-loop μ-loop
 returns c =
-    let l = c .before .before .before .loop in
-    let h = c .before .before .loop-test .taken in
-    due-found (c .before .before .before .before .pre) (l .i) h (l .inv .2 h) (l .inv .1) (rw (c .if1 .taken) at (c .before .row-in-time .ensures))
+    let l = c .before .before .before .before .loop in
+    let h = c .before .before .before .loop-test .taken in
+    due-found (c .before .before .before .before .before .pre) (l .i) h (l .inv .2 h) (l .inv .1) (told (c .enum-told .given .1) (c .before .before .judge-row .ensures))
+
+enum-told-2 : tie.Need-enum-told-2 Inv-loop μ-loop
+enum-told-2 c = search needs
 
 add-next-shorter : tie.Need-add-next-shorter Inv-loop μ-loop
-add-next-shorter c = omega (arith, c .before .before .loop-test .taken, c .before .before .before .before .pre .chains .few)
+add-next-shorter c = omega (arith, c .before .before .before .loop-test .taken, c .before .before .before .before .before .pre .chains .few)
 
 next-shorter-requires : tie.Need-next-shorter-requires Inv-loop μ-loop
-next-shorter-requires c κs = chains-from (c .before .before .before .before .pre) (c .before .before .before .loop .i + 1) (omega (arith, c .before .before .loop-test .taken))
+next-shorter-requires c κs = chains-from (c .before .before .before .before .before .pre) (c .before .before .before .before .loop .i + 1) (omega (arith, c .before .before .before .loop-test .taken))
 
 loop-less : tie.Need-loop-less Inv-loop μ-loop
-loop-less c = let n = c .next-shorter .ensures in omega (arith, n .least, n .most, c .before .before .before .loop-test .taken)
+loop-less c = let n = c .next-shorter .ensures in omega (arith, n .least, n .most, c .before .before .before .before .loop-test .taken)
 
 loop-again : tie.Need-loop-again Inv-loop μ-loop
 loop-again c =
-    let s = c .before .before .before .before .before in
-    let l = c .before .before .before .before .loop in
+    let s = c .before .before .before .before .before .before in
+    let l = c .before .before .before .before .before .loop in
     let n = c .next-shorter .ensures in
-    let late = rw (c .before .if1 .left) at (c .before .before .row-in-time .ensures) in
+    let late = told-late (c .before .enum-told2 .given .1) (c .before .before .before .judge-row .ensures) in
     (n .most, due-passed (s .pre) (l .i + 1) (due-late (s .pre) (l .i) late (l .inv .1)) n, n .shorter)
 
 returns-2 : tie.Need-returns-2 Inv-loop μ-loop
@@ -58,8 +74,10 @@ first-due-spec =
     Inv-loop
     μ-loop
     loop-holds
-    row-in-time-requires
+    judge-row-requires
+    enum-told
     returns
+    enum-told-2
     add-next-shorter
     next-shorter-requires
     loop-less

@@ -9,11 +9,20 @@ pub const CANDIDATES: u64 = 2_000_000;
 pub const SIZES: [usize; 4] = [20, 64, 128, 512];
 pub const KINDS: [&str; 3] = ["quiet", "busy", "deadlines"];
 
+/// As *deadlines*, but one stop is late when the route is handed in: by a second, or in every order.
+pub const LATE_KINDS: [&str; 4] = ["late", "never first", "never middle", "never last"];
+pub const LATE_SIZES: [usize; 3] = [64, 128, 512];
+
 /// Every case with its k, its stops and its kind of table.
 pub fn each(visit: &mut dyn FnMut(usize, usize, &'static str)) {
     for k in 2..=5 {
         for stops in SIZES {
             for kind in KINDS {
+                visit(k, stops, kind);
+            }
+        }
+        for stops in LATE_SIZES {
+            for kind in LATE_KINDS {
                 visit(k, stops, kind);
             }
         }
@@ -37,10 +46,28 @@ pub fn case(kind: &str, k: usize, stops: usize) -> Case {
         route: (1..locations as u32).collect(),
         room: 5,
     };
-    if kind == "deadlines" {
+    if kind != "quiet" && kind != "busy" {
         set_deadlines(&mut random, &mut case);
     }
+    match kind {
+        "late" => late(&mut case, stops / 2),
+        "never first" => never(&mut case, 0),
+        "never middle" => never(&mut case, stops / 2),
+        "never last" => never(&mut case, stops - 1),
+        _ => {}
+    }
     case
+}
+
+/// The stop at a position is late by a second as the route stands.
+pub fn late(case: &mut Case, position: usize) {
+    let seconds = case.arrivals()[position];
+    case.tables.latest[case.route[position] as usize] = capped(seconds.saturating_sub(1));
+}
+
+/// The stop at a position is late in every order, unless a leg takes no time.
+pub fn never(case: &mut Case, position: usize) {
+    case.tables.latest[case.route[position] as usize] = 0;
 }
 
 fn busy(random: &mut Random, locations: usize) -> Vec<u32> {

@@ -5,6 +5,7 @@ pub mod case;
 pub mod damage;
 mod deep;
 pub mod generate;
+mod late;
 pub mod measured;
 pub mod planted;
 mod short;
@@ -15,9 +16,10 @@ use crate::trial::{Family, Source};
 
 const CALL: &str = "polish_route";
 
-pub const FAMILIES: [Family; 8] = [
+pub const FAMILIES: [Family; 9] = [
     Family::new(CALL, "polish/short", Source::Each(short::each)),
     Family::new(CALL, "polish/stretches", Source::Each(stretches::each)),
+    Family::new(CALL, "polish/late", Source::Each(late::each)),
     Family::new(CALL, "polish/bounds", Source::Each(bounds::each)).on_small_stack(),
     Family::new(CALL, "polish/random", Source::Drawn(500, 0, generate::draw)),
     Family::new(

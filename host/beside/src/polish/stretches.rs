@@ -9,7 +9,7 @@ use crate::tables::Tables;
 use crate::trial::Visit;
 
 /// k, its patterns, and stops so few that a scan is short.
-const KINDS: [(usize, u64, usize); 4] = [(2, 1, 22), (3, 7, 12), (4, 47, 9), (5, 383, 8)];
+pub const KINDS: [(usize, u64, usize); 4] = [(2, 1, 22), (3, 7, 12), (4, 47, 9), (5, 383, 8)];
 
 /// Tables for each kind.
 const TABLES: usize = 6;
@@ -25,7 +25,7 @@ pub fn each(random: &mut Random, visit: Visit) {
     }
 }
 
-fn route_of(random: &mut Random, k: usize, stops: usize) -> Case {
+pub fn route_of(random: &mut Random, k: usize, stops: usize) -> Case {
     let locations = stops + 1;
     let mut tables = Tables::of_legs(locations, leg_table(random, locations));
     let route = order(random, locations, 0, stops);
@@ -41,7 +41,7 @@ fn route_of(random: &mut Random, k: usize, stops: usize) -> Case {
 }
 
 /// One candidate before the end of each cut set of the first pass, at its end, and one after it; and around the end of the scan.
-fn around_each_cut_set(case: &Case, patterns: u64, visit: Visit) {
+pub fn around_each_cut_set(case: &Case, patterns: u64, visit: Visit) {
     let examined = polish(case, u64::MAX, &mut case.route.clone()).examined;
     let ends = (0..=examined / patterns).map(|sets| sets * patterns);
     for end in ends.chain([examined]) {

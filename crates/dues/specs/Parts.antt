@@ -1,0 +1,30 @@
+-- A candidate part by part: the head, the middle segments as the pattern places them, the tail.
+use mathlib.Core.Path.{_≡_}
+use mathlib.Core.List.{List, [], flatten}
+use Prim.Native.Nat.{ℕ, _*_, _≤_, _<_}
+use lib.ListN.{length, getD}
+use lib.Seq.{slice}
+use Rattle.theory.specs.Route.{path, segments, placed}
+use Rattle.theory.specs.Costs.{forward}
+use Rattle.theory.specs.Tables.{Measurable, CutSet}
+use Rattle.costs.specs.RouteCosts.{Sums, leg}
+
+abbrev pub head : List ℕ → List ℕ → List ℕ
+head route cuts = getD (segments 0 cuts route) 0 []
+
+abbrev pub middle : List ℕ → List ℕ → List ℕ → ℕ → List ℕ
+middle route cuts order mask = flatten (placed mask (segments 0 cuts route) (slice 1 (length cuts) order))
+
+abbrev pub tail : List ℕ → List ℕ → List ℕ
+tail route cuts = getD (segments 0 cuts route) (length cuts) []
+
+-- A route with its forward sums, and a cut set of it.
+pub record HeadTimed (locations : ℕ) (legs : List ℕ) (depot : ℕ) (route forward-sums cuts : List ℕ) : Type 0 where
+  pub measurable : Measurable locations legs depot route
+  pub forwards : Sums route (forward (leg locations legs) route) forward-sums
+  pub cut-set : CutSet (length cuts) (length route) cuts
+
+-- When the head is left.
+pub record HeadClock (locations : ℕ) (legs : List ℕ) (depot : ℕ) (route cuts : List ℕ) (clock : ℕ) : Type 0 where
+  pub is : clock ≡ path (leg locations legs) depot (head route cuts)
+  pub early : clock ≤ 513 * 1000000

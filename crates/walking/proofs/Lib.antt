@@ -1,4 +1,0 @@
-pub mod Parts
-pub mod Candidate
-pub mod MiddleOnly
-pub mod Head
