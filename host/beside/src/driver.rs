@@ -1,7 +1,7 @@
 //! An archive that is timed in a process of its own: driver/driver.c, compiled with the archive's header and linked with it.
 
+use crate::cases::{nearby, polish, run};
 use crate::tables::listed;
-use crate::{nearby, polish, run};
 use std::io::{BufRead, BufReader, Write};
 use std::process::{Child, ChildStdin, ChildStdout, Command, Stdio};
 
@@ -77,12 +77,12 @@ fn tables(k: usize, allowance: u64, tables: &crate::tables::Tables) -> String {
     format!("{k} {allowance} {}\n{legs}{latest}", tables.locations)
 }
 
-pub fn polish(case: &polish::case::Case) -> String {
+pub fn polish(case: &polish::Case) -> String {
     let tables = tables(case.k, case.allowance, &case.tables);
     format!("polish {tables}{}\n{}", case.depot, counted(&case.route))
 }
 
-pub fn run(case: &run::case::Case) -> String {
+pub fn run(case: &run::Case) -> String {
     let tables = tables(case.k, case.allowance, &case.tables);
     let lists = [
         counted(&case.stops),
@@ -93,7 +93,7 @@ pub fn run(case: &run::case::Case) -> String {
     format!("run {tables}{}", lists.concat())
 }
 
-pub fn nearby(case: &nearby::case::Case) -> String {
+pub fn nearby(case: &nearby::Case) -> String {
     let bits: Vec<u64> = case
         .distances
         .iter()

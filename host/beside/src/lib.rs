@@ -19,6 +19,7 @@ mod phase {
 
 mod heuristic;
 
+pub mod cases;
 pub mod checks;
 mod damage;
 pub mod draw;

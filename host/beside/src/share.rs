@@ -1,6 +1,6 @@
 //! The share of cut sets that the scan passes over, counted in the library's own source: without its contracts it is Rust.
 
-use crate::polish::case::Case;
+use crate::cases::polish::Case;
 use std::cell::Cell;
 
 #[allow(dead_code, unused_imports, unused_variables, clippy::all)]

@@ -6,16 +6,16 @@
 
 #![forbid(unsafe_code)]
 
+use beside::cases::polish::Case;
 use beside::draw::plane;
 use beside::driver::{self, Driver};
 use beside::means::Means;
-use beside::polish::case::Case;
 use beside::polish::measured::{self, CANDIDATES};
 use beside::random::Random;
 use beside::share::{share, Counted};
 use beside::tables::Tables;
 use beside::trial::{judge, Reply, Trial};
-use beside::{nearby, oracle, run};
+use beside::{cases, nearby, oracle};
 use std::env;
 use std::process::ExitCode;
 use std::time::{Duration, Instant};
@@ -293,15 +293,15 @@ fn passed_over(case: &Case, by_library: &Counted) -> Result<f64, String> {
 }
 
 /// Stops in a plane; each round has its own.
-fn run_case(k: usize, stops: usize) -> run::case::Case {
+fn run_case(k: usize, stops: usize) -> cases::run::Case {
     let mut random = Random::new(1958);
     let locations = RUN_ROUNDS * stops + 1;
     let tables = Tables::of_legs(locations, plane(&mut random, locations));
     let all: Vec<u32> = (1..locations as u32).collect();
     let rounds: Vec<(u32, Vec<u32>)> = all.chunks(stops).map(|round| (0, round.to_vec())).collect();
-    run::case::Case {
+    cases::run::Case {
         allowance: 50 * CANDIDATES,
-        ..run::case::Case::of_rounds(k, tables, &rounds)
+        ..cases::run::Case::of_rounds(k, tables, &rounds)
     }
 }
 
@@ -325,13 +325,13 @@ fn polish_by_rust(case: &Case) -> Timed {
     (start.elapsed(), counts.examined)
 }
 
-fn run_by_rust(case: &run::case::Case) -> Timed {
+fn run_by_rust(case: &cases::run::Case) -> Timed {
     let start = Instant::now();
     let examined = oracle::run::run_quietly(case, case.allowance);
     (start.elapsed(), examined)
 }
 
-fn list_by_rust(case: &nearby::case::Case) -> Timed {
+fn list_by_rust(case: &cases::nearby::Case) -> Timed {
     let start = Instant::now();
     let (sets, _more) = oracle::nearby::listed(case, case.sets_room / case.k);
     (start.elapsed(), (sets.len() / case.k) as u64)

@@ -4,13 +4,14 @@
 
 #![forbid(unsafe_code)]
 
+use beside::cases::{nearby, polish, run};
+use beside::checks;
 use beside::moves::apply::Apply;
 use beside::moves::case::Cutting;
 use beside::moves::doable::Doable;
 use beside::moves::undo::Undo;
 use beside::tables::Tables;
 use beside::trial::{Reply, Trial};
-use beside::{checks, nearby, polish, run};
 use std::process::ExitCode;
 
 const SEEDS: u16 = 16;
@@ -49,7 +50,7 @@ fn searches() {
 
 /// One question for each number, in the order of the program.
 fn refused_searches() {
-    let asked = || polish::case::Case {
+    let asked = || polish::Case {
         k: 3,
         ..polishing(1, 5)
     };
@@ -129,10 +130,10 @@ fn seen(reply: &Reply, lent: usize, written: usize, places: usize, before: u64) 
     numbers
 }
 
-fn polishing(seed: u16, stops: usize) -> polish::case::Case {
+fn polishing(seed: u16, stops: usize) -> polish::Case {
     let mut tables = tables(seed);
     tables.legs[0] = 0;
-    polish::case::Case {
+    polish::Case {
         k: cuts_of(seed),
         allowance: allowance_of(seed),
         tables,
@@ -142,14 +143,14 @@ fn polishing(seed: u16, stops: usize) -> polish::case::Case {
     }
 }
 
-fn say_polished(case: &polish::case::Case) {
+fn say_polished(case: &polish::Case) {
     let reply = case.expected();
     let result = seen(&reply, 1, 5, case.room, RESULT);
     say("polish", &reply, &result, "route", &reply.lent[0].1);
 }
 
 fn ran(seed: u16, last: usize) {
-    let case = run::case::Case {
+    let case = run::Case {
         k: cuts_of(seed),
         allowance: allowance_of(seed),
         tables: tables(seed),
@@ -166,7 +167,7 @@ fn ran(seed: u16, last: usize) {
 
 fn listed(seed: u16) {
     let distances = filled(seed, 7, POSITIONS * POSITIONS);
-    let case = nearby::case::Case {
+    let case = nearby::Case {
         n: POSITIONS,
         distances: distances.into_iter().map(f64::from).collect(),
         k: cuts_of(seed),

@@ -1,7 +1,7 @@
 //! Listings at the bounds of document 01.
 
-use super::case::Case;
 use super::generate::table;
+use crate::cases::nearby::Case;
 use crate::random::Random;
 use crate::rules::{LONGEST_PIECE, MOST_NEIGHBOURS, MOST_STOPS};
 use crate::trial::Visit;

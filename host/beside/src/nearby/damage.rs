@@ -1,7 +1,7 @@
 //! Listings that document 01 refuses: a good one, damaged in one or more ways.
 
-use super::case::{Case, RESULT_PLACES};
 use super::generate::random_case;
+use crate::cases::nearby::{Case, RESULT_PLACES};
 use crate::damage;
 use crate::draw::some_place;
 use crate::random::Random;

@@ -1,6 +1,6 @@
 //! Random listings that document 01 does not refuse.
 
-use super::case::Case;
+use crate::cases::nearby::Case;
 use crate::random::Random;
 use crate::trial::Drawn;
 

@@ -1,9 +1,9 @@
 //! Nearby cuts: `mittenschist_nearby_cuts` beside `NearbyCutState` of nearby_state.rs in canonical order.
 
 mod bounds;
-pub mod case;
 mod damage;
 mod generate;
+mod replies;
 mod short;
 
 pub use bounds::widest;

@@ -1,7 +1,7 @@
 //! Every listing of one small kind, and lists of sets of every size.
 
-use super::case::Case;
 use super::generate::{random_case, table};
+use crate::cases::nearby::Case;
 use crate::draw::lists;
 use crate::oracle::nearby::listed;
 use crate::random::Random;

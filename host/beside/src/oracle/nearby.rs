@@ -1,8 +1,8 @@
 //! The unchanged `NearbyCutState`, in canonical order.
 
+use crate::cases::nearby::Case;
 use crate::heuristic::selector::move_selector::MoveStreamContext;
 use crate::heuristic::selector::nearby::nearby_state::{KOptDistanceProbe, NearbyCutState};
-use crate::nearby::case::Case;
 
 struct Distances;
 

@@ -2,7 +2,7 @@
 
 use super::fleet::{stops, Access, Fleet, Quiet, Yard};
 use super::list_k_opt::polish_route;
-use crate::polish::case::Case;
+use crate::cases::polish::Case;
 use crate::scope::{SolverScope, StepControlPolicy};
 use std::cell::Cell;
 

@@ -2,7 +2,7 @@
 
 use super::fleet::{stops, Access, Fleet, Quiet, Yard};
 use super::list_k_opt::run_list_k_opt;
-use crate::run::case::{Case, CHANGED, NOT_REACHED, PINNED, SHORT, SPENT, UNCHANGED};
+use crate::cases::run::{Case, CHANGED, NOT_REACHED, PINNED, SHORT, SPENT, UNCHANGED};
 use crate::scope::{ProgressCallback, SolverScope, StepControlPolicy};
 use std::cell::Cell;
 

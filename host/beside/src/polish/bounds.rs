@@ -1,6 +1,6 @@
 //! Cases at the bounds of document 01, and its text case.
 
-use super::case::Case;
+use crate::cases::polish::Case;
 use crate::draw::{capped, leg_table};
 use crate::random::Random;
 use crate::rules::{LONGEST_LEG, MOST_LOCATIONS, MOST_STOPS};

@@ -1,7 +1,7 @@
 //! Cases that document 01 refuses: a good one, damaged in one or more ways.
 
-use super::case::{Case, RESULT_PLACES};
 use super::generate::random_case;
+use crate::cases::polish::{Case, RESULT_PLACES};
 use crate::damage;
 use crate::random::Random;
 use crate::rules::MOST_STOPS;

@@ -2,8 +2,8 @@
 //! good already. A route that k - 1 cuts cannot improve is often improved by k cuts only after several first cuts, one that k cuts cannot
 //! improve never.
 
-use super::case::Case;
 use super::measured;
+use crate::cases::polish::Case;
 use crate::draw::plane;
 use crate::ffi;
 use crate::random::Random;

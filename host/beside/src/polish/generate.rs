@@ -1,6 +1,6 @@
 //! Random cases that document 01 does not refuse.
 
-use super::case::Case;
+use crate::cases::polish::Case;
 use crate::draw::{leg_table, order, set_deadlines, some_depot};
 use crate::oracle::polish::polish;
 use crate::random::Random;

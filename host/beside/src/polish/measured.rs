@@ -1,6 +1,6 @@
 //! The cases that the bench measures polishing on: each is some two million candidates, or fewer where it finishes.
 
-use super::case::Case;
+use crate::cases::polish::Case;
 use crate::draw::{capped, plane};
 use crate::random::Random;
 use crate::tables::Tables;

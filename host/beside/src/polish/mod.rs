@@ -1,13 +1,13 @@
 //! Polishing: `mittenschist_polish_route` beside `polish_route` of general.rs.
 
 pub mod bounds;
-pub mod case;
 pub mod damage;
 mod deep;
 pub mod generate;
 mod late;
 pub mod measured;
 pub mod planted;
+mod replies;
 mod short;
 mod shortest;
 mod stretches;

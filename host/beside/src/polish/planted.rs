@@ -2,7 +2,7 @@
 //! all others more, and each stop is due when it is reached. The count of candidates then shows where the scan found it, which
 //! random cases seldom show of the later patterns.
 
-use super::case::Case;
+use crate::cases::polish::Case;
 use crate::heuristic::r#move::k_opt_reconnection::{enumerate_reconnections, KOptReconnection};
 use crate::random::Random;
 use crate::tables::Tables;

@@ -1,6 +1,6 @@
 //! Every case of a few small kinds: two locations and up to four stops, three locations and up to three stops.
 
-use super::case::Case;
+use crate::cases::polish::Case;
 use crate::draw::lists;
 use crate::random::Random;
 use crate::tables::Tables;

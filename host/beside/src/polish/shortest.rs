@@ -2,8 +2,8 @@
 //! at least one of these. Nothing is ever accepted, so that the answer follows from the number of candidates. The Rust, which examines
 //! them one by one, is not asked: these scans leave the first cut 0 where it would take it minutes.
 
-use super::case::Case;
 use super::deep::candidates_at_first_cut_0;
+use crate::cases::polish::Case;
 use crate::lent::{bits, filled};
 use crate::random::Random;
 use crate::tables::Tables;

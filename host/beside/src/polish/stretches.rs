@@ -1,7 +1,7 @@
 //! Allowances around the end of each cut set, which are the ends that a stretch of cut sets passed over can have: a scan that counts
 //! a stretch at once must be spent inside it at exactly the allowance.
 
-use super::case::Case;
+use crate::cases::polish::Case;
 use crate::draw::{leg_table, order, set_deadlines};
 use crate::oracle::polish::polish;
 use crate::random::Random;

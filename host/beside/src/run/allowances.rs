@@ -1,7 +1,7 @@
 //! Small runs, each with every allowance from 0 to one more than all its candidates.
 
-use super::case::Case;
 use super::generate::small_run;
+use crate::cases::run::Case;
 use crate::oracle::run::run_quietly;
 use crate::random::Random;
 use crate::trial::Visit;

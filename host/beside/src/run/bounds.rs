@@ -1,6 +1,6 @@
 //! Runs at the bounds of document 01, and rounds of every length near the ones that matter.
 
-use super::case::{Case, NUMBERS_A_ROUND};
+use crate::cases::run::{Case, NUMBERS_A_ROUND};
 use crate::draw::leg_table;
 use crate::random::Random;
 use crate::rules::{LONGEST_LEG, MOST_LOCATIONS, MOST_ROUNDS, MOST_STOPS};

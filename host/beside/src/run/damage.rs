@@ -1,7 +1,7 @@
 //! Runs that document 01 refuses: a good one, damaged in one or more ways.
 
-use super::case::{Case, NUMBERS_A_ROUND};
 use super::generate::random_run;
+use crate::cases::run::{Case, NUMBERS_A_ROUND};
 use crate::damage;
 use crate::random::Random;
 use crate::rules::{MOST_ROUNDS, MOST_STOPS};

@@ -1,6 +1,6 @@
 //! Random runs that document 01 does not refuse.
 
-use super::case::{Case, NUMBERS_A_ROUND};
+use crate::cases::run::{Case, NUMBERS_A_ROUND};
 use crate::draw::{order, set_deadlines, some_depot, some_legs};
 use crate::oracle::run::{run, run_quietly};
 use crate::random::Random;

@@ -2,11 +2,11 @@
 
 mod allowances;
 mod bounds;
-pub mod case;
 mod damage;
 mod generate;
 mod pair_loop;
 mod planted;
+mod replies;
 mod short;
 
 pub use pair_loop::document_case;

@@ -1,6 +1,6 @@
 //! The pair loop (k = 2): the run of document 01, and tables on which the loop makes a round longer or never ends.
 
-use super::case::Case;
+use crate::cases::run::Case;
 use crate::random::Random;
 use crate::tables::Tables;
 use crate::trial::Visit;

@@ -1,6 +1,6 @@
 //! The planted cases of polishing as the last round of a run, so that the count shows where each pattern is examined.
 
-use super::case::Case;
+use crate::cases::run::Case;
 use crate::polish::planted::planted_case;
 use crate::random::Random;
 use crate::trial::Drawn;

@@ -1,6 +1,6 @@
 //! Every run of one small kind: two locations, a round of four stops between a pinned and a short one.
 
-use super::case::Case;
+use crate::cases::run::Case;
 use crate::draw::{lists, with_deadlines};
 use crate::random::Random;
 use crate::tables::Tables;

@@ -1,8 +1,8 @@
 //! Texts of the form, and those at its bounds.
 
 use super::case::Text;
+use crate::cases::polish::Case;
 use crate::polish::bounds::text_case;
-use crate::polish::case::Case;
 use crate::polish::damage::damage;
 use crate::polish::generate::random_case;
 use crate::random::Random;

@@ -1,7 +1,7 @@
 //! A text's meaning, written from document 01's "Text program": a reader that takes the lines apart, over the unchanged Rust.
 
+use crate::cases::polish::{Case, RESULT_PLACES};
 use crate::oracle::polish::{polish, Counts};
-use crate::polish::case::{Case, RESULT_PLACES};
 use crate::tables::{listed, Tables};
 
 const MOST_BYTES: usize = 60_000;

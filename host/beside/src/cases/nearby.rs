@@ -1,9 +1,6 @@
-//! One listing of nearby cuts: what is handed in, what document 01 says of it, and both replies.
+//! One listing of nearby cuts: what is handed in, and what document 01 refuses of it.
 
-use crate::lent::{bits, filled, filled_usize, Lent};
 use crate::rules::{bad_k, lowest, too_many_stops, LONGEST_PIECE, MOST_NEIGHBOURS};
-use crate::trial::{put, Reply, Trial};
-use crate::{ffi, oracle};
 use std::fmt::{Display, Formatter, Result as Written};
 
 pub const RESULT_PLACES: usize = 2;
@@ -37,47 +34,6 @@ impl Case {
             || self.max_nearby > MOST_NEIGHBOURS
             || self.n.checked_mul(self.n) != Some(self.distances.len())
             || self.distances.iter().any(|distance| distance.is_nan())
-    }
-}
-
-impl Trial for Case {
-    fn expected(&self) -> Reply {
-        let code = self.refusal();
-        let mut sets = filled_usize(self.sets_room);
-        let mut result = filled(self.room);
-        if code == 0 {
-            let (found, more) = oracle::nearby::listed(self, self.sets_room / self.k);
-            sets[..found.len()].copy_from_slice(&found);
-            let count = (found.len() / self.k) as u64;
-            put(&mut result, &[count, u64::from(more)]);
-        }
-        Reply::new(code, [("sets", bits(&sets)), ("result", result)])
-    }
-
-    fn given(&self) -> Result<Reply, String> {
-        let (sets, room) = (filled_usize(self.sets_room), filled(self.room));
-        let mut distances = Lent::new("distances", &self.distances);
-        let mut sets = Lent::new("sets", &sets);
-        let mut result = Lent::new("result", &room);
-        let code = ffi::nearby_cuts(
-            self.n,
-            distances.slice(),
-            self.k,
-            self.min_segment_len,
-            self.max_nearby,
-            sets.slice(),
-            result.slice(),
-        );
-        distances.kept()?;
-        Ok(Reply::new(code, [sets.written()?, result.written()?]))
-    }
-
-    fn kind(&self, expected: &Reply) -> &'static str {
-        match (expected.number(1, 0), expected.number(1, 1)) {
-            (0, _) => "no set",
-            (_, 0) => "ended",
-            (_, _) => "more",
-        }
     }
 }
 

@@ -1,0 +1,6 @@
+//! What polishing, the run and the nearby listing are handed, as plain data: the Rust's side, the library's and the drivers take it, and it
+//! imports none of them.
+
+pub mod nearby;
+pub mod polish;
+pub mod run;
