@@ -2,7 +2,7 @@
 use theory::Deadline;
 ghost use mathlib.Core.Path.{_≡_};
 ghost use Prim.Native.Nat.{min, max, _-_};
-ghost use Rattle.theory.specs.Tables.{problem, Timed};
+ghost use Rattle.theory.specs.Tables.{clock-by, Timed};
 ghost use Rattle.theory.specs.Answers.{Checked};
 ghost use Rattle.deadlines.specs.Lateness.{Arriving, Arrives, LatestOf, LatestIs, LaterFits, LatenessFillable, LatenessFilled};
 
@@ -15,7 +15,7 @@ pub fn check_deadlines(
     route: &[u32],
 ) -> Deadline
     requires { ⌜ Timed locations (now legs) (now latest) depot (now route) ⌝ }
-    ensures { λ r. ⌜ Checked (problem locations (now (legs .entry)) (now (latest .entry)) depot) (now (route .entry)) r ⌝ }
+    ensures { λ r. ⌜ Checked (clock-by locations (now (legs .entry)) (now (latest .entry))) depot (now (route .entry)) r ⌝ }
 {
     let mut clock = 0u64;
     let mut previous = depot;
@@ -34,7 +34,8 @@ pub fn check_deadlines(
     Deadline::Kept
 }
 
-fn least(a: u64, b: u64) -> u64
+// The lesser of two.
+pub fn least(a: u64, b: u64) -> u64
     ensures { λ r. ⌜ r ≡ min a b ⌝ }
 {
     if a < b {
@@ -58,7 +59,8 @@ pub fn arrival(
     costs::route_distance(locations, legs, depot, route[0]) + forward[i]
 }
 
-fn latest_of(latest: &[u32], stop: u32) -> u64
+// The latest second of a stop.
+pub fn latest_of(latest: &[u32], stop: u32) -> u64
     requires { ⌜ LatestOf (now latest) stop ⌝ }
     ensures { λ r. ⌜ LatestIs (now (latest .entry)) stop r ⌝ }
 {
@@ -88,7 +90,7 @@ pub fn fill_lateness(
     lateness: &mut [u64; 513],
 ) -> usize
     requires { ⌜ LatenessFillable locations (now legs) (now latest) depot (now route) (now forward) (now lateness) ⌝ }
-    ensures { λ r. ⌜ LatenessFilled (problem locations (now (legs .entry)) (now (latest .entry)) depot) (now (route .entry)) r (now (lateness .exit)) ⌝ }
+    ensures { λ r. ⌜ LatenessFilled (clock-by locations (now (legs .entry)) (now (latest .entry))) depot (now (route .entry)) r (now (lateness .exit)) ⌝ }
 {
     let mut c = route.len();
     let mut longest = c;

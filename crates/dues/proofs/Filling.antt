@@ -8,20 +8,20 @@ use native.Mathlib.Omega.{arith}
 use lib.Dec.{eqb}
 use lib.ListN.{length, getD, set, length-set}
 use lib.Seq.{slice, getD-set-same, getD-set-other}
-use Rattle.theory.specs.Route.{Problem, reverse-if}
+use Rattle.theory.specs.Route.{Clock, reverse-if}
 use Rattle.theory.specs.Tables.{CutSet}
 use Rattle.costs.proofs.Segments.{cut-below, segment-is, segment-filled}
 use Rattle.joints.proofs.States.{part-at, halves}
 use Rattle.growth.specs.Due.{Due, SegmentDues, Spannable}
 use Rattle.dues.specs.Due.{DuesFillable, SegmentsDue, DuesOf}
 
-pub no-dues : (P : Problem) (cs r D : List ℕ) → length D ≡ 9 → SegmentsDue P cs r 0 D
-no-dues P cs r D h = record { places = h; each = λ i l m. absurd (omega arith) }
+pub no-dues : (C : Clock) (cs r D : List ℕ) → length D ≡ 9 → SegmentsDue C cs r 0 D
+no-dues C cs r D h = record { places = h; each = λ i l m. absurd (omega arith) }
 
 -- One segment more.
-pub more-dues : (P : Problem) (cs r D : List ℕ) (i s v : ℕ) → 1 ≤ i → i ≤ 4 → SegmentsDue P cs r (i - 1) D → SegmentDues P (slice (getD cs (i - 1) 0) (getD cs i 0) r) s v →
-    SegmentsDue P cs r i (set (set D (2 * i - 2) s) (2 * i - 2 + 1) v)
-more-dues P cs r D i s v h k w found =
+pub more-dues : (C : Clock) (cs r D : List ℕ) (i s v : ℕ) → 1 ≤ i → i ≤ 4 → SegmentsDue C cs r (i - 1) D → SegmentDues C (slice (getD cs (i - 1) 0) (getD cs i 0) r) s v →
+    SegmentsDue C cs r i (set (set D (2 * i - 2) s) (2 * i - 2 + 1) v)
+more-dues C cs r D i s v h k w found =
     record {
       places = simp length-set (w .places);
       each = λ j l m. by j l m (ℕ-discrete j i);
@@ -37,7 +37,7 @@ more-dues P cs r D i s v h k w found =
     kept c l = getD-set-other (set D (2 * i - 2) s) (2 * i - 2 + 1) c v 0 (λ e. omega arith) ∙ getD-set-other D (2 * i - 2) c s 0 (λ e. omega arith)
 
     by : (j : ℕ) → 1 ≤ j → j ≤ i → Dec (j ≡ i) →
-        SegmentDues P (slice (getD cs (j - 1) 0) (getD cs j 0) r) (getD (set (set D (2 * i - 2) s) (2 * i - 2 + 1) v) (2 * j - 2) 0) (getD (set (set D (2 * i - 2) s) (2 * i - 2 + 1) v) (2 * j - 2 + 1) 0)
+        SegmentDues C (slice (getD cs (j - 1) 0) (getD cs j 0) r) (getD (set (set D (2 * i - 2) s) (2 * i - 2 + 1) v) (2 * j - 2) 0) (getD (set (set D (2 * i - 2) s) (2 * i - 2 + 1) v) (2 * j - 2 + 1) 0)
     by j l m (yes e) = rw (e, first, second) found
     by j l m (no n) = rw (kept (2 * j - 2) (omega arith), kept (2 * j - 2 + 1) (omega arith)) (w .each j l (omega arith))
 
@@ -56,9 +56,9 @@ segment-spanned {r = r} {cs = cs} given i h k =
 
 -- ---- the states
 
-pub dues-of : (P : Problem) (cs r D : List ℕ) → CutSet (length cs) (length r) cs → SegmentsDue P cs r (length cs - 1) D → DuesOf P cs r D
+pub dues-of : (C : Clock) (cs r D : List ℕ) → CutSet (length cs) (length r) cs → SegmentsDue C cs r (length cs - 1) D → DuesOf C cs r D
 unfolding reverse-if
-dues-of P cs r D cut-set w =
+dues-of C cs r D cut-set w =
     record {
       places = w .places;
       each = λ s h.
@@ -68,7 +68,7 @@ dues-of P cs r D cut-set w =
           (of s i (eqb (s % 2) 1) (omega arith) (halves s) (w .each i (omega arith) (omega arith)));
     }
   where
-    of : (s i : ℕ) (b : Bool) → 1 ≤ i → s ≡ 2 * (i - 1) + cond b 1 0 → SegmentDues P (slice (getD cs (i - 1) 0) (getD cs i 0) r) (getD D (2 * i - 2) 0) (getD D (2 * i - 2 + 1) 0) →
-        Due P (reverse-if b (slice (getD cs (i - 1) 0) (getD cs i 0) r)) (getD D s 0)
+    of : (s i : ℕ) (b : Bool) → 1 ≤ i → s ≡ 2 * (i - 1) + cond b 1 0 → SegmentDues C (slice (getD cs (i - 1) 0) (getD cs i 0) r) (getD D (2 * i - 2) 0) (getD D (2 * i - 2 + 1) 0) →
+        Due C (reverse-if b (slice (getD cs (i - 1) 0) (getD cs i 0) r)) (getD D s 0)
     of s i true h e d = let f : s ≡ 2 * i - 2 + 1 = omega arith in rw f (d .turned)
     of s i false h e d = let f : s ≡ 2 * i - 2 = omega arith in rw f (d .as-it-stands)

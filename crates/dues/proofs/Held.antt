@@ -6,8 +6,8 @@ use Prim.Native.Nat.{ℕ, suc, _+_, _-_, _*_, _≤_, _<_}
 use native.Mathlib.Omega.{arith}
 use lib.ListN.{length, getD, set, take, drop, length-set, take-append-drop, List·getD-append}
 use lib.Seq.{slice, drop-cons, drop-length, length-take-le, getD-take, getD-append-seam, getD-set-same, getD-set-other}
-use Rattle.theory.specs.Route.{Problem}
-use Rattle.theory.specs.Tables.{problem, CutSet}
+use Rattle.theory.specs.Route.{Clock}
+use Rattle.theory.specs.Tables.{clock-by, CutSet}
 use Rattle.costs.proofs.Segments.{segment-filled, last-cut}
 use Rattle.growth.specs.Due.{SegmentDues, GrowableTo}
 use Rattle.dues.specs.Due.{DuesFillable, SegmentsDue, DuesOf, DuesReach, DuesHeld, DuesReachable, DuesReached}
@@ -30,30 +30,30 @@ many cs = length-take-le (length cs - 1) cs (omega arith)
 -- ---- a new last cut
 
 -- With another last cut, only the last middle segment has other dues.
-pub last-replaced : (P : Problem) (r pre D : List ℕ) (c c′ s v : ℕ) → 1 ≤ length pre → length pre ≤ 4 → SegmentsDue P (pre ++ (c ∷ [])) r (length pre) D → SegmentDues P (slice (getD pre (length pre - 1) 0) c′ r) s v →
-    SegmentsDue P (pre ++ (c′ ∷ [])) r (length pre) (set (set D (2 * length pre - 2) s) (2 * length pre - 2 + 1) v)
-last-replaced P r pre D c c′ s v h k w found =
-    more-dues P (pre ++ (c′ ∷ [])) r D (length pre) s v h k
+pub last-replaced : (C : Clock) (r pre D : List ℕ) (c c′ s v : ℕ) → 1 ≤ length pre → length pre ≤ 4 → SegmentsDue C (pre ++ (c ∷ [])) r (length pre) D → SegmentDues C (slice (getD pre (length pre - 1) 0) c′ r) s v →
+    SegmentsDue C (pre ++ (c′ ∷ [])) r (length pre) (set (set D (2 * length pre - 2) s) (2 * length pre - 2 + 1) v)
+last-replaced C r pre D c c′ s v h k w found =
+    more-dues C (pre ++ (c′ ∷ [])) r D (length pre) s v h k
     (record { places = w .places; each = λ i l m. rw (at c′ (i - 1) (omega arith), at c′ i (omega arith), ← (at c (i - 1) (omega arith)), ← (at c i (omega arith))) (w .each i l (omega arith)) })
     (rw (at c′ (length pre - 1) (omega arith), getD-append-seam pre c′ [] 0) found)
   where
     at : (x i : ℕ) → i < length pre → getD (pre ++ (x ∷ [])) i 0 ≡ getD pre i 0
     at x i l = List·getD-append pre (x ∷ []) 0 i l
 
-reach-of : (P : Problem) (r pre D : List ℕ) → DuesHeld P r pre D → 0 < getD D 8 0 → DuesReach P r pre D (getD D 8 0)
-reach-of P r pre D held h = by (held .held)
+reach-of : (C : Clock) (r pre D : List ℕ) → DuesHeld C r pre D → 0 < getD D 8 0 → DuesReach C r pre D (getD D 8 0)
+reach-of C r pre D held h = by (held .held)
   where
-    by : (getD D 8 0 ≡ 0) ⊎ DuesReach P r pre D (getD D 8 0) → DuesReach P r pre D (getD D 8 0)
+    by : (getD D 8 0 ≡ 0) ⊎ DuesReach C r pre D (getD D 8 0) → DuesReach C r pre D (getD D 8 0)
     by (inl e) = absurd (omega arith)
     by (inr w) = w
 
-last-held : (P : Problem) (r pre D : List ℕ) (c : ℕ) → 1 ≤ length pre → SegmentsDue P (pre ++ (c ∷ [])) r (length pre) D →
-    SegmentDues P (slice (getD pre (length pre - 1) 0) c r) (getD D (2 * length pre - 2) 0) (getD D (2 * length pre - 2 + 1) 0)
-last-held P r pre D c h w = rw (List·getD-append pre (c ∷ []) 0 (length pre - 1) (omega arith), getD-append-seam pre c [] 0) at (w .each (length pre) h (omega arith))
+last-held : (C : Clock) (r pre D : List ℕ) (c : ℕ) → 1 ≤ length pre → SegmentsDue C (pre ++ (c ∷ [])) r (length pre) D →
+    SegmentDues C (slice (getD pre (length pre - 1) 0) c r) (getD D (2 * length pre - 2) 0) (getD D (2 * length pre - 2 + 1) 0)
+last-held C r pre D c h w = rw (List·getD-append pre (c ∷ []) 0 (length pre - 1) (omega arith), getD-append-seam pre c [] 0) at (w .each (length pre) h (omega arith))
 
 module _ {locations : ℕ} {legs latest r sums cs D : List ℕ} (given : DuesReachable locations legs latest r sums cs D) where
-  abbrev P : Problem
-  P = problem locations legs latest 0
+  abbrev C : Clock
+  C = clock-by locations legs latest
 
   abbrev last : ℕ
   last = length cs - 1
@@ -74,8 +74,8 @@ module _ {locations : ℕ} {legs latest r sums cs D : List ℕ} (given : DuesRea
       }
 
   module _ (h : 0 < getD D 8 0) where
-    reaching : DuesReach P r (first-cuts cs) D (getD D 8 0)
-    reaching = reach-of P r (first-cuts cs) D (given .held) h
+    reaching : DuesReach C r (first-cuts cs) D (getD D 8 0)
+    reaching = reach-of C r (first-cuts cs) D (given .held) h
 
     pub growing : GrowableTo locations legs latest r sums (getD cs (last - 1) 0) (getD D 8 0) (getD cs last 0) (getD D (2 * last - 2) 0) (getD D (2 * last - 2 + 1) 0)
     growing =
@@ -90,19 +90,19 @@ module _ {locations : ℕ} {legs latest r sums cs D : List ℕ} (given : DuesRea
           };
           least = given .behind;
           most = last-cut cs r (given .cut-set);
-          dues = rw (many cs, start) at (last-held P r (first-cuts cs) D (getD D 8 0) (rw (many cs) (omega (arith, given .cut-set .least))) (reaching .due));
+          dues = rw (many cs, start) at (last-held C r (first-cuts cs) D (getD D 8 0) (rw (many cs) (omega (arith, given .cut-set .least))) (reaching .due));
         }
 
-    pub stretched : (s v : ℕ) → SegmentDues P (slice (getD cs (last - 1) 0) (getD cs last 0) r) s v → SegmentsDue P cs r last (set (set D (2 * last - 2) s) (2 * last - 2 + 1) v)
+    pub stretched : (s v : ℕ) → SegmentDues C (slice (getD cs (last - 1) 0) (getD cs last 0) r) s v → SegmentsDue C cs r last (set (set D (2 * last - 2) s) (2 * last - 2 + 1) v)
     stretched s v found =
         rw (many cs, ← (parted cs (omega (arith, given .cut-set .least)))) at
-        (last-replaced P r (first-cuts cs) D (getD D 8 0) (getD cs last 0) s v (rw (many cs) (omega (arith, given .cut-set .least))) (rw (many cs) (omega (arith, given .cut-set .most))) (reaching .due)
+        (last-replaced C r (first-cuts cs) D (getD D 8 0) (getD cs last 0) s v (rw (many cs) (omega (arith, given .cut-set .least))) (rw (many cs) (omega (arith, given .cut-set .most))) (reaching .due)
         (rw (many cs, start) found))
 
 -- ---- the last cut reached
 
-pub reached : (P : Problem) (r cs D′ D : List ℕ) → CutSet (length cs) (length r) cs → D′ ≡ D → SegmentsDue P cs r (length cs - 1) D → DuesReached P r cs (set D′ 8 (getD cs (length cs - 1) 0))
-reached P r cs D′ D cut-set e w =
+pub reached : (C : Clock) (r cs D′ D : List ℕ) → CutSet (length cs) (length r) cs → D′ ≡ D → SegmentsDue C cs r (length cs - 1) D → DuesReached C r cs (set D′ 8 (getD cs (length cs - 1) 0))
+reached C r cs D′ D cut-set e w =
     rw e (record {
       places = simp length-set (w .places);
       reach = getD-set-same D 8 (getD cs (length cs - 1) 0) 0 (omega (arith, w .places));
@@ -116,8 +116,8 @@ reached P r cs D′ D cut-set e w =
     kept c l = getD-set-other D 8 c (getD cs (length cs - 1) 0) 0 (λ e. omega arith)
 
 -- For the cut sets to come with the same first cuts.
-pub reached-held : {P : Problem} {r cs D : List ℕ} → DuesReached P r cs D → CutSet (length cs) (length r) cs → DuesHeld P r (take (length cs - 1) cs) D
-reached-held {P} {r} {cs} {D} w cut-set =
+pub reached-held : {C : Clock} {r cs D : List ℕ} → DuesReached C r cs D → CutSet (length cs) (length r) cs → DuesHeld C r (take (length cs - 1) cs) D
+reached-held {C} {r} {cs} {D} w cut-set =
     record {
       places = w .places;
       held = inr (record {
@@ -127,5 +127,5 @@ reached-held {P} {r} {cs} {D} w cut-set =
       });
     }
 
-pub reached-dues : {P : Problem} {r cs D : List ℕ} → DuesReached P r cs D → CutSet (length cs) (length r) cs → DuesOf P cs r D
-reached-dues {P} {r} {cs} {D} w cut-set = dues-of P cs r D cut-set (w .due)
+pub reached-dues : {C : Clock} {r cs D : List ℕ} → DuesReached C r cs D → CutSet (length cs) (length r) cs → DuesOf C cs r D
+reached-dues {C} {r} {cs} {D} w cut-set = dues-of C cs r D cut-set (w .due)

@@ -9,7 +9,7 @@ use lib.Dec.{ltb}
 use lib.ListN.{length, getD, take, drop, replicate, length-map}
 use lib.Seq.{slice, slice-cons, slice-empty, length-slice, take-at, take-take, getD-drop, getD-take, take-nil}
 use borrow.Author.Tests.{lt-ltb, le-ltb}
-use Rattle.theory.specs.Route.{Problem, path, segments, placed, on-time}
+use Rattle.theory.specs.Route.{Clock, path, segments, placed, on-time}
 use Rattle.theory.specs.Costs.{last-of, first-of, inner}
 use Rattle.theory.specs.Tables.{CutSet, ForK}
 use Rattle.theory.proofs.Index.{getD-map}
@@ -42,17 +42,17 @@ no-states J D rows a t at end whole e so-far = so-far ∙ rw (e, slice-empty end
 
 -- ---- as a middle
 
-module _ (P : Problem) (part : ℕ → List ℕ) {count head tail : ℕ} {J : List ℕ} (D : List ℕ) (t : JointTable (P .leg) part count head tail J)
-    (full : (s : ℕ) → s < count → 0 < length (part s)) (dues : (s : ℕ) → s < count → Due P (part s) (getD D s 0)) where
-  along : (a exit c : ℕ) → JointRow (P .leg) (λ s. first-of (part s) 0) (λ s. inner (P .leg) (part s)) count tail J a exit →
-      (bs : List ℕ) → ((b : ℕ) → List·Memᴰ b bs → b < count) → in-time J D a c bs ≡ on-time P exit c (flatten (map part bs))
+module _ (C : Clock) (part : ℕ → List ℕ) {count head tail : ℕ} {J : List ℕ} (D : List ℕ) (t : JointTable (C .leg) part count head tail J)
+    (full : (s : ℕ) → s < count → 0 < length (part s)) (dues : (s : ℕ) → s < count → Due C (part s) (getD D s 0)) where
+  along : (a exit c : ℕ) → JointRow (C .leg) (λ s. first-of (part s) 0) (λ s. inner (C .leg) (part s)) count tail J a exit →
+      (bs : List ℕ) → ((b : ℕ) → List·Memᴰ b bs → b < count) → in-time J D a c bs ≡ on-time C exit c (flatten (map part bs))
   unfolding in-time on-time flatten
   along a exit c legs [] h = refl
   along a exit c legs (b ∷ bs) h =
       let k : b < count = h b (List·Memᴰ·head refl) in
-      let e : cell J a b ≡ path (P .leg) exit (part b) = legs .next b k ∙ sym (path-in (P .leg) exit (part b) (full b k)) in
-      let ih = along b (last-of 0 (part b)) (c + path (P .leg) exit (part b)) (t .from-each b k) bs (λ x m. h x (List·Memᴰ·tail m)) in
-      rw (e, on-time-append P exit c (part b) (flatten (map part bs)), dues b k .is exit c, last-any exit 0 (part b) (full b k), ih)
+      let e : cell J a b ≡ path (C .leg) exit (part b) = legs .next b k ∙ sym (path-in (C .leg) exit (part b) (full b k)) in
+      let ih = along b (last-of 0 (part b)) (c + path (C .leg) exit (part b)) (t .from-each b k) bs (λ x m. h x (List·Memᴰ·tail m)) in
+      rw (e, on-time-append C exit c (part b) (flatten (map part bs)), dues b k .is exit c, last-any exit 0 (part b) (full b k), ih)
 
 front-of : (a b : ℕ) (l : List ℕ) → slice a b l ≡ take (b - a) (drop a l)
 front-of zero b l = let e : b - 0 ≡ b = omega arith in rw e
@@ -92,16 +92,16 @@ module _ (k : ℕ) (order rows : List ℕ) (mask i : ℕ) (two : 2 ≤ k) (most 
       let b = state-below k mask (getD order (1 + j) 0) (middle .least (1 + j) (omega arith) (omega arith)) (middle .most (1 + j) (omega arith) (omega arith)) in
       omega (arith, b, is, ap (state-of mask) place)
 
-module _ (P : Problem) (cs r J D : List ℕ) (cut-set : CutSet (length cs) (length r) cs) {head tail : ℕ} (t : JointTable (P .leg) (placed-in cs r) (state-count (length cs)) head tail J)
-    (dues : DuesOf P cs r D) where
+module _ (C : Clock) (cs r J D : List ℕ) (cut-set : CutSet (length cs) (length r) cs) {head tail : ℕ} (t : JointTable (C .leg) (placed-in cs r) (state-count (length cs)) head tail J)
+    (dues : DuesOf C cs r D) where
   -- The states of a pattern's row are left before their dues exactly where its middle segments, walked from the head's end, keep their deadlines.
   pub row-kept : (order rows : List ℕ) (mask i clock : ℕ) → ForK (length cs) order mask → row rows i ≡ states (length cs) order mask →
-      in-time J D 9 clock (slice (4 * i) (4 * i + (length cs - 1)) rows) ≡ on-time P head clock (flatten (placed mask (segments 0 cs r) (slice 1 (length cs) order)))
+      in-time J D 9 clock (slice (4 * i) (4 * i + (length cs - 1)) rows) ≡ on-time C head clock (flatten (placed mask (segments 0 cs r) (slice 1 (length cs) order)))
   row-kept order rows mask i clock f e =
       let o = slice 1 (length cs) order in
       ap (in-time J D 9 clock) (row-states (length cs) order rows mask i (cut-set .least) (cut-set .most) f e)
-      ∙ along P (placed-in cs r) D t (full-part cs r cut-set) (dues .each) 9 head clock (t .from-head) (map (state-of mask) o) below
-      ∙ ap (λ ps. on-time P head clock (flatten ps)) (placed-states cs r mask o (λ x m. within x m .0))
+      ∙ along C (placed-in cs r) D t (full-part cs r cut-set) (dues .each) 9 head clock (t .from-head) (map (state-of mask) o) below
+      ∙ ap (λ ps. on-time C head clock (flatten ps)) (placed-states cs r mask o (λ x m. within x m .0))
     where
       within : (x : ℕ) → List·Memᴰ x (slice 1 (length cs) order) → (1 ≤ x) × (x < 1 + (length cs - 1))
       within x m = in-range (f .middle) 1 (length cs - 1) (f .once) x (rw (middle-is (length cs) order mask (cut-set .least) f) at m)

@@ -11,10 +11,10 @@ use lib.ListN.{length, getD, take, drop, length-append, length-drop}
 use lib.Seq.{take-at, drop-at, getD-at, split-at, take-take, getD-take, length-take-le}
 use borrow.Author.Tests.{le-leb}
 use Rattle.theory.specs.Moves.{Pattern, total, upfrom}
-use Rattle.theory.specs.Route.{Problem, segments, reverses, reverse-if, placed, joined, reconnected, path, tour-length, arrival, feasible, on-time}
+use Rattle.theory.specs.Route.{Problem, Clock, clock-of, segments, reverses, reverse-if, placed, joined, reconnected, path, tour-length, arrival, timely, on-time}
 use Rattle.theory.specs.Costs.{last-of, first-of}
 use Rattle.theory.specs.Tables.{CutSet, ForK}
-use Rattle.theory.proofs.Clock.{feasible-on-time}
+use Rattle.theory.proofs.Clock.{timely-on-time}
 use Rattle.theory.proofs.Costs.{path-append, delta}
 use Rattle.theory.proofs.Delta.{even-head, small-tail, flatten-append, placed-append, changes-nothing}
 use Rattle.theory.proofs.ForK.{for-k-order}
@@ -29,15 +29,18 @@ use Rattle.dues.specs.Parts.{head, middle, tail}
 -- ---- a head, a middle and a tail; m stands, m′ is put in its place
 
 -- When the standing tail's first stop is reached.
-tail-reached : (P : Problem) (h m : List ℕ) (x : ℕ) (t : List ℕ) →
-    arrival P (h ++ (m ++ (x ∷ t))) (length h + length m) ≡ path (P .leg) (P .depot) h + path (P .leg) (last-of (P .depot) h) (m ++ (x ∷ []))
+tail-reached : (C : Clock) (depot : ℕ) (h m : List ℕ) (x : ℕ) (t : List ℕ) →
+    arrival C depot (h ++ (m ++ (x ∷ t))) (length h + length m) ≡ path (C .leg) depot h + path (C .leg) (last-of depot h) (m ++ (x ∷ []))
 unfolding arrival
-tail-reached P h m x t =
+tail-reached C depot h m x t =
     let e : h ++ (m ++ (x ∷ t)) ≡ (h ++ (m ++ (x ∷ []))) ++ t = simp append-assoc in
     let n : length (h ++ (m ++ (x ∷ []))) ≡ suc (length h + length m) = simp length-append (omega arith) in
-    rw (e, take-at (h ++ (m ++ (x ∷ []))) t (suc (length h + length m)) n, path-append (P .leg) (P .depot) h (m ++ (x ∷ [])))
+    rw (e, take-at (h ++ (m ++ (x ∷ []))) t (suc (length h + length m)) n, path-append (C .leg) depot h (m ++ (x ∷ [])))
 
 module _ (P : Problem) (h m m′ : List ℕ) (g : ℕ) where
+  abbrev C : Clock
+  C = clock-of P
+
   -- When the tail is set out for.
   abbrev from : ℕ
   from = last-of (last-of (P .depot) h) m′
@@ -45,12 +48,12 @@ module _ (P : Problem) (h m m′ : List ℕ) (g : ℕ) where
   abbrev clock : ℕ
   clock = path (P .leg) (P .depot) h + path (P .leg) (last-of (P .depot) h) m′
 
-  no-tail : on-time P from clock [] ≡ leb (lateness P (h ++ (m ++ [])) (length h + length m)) g
+  no-tail : on-time C from clock [] ≡ leb (lateness C (P .depot) (h ++ (m ++ [])) (length h + length m)) g
   unfolding on-time
-  no-tail = rw (lateness-end P (h ++ (m ++ [])) (length h + length m) (simp length-append (omega arith))) (sym (le-leb 0 g (omega arith)))
+  no-tail = rw (lateness-end C (P .depot) (h ++ (m ++ [])) (length h + length m) (simp length-append (omega arith))) (sym (le-leb 0 g (omega arith)))
 
   some-tail : (x : ℕ) (t : List ℕ) → tour-length P (h ++ (m′ ++ (x ∷ t))) + g ≡ tour-length P (h ++ (m ++ (x ∷ t))) →
-      on-time P from clock (x ∷ t) ≡ leb (lateness P (h ++ (m ++ (x ∷ t))) (length h + length m)) g
+      on-time C from clock (x ∷ t) ≡ leb (lateness C (P .depot) (h ++ (m ++ (x ∷ t))) (length h + length m)) g
   unfolding first-of path
   some-tail x t e =
       let r = h ++ (m ++ (x ∷ t)) in
@@ -59,25 +62,25 @@ module _ (P : Problem) (h m m′ : List ℕ) (g : ℕ) where
       let many : length (h ++ m) ≡ c = simp length-append in
       let left : drop c r ≡ x ∷ t = rw parted (drop-at (h ++ m) (x ∷ t) c many) in
       let first : getD r c 0 ≡ x = rw parted (getD-at (h ++ m) x t 0 c many) in
-      let there : clock + P .leg from x + g ≡ arrival P r c =
-      omega (arith, e, delta P h m m′ (x ∷ t), tail-reached P h m x t, path-append (P .leg) (last-of (P .depot) h) m′ (x ∷ [])) in
-      ap (on-time P from clock) (sym left)
-      ∙ tail-on-time P r c from clock g (simp length-append (omega arith)) (λ _. ap (λ y. clock + P .leg from y + g) first ∙ there)
+      let there : clock + P .leg from x + g ≡ arrival C (P .depot) r c =
+      omega (arith, e, delta P h m m′ (x ∷ t), tail-reached C (P .depot) h m x t, path-append (P .leg) (last-of (P .depot) h) m′ (x ∷ [])) in
+      ap (on-time C from clock) (sym left)
+      ∙ tail-on-time C (P .depot) r c from clock g (simp length-append (omega arith)) (λ _. ap (λ y. clock + P .leg from y + g) first ∙ there)
 
   -- The tail is on time exactly if what is gained is at least its lateness.
-  pub tail-judged : (t : List ℕ) → tour-length P (h ++ (m′ ++ t)) + g ≡ tour-length P (h ++ (m ++ t)) → on-time P from clock t ≡ leb (lateness P (h ++ (m ++ t)) (length h + length m)) g
+  pub tail-judged : (t : List ℕ) → tour-length P (h ++ (m′ ++ t)) + g ≡ tour-length P (h ++ (m ++ t)) → on-time C from clock t ≡ leb (lateness C (P .depot) (h ++ (m ++ t)) (length h + length m)) g
   tail-judged [] e = no-tail
   tail-judged (x ∷ t) e = some-tail x t e
 
   -- "A round keeps every deadline": by head, middle and tail.
   pub judged : (t : List ℕ) → tour-length P (h ++ (m′ ++ t)) + g ≡ tour-length P (h ++ (m ++ t)) →
-      feasible P (h ++ (m′ ++ t))
-      ≡ (on-time P (P .depot) 0 h && (on-time P (last-of (P .depot) h) (path (P .leg) (P .depot) h) m′ && leb (lateness P (h ++ (m ++ t)) (length h + length m)) g))
+      timely C (P .depot) (h ++ (m′ ++ t))
+      ≡ (on-time C (P .depot) 0 h && (on-time C (last-of (P .depot) h) (path (P .leg) (P .depot) h) m′ && leb (lateness C (P .depot) (h ++ (m ++ t)) (length h + length m)) g))
   judged t e =
       let z : 0 + path (P .leg) (P .depot) h ≡ path (P .leg) (P .depot) h = omega arith in
-      feasible-on-time P (h ++ (m′ ++ t))
-      ∙ on-time-append P (P .depot) 0 h (m′ ++ t)
-      ∙ rw (z, on-time-append P (last-of (P .depot) h) (path (P .leg) (P .depot) h) m′ t, tail-judged t e)
+      timely-on-time C (P .depot) (h ++ (m′ ++ t))
+      ∙ on-time-append C (P .depot) 0 h (m′ ++ t)
+      ∙ rw (z, on-time-append C (last-of (P .depot) h) (path (P .leg) (P .depot) h) m′ t, tail-judged t e)
 
 -- ---- a candidate
 
@@ -130,22 +133,22 @@ module _ (cs r : List ℕ) (cut-set : CutSet (length cs) (length r) cs) where
       omega (arith, whole, left, last-cut cs r cut-set)
 
   -- With a head that is on time, a candidate that gains g keeps every deadline exactly if its middle segments do and g is at least the lateness behind the last cut.
-  pub candidate-judged : (P : Problem) (p : Pattern) (g : ℕ) → ForK (length cs) (p .order) (p .mask) → on-time P (P .depot) 0 (head r cs) ≡ true →
+  pub candidate-judged : (P : Problem) (p : Pattern) (g : ℕ) → ForK (length cs) (p .order) (p .mask) → on-time (clock-of P) (P .depot) 0 (head r cs) ≡ true →
       tour-length P (reconnected (record { cuts = cs; pattern = p }) r) + g ≡ tour-length P r →
-      feasible P (reconnected (record { cuts = cs; pattern = p }) r)
-      ≡ (on-time P (last-of (P .depot) (head r cs)) (path (P .leg) (P .depot) (head r cs)) (middle r cs (p .order) (p .mask)) && leb (lateness P r (getD cs (length cs - 1) 0)) g)
+      timely (clock-of P) (P .depot) (reconnected (record { cuts = cs; pattern = p }) r)
+      ≡ (on-time (clock-of P) (last-of (P .depot) (head r cs)) (path (P .leg) (P .depot) (head r cs)) (middle r cs (p .order) (p .mask)) && leb (lateness (clock-of P) (P .depot) r (getD cs (length cs - 1) 0)) g)
   candidate-judged P p g f early e =
       let parts = candidate-parts r cs p (cut-set .least) f in
       let n = middle r cs (p .order) (p .mask) in
       let gained : tour-length P (head r cs ++ (n ++ tail r cs)) + g ≡ tour-length P (head r cs ++ (stays ++ tail r cs)) = omega (arith, e, ap (tour-length P) parts, ap (tour-length P) as-parts) in
-      let late : lateness P (head r cs ++ (stays ++ tail r cs)) (length (head r cs) + length stays) ≡ lateness P r (getD cs (length cs - 1) 0) =
-      ap (lateness P (head r cs ++ (stays ++ tail r cs))) tail-begins ∙ ap (λ l. lateness P l (getD cs (length cs - 1) 0)) (sym as-parts) in
-      ap (feasible P) parts ∙ judged P (head r cs) stays n g (tail r cs) gained ∙ rw (early, late)
+      let late : lateness (clock-of P) (P .depot) (head r cs ++ (stays ++ tail r cs)) (length (head r cs) + length stays) ≡ lateness (clock-of P) (P .depot) r (getD cs (length cs - 1) 0) =
+      ap (lateness (clock-of P) (P .depot) (head r cs ++ (stays ++ tail r cs))) tail-begins ∙ ap (λ l. lateness (clock-of P) (P .depot) l (getD cs (length cs - 1) 0)) (sym as-parts) in
+      ap (timely (clock-of P) (P .depot)) parts ∙ judged P (head r cs) stays n g (tail r cs) gained ∙ rw (early, late)
 
   -- With a head beyond the longest, none does.
-  pub candidate-too-late : (P : Problem) (longest : ℕ) → LongestHead P r longest → longest < getD cs 0 0 → (p : Pattern) → ForK (length cs) (p .order) (p .mask) →
-      feasible P (reconnected (record { cuts = cs; pattern = p }) r) ≡ false
-  candidate-too-late P n f l p k =
+  pub candidate-too-late : (C : Clock) (depot : ℕ) (longest : ℕ) → LongestHead C depot r longest → longest < getD cs 0 0 → (p : Pattern) → ForK (length cs) (p .order) (p .mask) →
+      timely C depot (reconnected (record { cuts = cs; pattern = p }) r) ≡ false
+  candidate-too-late C depot n f l p k =
       let c = getD cs 0 0 in
       let long : c ≤ length r = cut-below cs r cut-set 0 (omega (arith, cut-set .least)) in
       let whole : length (take c r) ≡ c = length-take-le c r long in
@@ -158,4 +161,4 @@ module _ (cs r : List ℕ) (cut-set : CutSet (length cs) (length r) cs) where
       ∙ append-assoc (take n r) (getD r n 0 ∷ drop (suc n) (take c r)) (middle r cs (p .order) (p .mask) ++ tail r cs) in
       let same : (g : ℕ → ℕ) → total g (take n r ++ (getD r n 0 ∷ rest)) ≡ total g r = λ g.
       ap (total g) (sym e) ∙ total-reconnected g (length r) (record { cuts = cs; pattern = p }) r (cut-set .rising) (for-k-order (length cs) (p .order) (p .mask) (omega (arith, cut-set .least)) k .once) in
-      ap (feasible P) e ∙ head-too-long P r n (f .beyond (omega arith)) rest same
+      ap (timely C depot) e ∙ head-too-long C depot r n (f .beyond (omega arith)) rest same

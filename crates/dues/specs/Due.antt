@@ -7,9 +7,9 @@ use Prim.Native.Nat.{ℕ, _+_, _-_, _*_, _^_, _≤_, _<_}
 use lib.Dec.{ltb}
 use lib.ListN.{length, getD, take}
 use lib.Seq.{slice}
-use Rattle.theory.specs.Route.{Problem}
+use Rattle.theory.specs.Route.{Clock}
 use Rattle.theory.specs.Costs.{backward}
-use Rattle.theory.specs.Tables.{LegTable, Stops, CutSet, problem}
+use Rattle.theory.specs.Tables.{LegTable, Stops, CutSet, clock-by}
 use Rattle.costs.specs.RouteCosts.{leg, Sums}
 use Rattle.growth.specs.Due.{Due, SegmentDues}
 use Rattle.joints.specs.States.{state-count, placed-in}
@@ -34,9 +34,9 @@ pub record DuesFillable (locations : ℕ) (legs latest route backward-sums cuts 
   pub places : length dues ≡ 9
 
 -- The dues of the first `count` middle segments: segment i, between the cuts i - 1 and i, as state 2 i - 2 and reversed as the next.
-pub record SegmentsDue (P : Problem) (cuts route : List ℕ) (count : ℕ) (dues : List ℕ) : Type 0 where
+pub record SegmentsDue (C : Clock) (cuts route : List ℕ) (count : ℕ) (dues : List ℕ) : Type 0 where
   pub places : length dues ≡ 9
-  pub each : (i : ℕ) → 1 ≤ i → i ≤ count → SegmentDues P (slice (getD cuts (i - 1) 0) (getD cuts i 0) route) (getD dues (2 * i - 2) 0) (getD dues (2 * i - 2 + 1) 0)
+  pub each : (i : ℕ) → 1 ≤ i → i ≤ count → SegmentDues C (slice (getD cuts (i - 1) 0) (getD cuts i 0) route) (getD dues (2 * i - 2) 0) (getD dues (2 * i - 2 + 1) 0)
 
 -- Along the states listed, from state a left at second t: each is left before its due.
 unfoldable pub in-time : List ℕ → List ℕ → ℕ → ℕ → List ℕ → Bool
@@ -59,20 +59,20 @@ pub record RowTimed (table rows dues : List ℕ) (i m clock : ℕ) : Type 0 wher
   pub early : clock ≤ 2 ^ 40
 
 -- The due of each state of a cut set.
-pub record DuesOf (P : Problem) (cuts route dues : List ℕ) : Type 0 where
+pub record DuesOf (C : Clock) (cuts route dues : List ℕ) : Type 0 where
   pub places : length dues ≡ 9
-  pub each : (s : ℕ) → s < state-count (length cuts) → Due P (placed-in cuts route s) (getD dues s 0)
+  pub each : (s : ℕ) → s < state-count (length cuts) → Due C (placed-in cuts route s) (getD dues s 0)
 
 -- The dues of the middle segments of the cuts `pre` and the last cut `end`.
-pub record DuesReach (P : Problem) (route pre dues : List ℕ) (end : ℕ) : Type 0 where
+pub record DuesReach (C : Clock) (route pre dues : List ℕ) (end : ℕ) : Type 0 where
   pub least : getD pre (length pre - 1) 0 < end
   pub most : end ≤ length route
-  pub due : SegmentsDue P (pre ++ (end ∷ [])) route (length pre) dues
+  pub due : SegmentsDue C (pre ++ (end ∷ [])) route (length pre) dues
 
 -- What the cut sets with the first cuts `pre` share: place 8 holds the last cut that the dues of the last middle segment reach, or 0 where no dues are held.
-pub record DuesHeld (P : Problem) (route pre dues : List ℕ) : Type 0 where
+pub record DuesHeld (C : Clock) (route pre dues : List ℕ) : Type 0 where
   pub places : length dues ≡ 9
-  pub held : (getD dues 8 0 ≡ 0) ⊎ DuesReach P route pre dues (getD dues 8 0)
+  pub held : (getD dues 8 0 ≡ 0) ⊎ DuesReach C route pre dues (getD dues 8 0)
 
 -- A cut set whose last cut lies no earlier than the one that the held dues reach, and what its dues are read from.
 pub record DuesReachable (locations : ℕ) (legs latest route backward-sums cuts dues : List ℕ) : Type 0 where
@@ -81,11 +81,11 @@ pub record DuesReachable (locations : ℕ) (legs latest route backward-sums cuts
   pub stops : Stops locations route
   pub backwards : Sums route (backward (leg locations legs) route) backward-sums
   pub cut-set : CutSet (length cuts) (length route) cuts
-  pub held : DuesHeld (problem locations legs latest 0) route (take (length cuts - 1) cuts) dues
+  pub held : DuesHeld (clock-by locations legs latest) route (take (length cuts - 1) cuts) dues
   pub behind : getD dues 8 0 ≤ getD cuts (length cuts - 1) 0
 
 -- The dues of every middle segment of a cut set, and in place 8 its last cut.
-pub record DuesReached (P : Problem) (route cuts dues : List ℕ) : Type 0 where
+pub record DuesReached (C : Clock) (route cuts dues : List ℕ) : Type 0 where
   pub places : length dues ≡ 9
   pub reach : getD dues 8 0 ≡ getD cuts (length cuts - 1) 0
-  pub due : SegmentsDue P cuts route (length cuts - 1) dues
+  pub due : SegmentsDue C cuts route (length cuts - 1) dues

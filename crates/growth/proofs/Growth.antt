@@ -10,9 +10,9 @@ use lib.Dec.{leb, ltb}
 use lib.ListN.{length, getD, take, drop}
 use lib.Seq.{slice, slice-cons, slice-empty, take-suc, drop-append-le, length-take-le}
 use borrow.Author.Tests.{lt-ltb, le-ltb, le-leb, lt-leb}
-use Rattle.theory.specs.Route.{Problem, path, reverse-if, on-time}
+use Rattle.theory.specs.Route.{Clock, path, reverse-if, on-time}
 use Rattle.theory.specs.Costs.{last-of, inner, backward}
-use Rattle.theory.specs.Tables.{problem}
+use Rattle.theory.specs.Tables.{clock-by}
 use Rattle.theory.proofs.Costs.{path-append, backward-inner}
 use Rattle.costs.proofs.Segments.{last-placed}
 use Rattle.deadlines.proofs.Along.{on-time-append}
@@ -50,39 +50,39 @@ swap false false = refl
 
 -- ---- a stop more
 
-pub due-one : (P : Problem) (x : ℕ) → Due P (x ∷ []) (P .latest x + 1)
+pub due-one : (C : Clock) (x : ℕ) → Due C (x ∷ []) (C .latest x + 1)
 unfolding on-time path
-due-one P x =
+due-one C x =
     record {
       is = λ a t.
-          let e : t + (P .leg a x + 0) ≡ t + P .leg a x = omega arith in
-          rw e (and-true (leb (t + P .leg a x) (P .latest x)) ∙ below (t + P .leg a x) (P .latest x));
+          let e : t + (C .leg a x + 0) ≡ t + C .leg a x = omega arith in
+          rw e (and-true (leb (t + C .leg a x) (C .latest x)) ∙ below (t + C .leg a x) (C .latest x));
     }
 
 one-leg : (d : ℕ → ℕ → ℕ) (a x : ℕ) → path d a (x ∷ []) ≡ d a x
 unfolding path
 one-leg d a x = omega arith
 
-pub due-behind : (P : Problem) (part : List ℕ) (g z y : ℕ) → Due P part g → ((a : ℕ) → last-of a part ≡ z) → Due P (part ++ (y ∷ [])) (min (g + P .leg z y) (P .latest y + 1))
-due-behind P part g z y due last =
+pub due-behind : (C : Clock) (part : List ℕ) (g z y : ℕ) → Due C part g → ((a : ℕ) → last-of a part ≡ z) → Due C (part ++ (y ∷ [])) (min (g + C .leg z y) (C .latest y + 1))
+due-behind C part g z y due last =
     record {
       is = λ a t.
-          let l = P .leg z y in
-          let e = t + path (P .leg) a part in
-          let whole : t + path (P .leg) a (part ++ (y ∷ [])) ≡ e + l = rw (path-append (P .leg) a part (y ∷ []), last a) (omega (arith, one-leg (P .leg) z y)) in
-          on-time-append P a t part (y ∷ [])
-          ∙ rw (due .is a t, last a, due-one P y .is z e, whole, one-leg (P .leg) z y) (ap (λ b. b && ltb (e + l) (P .latest y + 1)) (shift e g l) ∙ both (e + l) (g + l) (P .latest y + 1));
+          let l = C .leg z y in
+          let e = t + path (C .leg) a part in
+          let whole : t + path (C .leg) a (part ++ (y ∷ [])) ≡ e + l = rw (path-append (C .leg) a part (y ∷ []), last a) (omega (arith, one-leg (C .leg) z y)) in
+          on-time-append C a t part (y ∷ [])
+          ∙ rw (due .is a t, last a, due-one C y .is z e, whole, one-leg (C .leg) z y) (ap (λ b. b && ltb (e + l) (C .latest y + 1)) (shift e g l) ∙ both (e + l) (g + l) (C .latest y + 1));
     }
 
-pub due-before : (P : Problem) (part : List ℕ) (g y : ℕ) → Due P part g → Due P (y ∷ part) (min g (P .latest y + 1 + path (P .leg) y part))
+pub due-before : (C : Clock) (part : List ℕ) (g y : ℕ) → Due C part g → Due C (y ∷ part) (min g (C .latest y + 1 + path (C .leg) y part))
 unfolding on-time path
-due-before P part g y due =
+due-before C part g y due =
     record {
       is = λ a t.
-          let p = path (P .leg) y part in
-          let e = t + P .leg a y in
-          let whole : t + (P .leg a y + p) ≡ e + p = omega arith in
-          rw (due .is y e, whole, below e (P .latest y), shift e (P .latest y + 1) p) (swap (ltb (e + p) (P .latest y + 1 + p)) (ltb (e + p) g) ∙ both (e + p) g (P .latest y + 1 + p));
+          let p = path (C .leg) y part in
+          let e = t + C .leg a y in
+          let whole : t + (C .leg a y + p) ≡ e + p = omega arith in
+          rw (due .is y e, whole, below e (C .latest y), shift e (C .latest y + 1) p) (swap (ltb (e + p) (C .latest y + 1 + p)) (ltb (e + p) g) ∙ both (e + p) g (C .latest y + 1 + p));
     }
 
 -- ---- a segment of a route
@@ -96,8 +96,8 @@ slice-snoc r s e h k =
     (ap (drop s) (take-suc r e 0 k) ∙ drop-append-le s (take e r) (getD r e 0 ∷ []) (omega (arith, length-take-le e r (omega arith))))
 
 module _ {locations : ℕ} {legs latest r sums : List ℕ} {start end straight reversed : ℕ} (given : Growable locations legs latest r sums start end straight reversed) where
-  abbrev P : Problem
-  P = problem locations legs latest 0
+  abbrev C : Clock
+  C = clock-by locations legs latest
 
   abbrev stop : ℕ
   stop = getD r end 0
@@ -108,11 +108,11 @@ module _ {locations : ℕ} {legs latest r sums : List ℕ} {start end straight r
   turned-with : reverse (slice start (end + 1) r) ≡ stop ∷ reverse (slice start end r)
   turned-with = ap reverse (slice-snoc r start end (omega (arith, given .of .filled)) (given .more)) ∙ reverse-append (slice start end r) (stop ∷ [])
 
-  way-back : getD sums start 0 + path (P .leg) stop (reverse (slice start end r)) ≡ getD sums end 0
+  way-back : getD sums start 0 + path (C .leg) stop (reverse (slice start end r)) ≡ getD sums end 0
   unfolding inner
   way-back =
-      let b = backward-inner (P .leg) r start end (omega (arith, given .of .filled)) (given .more) in
-      let c = ap (inner (P .leg)) (ap (λ n. reverse (slice start n r)) (sym (add-one end)) ∙ turned-with) in
+      let b = backward-inner (C .leg) r start end (omega (arith, given .of .filled)) (given .more) in
+      let c = ap (inner (C .leg)) (ap (λ n. reverse (slice start n r)) (sym (add-one end)) ∙ turned-with) in
       omega (arith, b, c, given .of .backwards .each start (omega (arith, given .of .filled, given .of .within)), given .of .backwards .each end (given .more))
 
   pub rises : getD sums start 0 ≤ getD sums end 0
@@ -122,25 +122,25 @@ module _ {locations : ℕ} {legs latest r sums : List ℕ} {start end straight r
   unfolding reverse-if
   last-stop a = last-placed r start end (given .of .filled) (given .of .within) false a
 
-  pub grown : (own leg s v : ℕ) → own ≡ getD latest stop 0 + 1 → own ≤ 2 ^ 32 → leg ≡ P .leg last stop → s ≡ min (straight + leg) own → v ≡ min reversed (own + (getD sums end 0 - getD sums start 0)) →
-      SegmentDues P (slice start (end + 1) r) s v
+  pub grown : (own leg s v : ℕ) → own ≡ getD latest stop 0 + 1 → own ≤ 2 ^ 32 → leg ≡ C .leg last stop → s ≡ min (straight + leg) own → v ≡ min reversed (own + (getD sums end 0 - getD sums start 0)) →
+      SegmentDues C (slice start (end + 1) r) s v
   grown own leg s v o small l e f =
-      let b : getD sums end 0 - getD sums start 0 ≡ path (P .leg) stop (reverse (slice start end r)) = omega (arith, way-back) in
+      let b : getD sums end 0 - getD sums start 0 ≡ path (C .leg) stop (reverse (slice start end r)) = omega (arith, way-back) in
       record {
-        as-it-stands = rw (e, l, o, slice-snoc r start end (omega (arith, given .of .filled)) (given .more)) (due-behind P (slice start end r) straight last stop (given .dues .as-it-stands) last-stop);
-        turned = rw (f, b, o, turned-with) (due-before P (reverse (slice start end r)) reversed stop (given .dues .turned));
+        as-it-stands = rw (e, l, o, slice-snoc r start end (omega (arith, given .of .filled)) (given .more)) (due-behind C (slice start end r) straight last stop (given .dues .as-it-stands) last-stop);
+        turned = rw (f, b, o, turned-with) (due-before C (reverse (slice start end r)) reversed stop (given .dues .turned));
         small = omega (arith, e, small);
         turned-small = omega (arith, f, given .dues .turned-small);
       }
 
 -- The first stop of a segment alone.
 module _ {locations : ℕ} {legs latest r sums : List ℕ} {start end : ℕ} (given : Spannable locations legs latest r sums start end) where
-  pub alone : (own : ℕ) → own ≡ getD latest (getD r start 0) 0 + 1 → own ≤ 2 ^ 32 → SegmentDues (problem locations legs latest 0) (slice start (start + 1) r) own own
+  pub alone : (own : ℕ) → own ≡ getD latest (getD r start 0) 0 + 1 → own ≤ 2 ^ 32 → SegmentDues (clock-by locations legs latest) (slice start (start + 1) r) own own
   alone own o small =
       let one : slice start (start + 1) r ≡ getD r start 0 ∷ [] = slice-one r start (omega (arith, given .filled, given .within)) in
       record {
-        as-it-stands = rw (one, o) (due-one (problem locations legs latest 0) (getD r start 0));
-        turned = rw (one, o) (due-one (problem locations legs latest 0) (getD r start 0));
+        as-it-stands = rw (one, o) (due-one (clock-by locations legs latest) (getD r start 0));
+        turned = rw (one, o) (due-one (clock-by locations legs latest) (getD r start 0));
         small = small;
         turned-small = small;
       }

@@ -5,28 +5,24 @@ use Prim.Native.Nat.{ℕ, _+_, _^_, _≤_, _<_}
 use lib.Dec.{ltb}
 use lib.ListN.{length, getD}
 use lib.Seq.{slice}
-use Rattle.theory.specs.Route.{Problem, path, on-time}
+use Rattle.theory.specs.Route.{Clock, path, on-time}
 use Rattle.theory.specs.Costs.{backward}
-use Rattle.theory.specs.Tables.{LegTable, Stops, problem}
+use Rattle.theory.specs.Tables.{LegTable, Stops, clock-by}
 use Rattle.costs.specs.RouteCosts.{leg, Sums}
 
 -- "A stop is late if the legs from the depot up to it exceed its latest": from wherever and at whatever second one sets out, no stop of the part is late
 -- exactly where its last one is reached before the due.
-pub record Due (P : Problem) (part : List ℕ) (due : ℕ) : Type 0 where
-  pub is : (a t : ℕ) → on-time P a t part ≡ ltb (t + path (P .leg) a part) due
-
-pub record OwnDue (latest : List ℕ) (stop : ℕ) : Type 0 where
-  pub known : stop < length latest
-  pub few : length latest ≤ 1024
+pub record Due (C : Clock) (part : List ℕ) (due : ℕ) : Type 0 where
+  pub is : (a t : ℕ) → on-time C a t part ≡ ltb (t + path (C .leg) a part) due
 
 pub record OwnDueIs (latest : List ℕ) (stop due : ℕ) : Type 0 where
   pub is : due ≡ getD latest stop 0 + 1
   pub small : due ≤ 2 ^ 32
 
 -- A segment as it stands and reversed.
-pub record SegmentDues (P : Problem) (segment : List ℕ) (straight reversed : ℕ) : Type 0 where
-  pub as-it-stands : Due P segment straight
-  pub turned : Due P (reverse segment) reversed
+pub record SegmentDues (C : Clock) (segment : List ℕ) (straight reversed : ℕ) : Type 0 where
+  pub as-it-stands : Due C segment straight
+  pub turned : Due C (reverse segment) reversed
   pub small : straight ≤ 2 ^ 32
   pub turned-small : reversed ≤ 2 ^ 32
 
@@ -43,11 +39,11 @@ pub record Spannable (locations : ℕ) (legs latest route backward-sums : List �
 pub record Growable (locations : ℕ) (legs latest route backward-sums : List ℕ) (start end straight reversed : ℕ) : Type 0 where
   pub of : Spannable locations legs latest route backward-sums start end
   pub more : end < length route
-  pub dues : SegmentDues (problem locations legs latest 0) (slice start end route) straight reversed
+  pub dues : SegmentDues (clock-by locations legs latest) (slice start end route) straight reversed
 
 -- A segment whose dues are known, with the stops up to `to` behind it.
 pub record GrowableTo (locations : ℕ) (legs latest route backward-sums : List ℕ) (start end to straight reversed : ℕ) : Type 0 where
   pub of : Spannable locations legs latest route backward-sums start end
   pub least : end ≤ to
   pub most : to ≤ length route
-  pub dues : SegmentDues (problem locations legs latest 0) (slice start end route) straight reversed
+  pub dues : SegmentDues (clock-by locations legs latest) (slice start end route) straight reversed

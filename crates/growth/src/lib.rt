@@ -1,9 +1,10 @@
 // The due of a segment, the second before which it must be left, as it stands and reversed: grown stop by stop. No entry: crate dues calls it.
-ghost use mathlib.Core.Path.{_≡_};
-ghost use Prim.Native.Nat.{min, _+_};
+use deadlines::least;
+ghost use Prim.Native.Nat.{_+_};
 ghost use lib.Seq.{slice};
-ghost use Rattle.theory.specs.Tables.{problem};
-ghost use Rattle.growth.specs.Due.{OwnDue, OwnDueIs, Growable, GrowableTo, Spannable, SegmentDues};
+ghost use Rattle.theory.specs.Tables.{clock-by};
+ghost use Rattle.deadlines.specs.Lateness.{LatestOf};
+ghost use Rattle.growth.specs.Due.{OwnDueIs, Growable, GrowableTo, Spannable, SegmentDues};
 
 // The dues of a segment as it stands and reversed.
 pub struct Dues {
@@ -11,22 +12,12 @@ pub struct Dues {
     pub reversed: u64,
 }
 
-fn least(a: u64, b: u64) -> u64
-    ensures { λ r. ⌜ r ≡ min a b ⌝ }
-{
-    if a < b {
-        return a;
-    }
-    b
-}
-
 // The second behind the latest one of a stop.
 fn own_due(latest: &[u32], stop: u32) -> u64
-    requires { ⌜ OwnDue (now latest) stop ⌝ }
+    requires { ⌜ LatestOf (now latest) stop ⌝ }
     ensures { λ r. ⌜ OwnDueIs (now (latest .entry)) stop r ⌝ }
 {
-    let place = stop as usize;
-    latest[place] as u64 + 1
+    deadlines::latest_of(latest, stop) + 1
 }
 
 // The dues of route[start..end + 1] from those of route[start..end].
@@ -42,7 +33,7 @@ fn take_in(
     reversed: u64,
 ) -> Dues
     requires { ⌜ Growable locations (now legs) (now latest) (now route) (now backward) start end straight reversed ⌝ }
-    ensures { λ r. ⌜ SegmentDues (problem locations (now (legs .entry)) (now (latest .entry)) 0) (slice start (end + 1) (now (route .entry))) (r .straight) (r .reversed) ⌝ }
+    ensures { λ r. ⌜ SegmentDues (clock-by locations (now (legs .entry)) (now (latest .entry))) (slice start (end + 1) (now (route .entry))) (r .straight) (r .reversed) ⌝ }
 {
     let last = route[end - 1];
     let stop = route[end];
@@ -69,7 +60,7 @@ pub fn grow_dues(
     reversed: u64,
 ) -> Dues
     requires { ⌜ GrowableTo locations (now legs) (now latest) (now route) (now backward) start from to straight reversed ⌝ }
-    ensures { λ r. ⌜ SegmentDues (problem locations (now (legs .entry)) (now (latest .entry)) 0) (slice start to (now (route .entry))) (r .straight) (r .reversed) ⌝ }
+    ensures { λ r. ⌜ SegmentDues (clock-by locations (now (legs .entry)) (now (latest .entry))) (slice start to (now (route .entry))) (r .straight) (r .reversed) ⌝ }
 {
     let mut dues = Dues { straight, reversed };
     let mut upto = from;
@@ -101,7 +92,7 @@ pub fn segment_dues(
     end: usize,
 ) -> Dues
     requires { ⌜ Spannable locations (now legs) (now latest) (now route) (now backward) start end ⌝ }
-    ensures { λ r. ⌜ SegmentDues (problem locations (now (legs .entry)) (now (latest .entry)) 0) (slice start end (now (route .entry))) (r .straight) (r .reversed) ⌝ }
+    ensures { λ r. ⌜ SegmentDues (clock-by locations (now (legs .entry)) (now (latest .entry))) (slice start end (now (route .entry))) (r .straight) (r .reversed) ⌝ }
 {
     let own = own_due(latest, route[start]);
     grow_dues(

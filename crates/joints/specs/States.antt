@@ -9,7 +9,7 @@ use lib.ListN.{length, getD, replicate}
 use lib.Seq.{slice}
 use Rattle.theory.specs.Moves.{Pattern, upfrom}
 use Rattle.theory.specs.Route.{segments, reverses, reverse-if}
-use Rattle.theory.specs.Tables.{pattern-rows}
+use Rattle.theory.specs.Tables.{ForK, pattern-rows}
 
 -- How many states the middle segments of k cuts have.
 abbrev pub state-count : ℕ → ℕ
@@ -41,8 +41,20 @@ row rows i = slice (4 * i) (4 * i + 4) rows
 abbrev pub pattern-row : ℕ → List ℕ → List ℕ → ℕ → Pattern
 pattern-row k orders masks i = getD (pattern-rows k orders masks) i (record { order = []; mask = 0 })
 
+-- What `move-at` reads beyond the list.
+abbrev pub no-pattern : Pattern
+no-pattern = record { order = []; mask = 0 }
+
 -- The first `count` rows are those of the patterns, in their order.
 pub record StateRows (k : ℕ) (orders masks : List ℕ) (count : ℕ) (rows : List ℕ) : Type 0 where
   pub places : length rows ≡ 1532
   pub each : (i : ℕ) → i < count → row rows i ≡ states k (pattern-row k orders masks i .order) (pattern-row k orders masks i .mask)
   pub small : (c : ℕ) → c < 4 * count → getD rows c 0 ≤ 8
+
+-- A list of patterns for k cuts as rows of states.
+pub record Patterned (k : ℕ) (ps : List Pattern) (rows : List ℕ) : Type 0 where
+  pub few : length ps ≤ 383
+  pub places : length rows ≡ 1532
+  pub for-k : (i : ℕ) → i < length ps → ForK k (getD ps i no-pattern .order) (getD ps i no-pattern .mask)
+  pub each : (i : ℕ) → i < length ps → row rows i ≡ states k (getD ps i no-pattern .order) (getD ps i no-pattern .mask)
+  pub small : (c : ℕ) → c < 4 * length ps → getD rows c 0 ≤ 8

@@ -6,8 +6,8 @@ use mathlib.Core.List.{List, [], _∷_}
 use Prim.Native.Nat.{ℕ}
 use native.Mathlib.Omega.{arith}
 use lib.ListN.{length, getD}
-use Rattle.theory.specs.Route.{Problem, Feasible}
-use Rattle.theory.specs.Tables.{problem, Timed}
+use Rattle.theory.specs.Route.{Clock, Timely}
+use Rattle.theory.specs.Tables.{clock-by, Timed}
 use Rattle.theory.specs.Refusals.{refusal, problem-rules}
 use Rattle.theory.specs.Answers.{reply, Checked, Verdict, deadline-position, feasibility-answer}
 use Rattle.theory.specs.declared.Deadline.{Deadline}
@@ -17,7 +17,7 @@ use Rattle.theory.specs.declared.Feasibility.the-variants as Answer
 use Rattle.theory.proofs.Refusals.{known}
 use Rattle.theory.proofs.LastRule.{early}
 use Rattle.theory.proofs.Judged.{measurable-fine, deadlines-fine}
-use Rattle.deadlines.proofs.Answer.{kept-feasible, late-infeasible}
+use Rattle.deadlines.proofs.Answer.{kept-timely, late-untimely}
 use Rattle.replies.specs.Handed.{Handed}
 use Rattle.mittenschist.specs.Promises.{Says, FeasibleReply, FeasibleWritten}
 use Rattle.theory.proofs.Taken.{refused-reply, taken-reply, taken-passes}
@@ -42,7 +42,7 @@ module _ (locations : ℕ) (legs latest : List ℕ) (depot : ℕ) (route : List 
           deadlines = deadlines-fine locations latest (p .1 .0);
         }
 
-    pub checked : (d : Deadline) → Checked (problem locations legs latest depot) route d → FeasibleReply locations legs latest depot route (Answer.Checked d)
+    pub checked : (d : Deadline) → Checked (clock-by locations legs latest) depot route d → FeasibleReply locations legs latest depot route (Answer.Checked d)
     checked d c =
         record {
           position = deadline-position (length route) d;
@@ -55,23 +55,23 @@ no-value : (n position : ℕ) → feasibility-answer 0 (Answer.Refused n) ≡ re
 no-value n position e = let z : _≡_ {A = ℕ} 0 1 = ap (λ a. length (a .values)) e in omega arith
 
 -- What the value says that is written for an answer.
-verdict-of : (P : Problem) (route : List ℕ) (position : ℕ) (answer : Feasibility) → Says P route answer → feasibility-answer (length route) answer ≡ reply 0 (position ∷ []) →
-    Verdict P route position
-verdict-of P route position (Answer.Refused n) s e = absurd (no-value n position e)
-verdict-of P route position (Answer.Checked d) s e = subst (Verdict P route) (ap (λ a. getD (a .values) 0 0) e) (by d s)
+verdict-of : (C : Clock) (depot : ℕ) (route : List ℕ) (position : ℕ) (answer : Feasibility) → Says C depot route answer → feasibility-answer (length route) answer ≡ reply 0 (position ∷ []) →
+    Verdict C depot route position
+verdict-of C depot route position (Answer.Refused n) s e = absurd (no-value n position e)
+verdict-of C depot route position (Answer.Checked d) s e = subst (Verdict C depot route) (ap (λ a. getD (a .values) 0 0) e) (by d s)
   where
-    by : (d : Deadline) → Checked P route d → Verdict P route (deadline-position (length route) d)
+    by : (d : Deadline) → Checked C depot route d → Verdict C depot route (deadline-position (length route) d)
     by Kept c = inl (refl, c)
     by (Late p) c = inr c
 
 -- The promise leaves a kept route one answer: not late at the number of stops, though that has the same value.
 pub kept-forced : (locations : ℕ) (legs latest : List ℕ) (depot : ℕ) (route : List ℕ) (answer : Feasibility) → FeasibleReply locations legs latest depot route answer →
-    refusal (problem-rules locations legs latest depot route) ≡ 0 → Feasible (problem locations legs latest depot) route → answer ≡ Answer.Checked Kept
+    refusal (problem-rules locations legs latest depot route) ≡ 0 → Timely (clock-by locations legs latest) depot route → answer ≡ Answer.Checked Kept
 kept-forced locations legs latest depot route (Answer.Refused n) a z f =
     absurd (no-value n (a .position) (a .reply-is ∙ ap (λ n. reply n (a .position ∷ [])) z))
 kept-forced locations legs latest depot route (Answer.Checked Kept) a z f = refl
 kept-forced locations legs latest depot route (Answer.Checked (Late p)) a z f =
-    absurd (true≢false (sym (kept-feasible (problem locations legs latest depot) route f) ∙ late-infeasible (problem locations legs latest depot) route (a .says)))
+    absurd (true≢false (sym (kept-timely (clock-by locations legs latest) depot route f) ∙ late-untimely (clock-by locations legs latest) depot route (a .says)))
 
 pub handed-written : (locations : ℕ) (legs latest : List ℕ) (depot : ℕ) (route result : List ℕ) (answer : Feasibility) → FeasibleReply locations legs latest depot route answer →
     (n : ℕ) (result′ : List ℕ) → Handed (feasibility-answer (length route) answer) result n result′ → FeasibleWritten locations legs latest depot route result n result′
@@ -83,5 +83,5 @@ handed-written locations legs latest depot route result answer a n result′ h =
       written = w;
       verdict = λ z.
           let taken = not-refused (problem-rules locations legs latest depot route) refl (a .position ∷ []) result n result′ w z in
-          verdict-of (problem locations legs latest depot) route (a .position) answer (a .says) (a .reply-is ∙ ap (λ n. reply n (a .position ∷ [])) taken);
+          verdict-of (clock-by locations legs latest) depot route (a .position) answer (a .says) (a .reply-is ∙ ap (λ n. reply n (a .position ∷ [])) taken);
     }

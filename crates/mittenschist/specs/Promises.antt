@@ -7,9 +7,9 @@ use lib.Dec.{ltb}
 use lib.Ieee.{Float}
 use lib.ListN.{length, getD, drop, replicate}
 use Rattle.theory.specs.Moves.{Pattern, patterns, next-cuts}
-use Rattle.theory.specs.Route.{Problem, tour-length, reconnected}
+use Rattle.theory.specs.Route.{Clock, tour-length, reconnected}
 use Rattle.theory.specs.Polish.{move-at, polish, Demand3}
-use Rattle.theory.specs.Tables.{problem, legs-only}
+use Rattle.theory.specs.Tables.{problem, clock-by, legs-only}
 use Rattle.theory.specs.Refusals.{Rule, refusal, if-taken, problem-rules}
 use Rattle.judging.specs.Rules.{pattern-rules, next-cut-set-rules, reconnect-rules, route-length-rules, delta-rules, polish-rules, run-rules, nearby-rules, with-room}
 use Rattle.theory.specs.Answers.{reply, step-answer, length-answer, delta-answer, feasibility-answer, listing-answer, Checked, Verdict, five-numbers, handed-back}
@@ -77,20 +77,20 @@ pub record DeltaReply (k pattern : ℕ) (cuts : List ℕ) (locations : ℕ) (leg
 -- ---- deadline check
 
 -- What an answer says of a route: what the check does, by the case it holds. A refusal says nothing.
-abbrev pub Says : Problem → List ℕ → Feasibility → Type 0
-Says P route (Judged.Refused n) = Unit {0}
-Says P route (Judged.Checked d) = Checked P route d
+abbrev pub Says : Clock → (depot : ℕ) → List ℕ → Feasibility → Type 0
+Says C depot route (Judged.Refused n) = Unit {0}
+Says C depot route (Judged.Checked d) = Checked C depot route d
 
 -- The late position is loose, and nothing else is. One value alone leaves the case open, since kept is written as the number of stops; so the answer itself is held to the route.
 pub record FeasibleReply (locations : ℕ) (legs latest : List ℕ) (depot : ℕ) (route : List ℕ) (answer : Feasibility) : Type 0 where
   pub position : ℕ
   pub reply-is : feasibility-answer (length route) answer ≡ reply (refusal (problem-rules locations legs latest depot route)) (position ∷ [])
-  pub says : Says (problem locations legs latest depot) route answer
+  pub says : Says (clock-by locations legs latest) depot route answer
 
 pub record FeasibleWritten (locations : ℕ) (legs latest : List ℕ) (depot : ℕ) (route result : List ℕ) (answer : ℕ) (result′ : List ℕ) : Type 0 where
   pub position : ℕ
   pub written : Written (problem-rules locations legs latest depot route) 1 (position ∷ []) result answer result′
-  pub verdict : answer ≡ 0 → Verdict (problem locations legs latest depot) route position
+  pub verdict : answer ≡ 0 → Verdict (clock-by locations legs latest) depot route position
 
 -- ---- polishing
 

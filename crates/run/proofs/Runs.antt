@@ -4,7 +4,7 @@ use mathlib.Core.List.{List, [], _∷_, _++_, map}
 use Prim.Native.Nat.{ℕ}
 use lib.ListN.{getD}
 use Rattle.theory.specs.Moves.{total, patterns, cut-sets, candidates}
-use Rattle.theory.specs.Route.{Problem, tour-length, feasible, reconnected}
+use Rattle.theory.specs.Route.{Problem, tour-length, timely, reconnected}
 use Rattle.theory.specs.Scan.{scan-from}
 use Rattle.pair_loop.specs.PairLoop.{pair-loop}
 use Rattle.round.specs.Round.{run-round}
@@ -61,5 +61,5 @@ runs =
     ∷ []
 
 pub runs-right : map (λ q. answer (q .0)) runs ≡ map (λ q. q .1) runs
-unfolding answer run-round total pair-loop scan-from candidates patterns cut-sets tour-length feasible reconnected
+unfolding answer run-round total pair-loop scan-from candidates patterns cut-sets tour-length timely reconnected
 runs-right = refl

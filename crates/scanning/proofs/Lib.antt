@@ -1,4 +1,3 @@
 mod Scanning
 mod NextCuts
 mod Passing
-mod Taking

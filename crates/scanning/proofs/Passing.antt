@@ -13,8 +13,7 @@ use Rattle.theory.specs.Moves.{next-cuts}
 use Rattle.theory.specs.Costs.{forward, backward}
 use Rattle.theory.specs.Route.{reconnected, feasible}
 use Rattle.theory.specs.Polish.{search-of, polish-with, move-at}
-use Rattle.theory.specs.Tables.{problem, Stops, CutSet, pattern-rows}
-use Rattle.theory.proofs.Stops.{stops-rearranged}
+use Rattle.theory.specs.Tables.{problem, clock-by, CutSet, pattern-rows}
 use Rattle.theory.proofs.Polishing.{within, as-long, gained, passed, finishes, is-spent}
 use Rattle.cuts.specs.Step.{found, or-kept, Stepped}
 use Rattle.costs.specs.RouteCosts.{leg, Sums}
@@ -25,11 +24,13 @@ use Rattle.joints.specs.JointTable.{Padded}
 use Rattle.shared.specs.Kept.{Opened, first-cuts, last-cut}
 use Rattle.shared.proofs.Keeping.{cuts-parted, first-many}
 use Rattle.stretches.specs.declared.Stretch.{Stretch}
-use Rattle.stretches.specs.Stretch.{Stretchable, Stretched}
+use Rattle.stretches.specs.Stretch.{Stretchable, Ended, Stretched}
+use Rattle.taking.specs.Candidate.{candidate, Candidate}
+use Rattle.taking.specs.Measure.{Measured, Cleared}
 use Rattle.stretches.proofs.Counting.{count-least, count-next}
-use Rattle.scanning.specs.Loop.{Scannable, Measured, Cleared}
+use Rattle.scanning.specs.Loop.{Scannable}
 use Rattle.scanning.proofs.NextCuts.{next-last, next-opened}
-use Rattle.scanning.proofs.Scanning.{At, many, for-cuts, timed, own-cuts, own-rows, own-states, first-set}
+use Rattle.scanning.proofs.Scanning.{At, many, for-cuts, timed, own-cuts, own-list, first-set}
 
 -- The first cut set is the first with its first cuts.
 pub first-opened : (k : ℕ) → 2 ≤ k → k ≤ 5 → Opened (take k (0 ∷ 1 ∷ 2 ∷ 3 ∷ 4 ∷ []))
@@ -126,23 +127,19 @@ module _ (k locations : ℕ) (legs latest : List ℕ) (depot : ℕ) (orders mask
 
     -- ---- before a stretch
 
-    pub stretchable : {forwards backwards table spare late : List ℕ} {longest : ℕ} → Measured locations legs latest depot r forwards backwards longest late → Padded table → length spare ≡ 512 → Opened cuts →
-        Stretchable locations legs latest depot orders masks rows r forwards backwards longest late cuts table spare
-    stretchable m p s o =
+    pub stretchable : {forwards backwards table late : List ℕ} {longest : ℕ} → Measured locations legs latest depot r forwards backwards longest late → Padded table → Opened cuts →
+        Stretchable locations legs latest depot rows (length masks) r forwards backwards longest late cuts table
+    stretchable m p o =
         record {
-          gainable = record {
-            searchable = record {
-              timed = timed k locations legs latest depot orders masks rows route₀ A ok cuts e c r now;
-              forwards = m .forwards;
-              backwards = m .backwards;
-              cut-set = own-cuts k locations legs latest depot orders masks rows route₀ A ok cuts e c r now;
-              rows = own-rows k locations legs latest depot orders masks rows route₀ A ok cuts e c r now;
-              allowed = omega arith;
-            };
-            state-rows = own-states k locations legs latest depot orders masks rows route₀ A ok cuts e c r now;
-            padded = p;
-            places = s;
+          searchable = record {
+            timed = timed k locations legs latest depot orders masks rows route₀ A ok cuts e c r now;
+            forwards = m .forwards;
+            backwards = m .backwards;
+            cut-set = own-cuts k locations legs latest depot orders masks rows route₀ A ok cuts e c r now;
           };
+          list = pattern-rows k orders masks;
+          listed = own-list k locations legs latest depot orders masks rows route₀ A ok cuts e c r now;
+          padded = p;
           first = o;
           head = m .head;
           latenesses = m .latenesses;
@@ -150,15 +147,12 @@ module _ (k locations : ℕ) (legs latest : List ℕ) (depot : ℕ) (orders mask
 
     -- ---- behind a stretch
 
-    module _ {answer : Stretch} {cuts′ table spare : List ℕ} (end : Stretched (problem locations legs latest depot) (pattern-rows (length cuts) orders masks) r cuts (A - e) answer cuts′ table spare) where
-      counted : length (pattern-rows (length cuts) orders masks) ≡ length masks
-      counted = ap (λ n. length (pattern-rows n orders masks)) own ∙ as-many
-
-      by-own : (t x : ℕ) → improves (search-of (problem locations legs latest depot) (pattern-rows (length cuts) orders masks) (length cuts) (length r)) r (move-at (pattern-rows (length cuts) orders masks) (first-cuts cuts ++ (t ∷ [])) x) ≡ improves-at t x
-      by-own t x = ap (λ n. improves (search-of (problem locations legs latest depot) (pattern-rows n orders masks) n (length r)) r (move-at (pattern-rows n orders masks) (first-cuts cuts ++ (t ∷ [])) x)) own
+    module _ {answer : Stretch} {cuts′ table : List ℕ} (stretched : Stretched (problem locations legs latest depot) (length masks) rows r cuts (A - e) answer cuts′ table) where
+      end : Ended (problem locations legs latest depot) (pattern-rows k orders masks) r cuts (A - e) answer cuts′
+      end = stretched .ended (pattern-rows k orders masks) (own-list k locations legs latest depot orders masks rows route₀ A ok cuts e c r now)
 
       idle : (t x : ℕ) → last-cut cuts ≤ t → t ≤ length r → x < length masks → (t - last-cut cuts) * length masks + x < answer .examined → improves-at t x ≡ false
-      idle t x h l y n = sym (by-own t x) ∙ end .idle t x h l (rw counted y) (rw counted n)
+      idle t x h l y n = end .idle t x h l (rw as-many y) (rw as-many n)
 
       -- The cut sets before the last cut t, all their candidates being examined.
       reached : (t : ℕ) → last-cut cuts ≤ t → t ≤ length r → (t - last-cut cuts) * length masks ≤ answer .examined →
@@ -174,24 +168,21 @@ module _ (k locations : ℕ) (legs latest : List ℕ) (depot : ℕ) (orders mask
       in-allowance = omega (arith, end .allowed, below)
 
       -- The candidate of its number is accepted, and the scan begins again.
-      module _ (g : answer .gains ≡ true) (r′ : List ℕ) (is : r′ ≡ take (length r) spare) where
+      module _ (g : answer .gains ≡ true) where
         abbrev t : ℕ
         t = end .gain g .1 .last
 
         abbrev i : ℕ
-        i = end .gain g .1 .pattern
+        i = answer .pattern
 
         number : answer .examined ≡ (t - last-cut cuts) * length masks + i
-        number = end .gain g .1 .is ∙ ap (λ n. (t - last-cut cuts) * n + i) counted
+        number = end .gain g .1 .is ∙ ap (λ n. (t - last-cut cuts) * n + i) as-many
 
         listed : i < length masks
-        listed = rw counted at (end .gain g .1 .listed)
+        listed = rw as-many at (end .gain g .1 .listed)
 
         gains-there : improves-at t i ≡ true
-        gains-there = sym (by-own t i) ∙ end .gain g .1 .improves
-
-        built : r′ ≡ reconnected (move-at (pattern-rows k orders masks) (first-cuts cuts ++ (t ∷ [])) i) r
-        built = is ∙ end .gain g .1 .built ∙ ap (λ n. reconnected (move-at (pattern-rows n orders masks) (first-cuts cuts ++ (t ∷ [])) i) r) own
+        gains-there = end .gain g .1 .improves
 
         there : At k locations legs latest depot orders masks rows route₀ A ok (first-cuts cuts ++ (t ∷ [])) (e + (t - last-cut cuts) * length masks) c r
         there = reached t (end .gain g .1 .least) (end .gain g .1 .most) (omega (arith, number))
@@ -199,45 +190,58 @@ module _ (k locations : ℕ) (legs latest : List ℕ) (depot : ℕ) (orders mask
         pub room-for-it : e + answer .examined + 1 ≤ A
         room-for-it = omega (arith, end .gain g .0, below)
 
-        pub begins-again : At k locations legs latest depot orders masks rows route₀ A ok (take k (0 ∷ 1 ∷ 2 ∷ 3 ∷ 4 ∷ [])) (e + answer .examined + 1) (c + 1) r′
-        begins-again =
-            let z : e + answer .examined + 1 ≡ e + (t - last-cut cuts) * length masks + (i + 1) = omega (arith, number) in
-            rw (first-set k (ok .most), built, z)
-            (gained (problem locations legs latest depot) (pattern-rows k orders masks) k A route₀ (first-cuts cuts ++ (t ∷ [])) (e + (t - last-cut cuts) * length masks) c r there i (omega (arith, as-many, listed)) (omega (arith, number, room-for-it))
-            (λ x h. idle t x (end .gain g .1 .least) (end .gain g .1 .most) (omega (arith, listed)) (omega (arith, number)))
-            (for-cuts k locations legs latest depot orders masks rows route₀ A ok) (omega (arith, as-many, listed)) (omega (arith, number, room-for-it)) gains-there)
+        own-cuts-there : CutSet (length cuts′) (length r) cuts′
+        own-cuts-there = rw (end .gain g .1 .cuts-are) (own-cuts k locations legs latest depot orders masks rows route₀ A ok (first-cuts cuts ++ (t ∷ [])) _ c r there)
 
-        pub candidate-stops : Stops locations r′
-        candidate-stops = stops-rearranged route₀ r′ (begins-again .same) locations (ok .timed .measurable .stops)
+        many-there : length cuts′ ≡ k
+        many-there = ap length (end .gain g .1 .cuts-are) ∙ there .cut-set .many
 
-        then-kept : feasible (problem locations legs latest depot) r′ ≡ true
-        then-kept = rw built (both-true _ _ gains-there)
+        pub takeable : Candidate r cuts′ orders masks i
+        takeable = record { cut-set = own-cuts-there; patterns = rw many-there (ok .patterns); listed = listed }
 
-        -- It is measured by its sums, since no stop is late.
-        pub measured-anew : {forwards backwards late late′ : List ℕ} → Latenesses (problem locations legs latest depot) r late → Cleared (length r) late late′ → length r′ ≡ length r →
-            Sums r′ (forward (leg locations legs) r′) forwards → Sums r′ (backward (leg locations legs) r′) backwards → Measured locations legs latest depot r′ forwards backwards (length r′) late′
-        measured-anew {late = late} old cleared long f b =
-            let P = problem locations legs latest depot in
-            let none = cleared .none (λ z j l. old .each j l ∙ none-late P r j (sym (old .each 0 (omega arith)) ∙ z)) in
-            record {
-              forwards = f;
-              backwards = b;
-              head = kept-head P r′ then-kept;
-              latenesses = record { places = cleared .places; each = λ j l. none j (omega arith) ∙ sym (none-late P r′ j (kept-not-late P r′ then-kept)) };
-            }
+        module _ (r′ : List ℕ) (is : r′ ≡ candidate r cuts′ orders masks i) where
+          built : r′ ≡ reconnected (move-at (pattern-rows k orders masks) (first-cuts cuts ++ (t ∷ [])) i) r
+          built =
+              is
+              ∙ ap (λ n. reconnected (move-at (pattern-rows n orders masks) cuts′ i) r) many-there
+              ∙ ap (λ cs. reconnected (move-at (pattern-rows k orders masks) cs i) r) (end .gain g .1 .cuts-are)
+
+          pub begins-again : At k locations legs latest depot orders masks rows route₀ A ok (take k (0 ∷ 1 ∷ 2 ∷ 3 ∷ 4 ∷ [])) (e + answer .examined + 1) (c + 1) r′
+          begins-again =
+              let z : e + answer .examined + 1 ≡ e + (t - last-cut cuts) * length masks + (i + 1) = omega (arith, number) in
+              rw (first-set k (ok .most), built, z)
+              (gained (problem locations legs latest depot) (pattern-rows k orders masks) k A route₀ (first-cuts cuts ++ (t ∷ [])) (e + (t - last-cut cuts) * length masks) c r there i (omega (arith, as-many, listed)) (omega (arith, number, room-for-it))
+              (λ x h. idle t x (end .gain g .1 .least) (end .gain g .1 .most) (omega (arith, listed)) (omega (arith, number)))
+              (for-cuts k locations legs latest depot orders masks rows route₀ A ok) (omega (arith, as-many, listed)) (omega (arith, number, room-for-it)) gains-there)
+
+          then-kept : feasible (problem locations legs latest depot) r′ ≡ true
+          then-kept = rw built (both-true _ _ gains-there)
+
+          -- It is measured by its sums, since no stop is late.
+          pub measured-anew : {forwards backwards late late′ : List ℕ} → Latenesses (clock-by locations legs latest) depot r late → Cleared (length r) late late′ → length r′ ≡ length r →
+              Sums r′ (forward (leg locations legs) r′) forwards → Sums r′ (backward (leg locations legs) r′) backwards → Measured locations legs latest depot r′ forwards backwards (length r′) late′
+          measured-anew {late = late} old cleared long f b =
+              let C = clock-by locations legs latest in
+              let none = cleared .none (λ z j l. old .each j l ∙ none-late C depot r j (sym (old .each 0 (omega arith)) ∙ z)) in
+              record {
+                forwards = f;
+                backwards = b;
+                head = kept-head C depot r′ then-kept;
+                latenesses = record { places = cleared .places; each = λ j l. none j (omega arith) ∙ sym (none-late C depot r′ j (kept-not-late C depot r′ then-kept)) };
+              }
 
       pub spent-now : answer .gains ≡ false → answer .through ≡ false →
           record { finished = false; examined = e + answer .examined; accepted = c; route = r } ≡ polish-with (problem locations legs latest depot) (pattern-rows k orders masks) k A route₀
       spent-now g w =
           let all = end .spent g w .0 in
           let z : e + answer .examined ≡ A = omega (arith, all, below) in
-          let few = rw counted at (end .spent g w .1) in
+          let few = rw as-many at (end .spent g w .1) in
           let s : suc (length r - last-cut cuts) ≡ length r + 1 - last-cut cuts = omega (arith, last-below) in
           rw z (spent-run (length r - last-cut cuts) (last-cut cuts) e here (λ u x p q y n. idle u x p (omega (arith, last-below)) y (omega (arith, n, all))) (rw s (omega (arith, few, below))) (omega (arith, same, last-below)))
 
       module _ (w : answer .through ≡ true) where
         over : answer .examined ≡ (length r + 1 - last-cut cuts) * length masks
-        over = end .over w .0 ∙ ap (λ n. (length r + 1 - last-cut cuts) * n) counted
+        over = end .over w .0 ∙ ap (λ n. (length r + 1 - last-cut cuts) * n) as-many
 
         pub some-examined : 0 < answer .examined
         some-examined = rw over (mul-pos (omega (arith, last-below)) (ok .some))

@@ -7,11 +7,11 @@ use lib.ListN.{length, take}
 use Rattle.theory.specs.Moves.{upfrom}
 use Rattle.theory.specs.Polish.{ForCuts}
 use Rattle.theory.specs.Tables.{problem, Timed, CutSet, PatternRows, pattern-rows}
-use Rattle.theory.proofs.Rows.{length-rows}
+use Rattle.theory.proofs.Rows.{length-rows, listed-for-k}
 use Rattle.theory.proofs.ForK.{rows-for-cuts}
 use Rattle.theory.proofs.Stops.{stops-rearranged}
 use Rattle.theory.proofs.Polishing.{Polishing, begins, within, as-long}
-use Rattle.joints.specs.States.{StateRows}
+use Rattle.stretches.specs.Stretch.{Listed}
 use Rattle.scanning.specs.Loop.{Scannable}
 
 -- The first cut set, as the array has it.
@@ -66,5 +66,17 @@ module _ (k locations : ℕ) (legs latest : List ℕ) (depot : ℕ) (orders mask
     pub own-rows : PatternRows (length cuts) orders masks
     own-rows = rw (now .cut-set .many) (ok .patterns)
 
-    pub own-states : StateRows (length cuts) orders masks (length masks) rows
-    own-states = rw (now .cut-set .many) (ok .state-rows)
+    -- The patterns as rows of states.
+    pub own-list : Listed (length cuts) (length masks) rows (pattern-rows k orders masks)
+    own-list =
+        rw (now .cut-set .many)
+        (record {
+          patterned = record {
+            few = omega (arith, many, ok .patterns .few);
+            places = ok .state-rows .places;
+            for-k = λ i h. listed-for-k k orders masks (ok .patterns) i _ (omega (arith, many));
+            each = λ i h. ok .state-rows .each i (omega (arith, many));
+            small = λ c h. ok .state-rows .small c (omega (arith, many));
+          };
+          many = many;
+        })

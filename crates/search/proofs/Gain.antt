@@ -10,22 +10,21 @@ use lib.ListN.{length, getD}
 use lib.Seq.{slice}
 use borrow.Author.Tests.{lt-ltb, le-ltb, le-leb, lt-leb}
 use Rattle.theory.specs.Moves.{Pattern}
-use Rattle.theory.specs.Route.{Problem, path, tour-length, reconnected, feasible, on-time}
+use Rattle.theory.specs.Route.{Problem, Clock, path, tour-length, reconnected, feasible, on-time}
 use Rattle.theory.specs.Costs.{last-of}
-use Rattle.theory.specs.Polish.{move-at}
-use Rattle.theory.specs.Tables.{problem, pattern-rows, ForK}
-use Rattle.theory.proofs.Rows.{listed-for-k}
+use Rattle.theory.specs.Scan.{improves}
+use Rattle.theory.specs.Polish.{search-of, move-at}
+use Rattle.theory.specs.Tables.{problem, clock-by}
 use Rattle.costs.proofs.Segments.{last-cut}
 use Rattle.deadlines.specs.Lateness.{lateness}
-use Rattle.deadlines.proofs.Along.{any-depot}
-use Rattle.joints.specs.States.{row, standing-row}
+use Rattle.joints.specs.States.{row, standing-row, Patterned}
 use Rattle.joints.specs.JointTable.{chain, JointOf}
 use Rattle.joints.proofs.Chain.{chain-delta}
 use Rattle.dues.specs.Parts.{head, middle}
 use Rattle.dues.specs.Due.{in-time, DuesOf}
 use Rattle.dues.proofs.InTime.{row-kept, row-known}
 use Rattle.dues.proofs.Judged.{candidate-judged}
-use Rattle.search.specs.Gain.{gains, below, due-gain, Gainable, Findable, Chains, NextShorter, Tabled, FirstGain, DueRows, FirstDue}
+use Rattle.search.specs.Gain.{below, due-gain, Searchable, Findable, Chains, NextShorter, Tabled, FirstGain, DueRows, FirstDue}
 
 -- Below the threshold: so much shorter that the tail is on time.
 enough : (cost standing late : ℕ) → cost < standing → leb late (standing - cost) ≡ ltb cost (below standing late)
@@ -35,16 +34,19 @@ enough cost standing late h = by (decLt (standing - cost) late)
     by (yes l) = lt-leb late (standing - cost) l ∙ sym (le-ltb cost (below standing late) (omega arith))
     by (no n) = le-leb late (standing - cost) (omega arith) ∙ sym (lt-ltb cost (below standing late) (omega arith))
 
-module _ {locations : ℕ} {legs latest : List ℕ} {depot : ℕ} {r cs orders masks rows J : List ℕ} {limit : ℕ}
-    (given : Tabled locations legs latest depot r cs orders masks rows J limit) where
+module _ {locations : ℕ} {legs latest : List ℕ} {depot : ℕ} {r cs rows J : List ℕ} {ps : List Pattern} {limit : ℕ}
+    (given : Tabled locations legs latest depot r cs ps rows J limit) where
   abbrev P : Problem
   P = problem locations legs latest depot
 
+  abbrev C : Clock
+  C = clock-by locations legs latest
+
   abbrev pattern : ℕ → Pattern
-  pattern i = move-at (pattern-rows (length cs) orders masks) cs i .pattern
+  pattern i = move-at ps cs i .pattern
 
   abbrev gain : ℕ → Bool
-  gain i = gains locations legs latest depot r cs orders masks i
+  gain i = improves (search-of P ps (length cs) (length r)) r (move-at ps cs i)
 
   abbrev standing : ℕ
   standing = chain J 9 (standing-row (length cs))
@@ -57,23 +59,20 @@ module _ {locations : ℕ} {legs latest : List ℕ} {depot : ℕ} {r cs orders m
   clock = path (P .leg) depot (head r cs)
 
   abbrev middle-on-time : ℕ → Bool
-  middle-on-time i = on-time P (last-of depot (head r cs)) clock (middle r cs (pattern i .order) (pattern i .mask))
-
-  for-k : (i : ℕ) → i < length masks → ForK (length cs) (pattern i .order) (pattern i .mask)
-  for-k i h = listed-for-k (length cs) orders masks (given .patterns) i _ h
+  middle-on-time i = on-time C (last-of depot (head r cs)) clock (middle r cs (pattern i .order) (pattern i .mask))
 
   pub chains : (from : ℕ) → from ≤ limit → Chains J rows from limit
   chains from h =
       record {
         padded = given .joined .padded;
-        places = given .state-rows .places;
-        few = omega (arith, given .allowed, given .patterns .few);
+        places = given .patterned .places;
+        few = omega (arith, given .allowed, given .patterned .few);
         within = h;
-        known = λ c l. given .state-rows .small c (omega (arith, given .allowed));
+        known = λ c l. given .patterned .small c (omega (arith, given .allowed));
       }
 
-  module _ {late : ℕ} (late-is : late ≡ lateness P r (getD cs (length cs - 1) 0)) (early : on-time P depot 0 (head r cs) ≡ true) where
-    gain-is : (i : ℕ) → i < length masks → gain i ≡ (middle-on-time i && ltb (cost i) (below standing late))
+  module _ {late : ℕ} (late-is : late ≡ lateness C depot r (getD cs (length cs - 1) 0)) (early : on-time C depot 0 (head r cs) ≡ true) where
+    gain-is : (i : ℕ) → i < length ps → gain i ≡ (middle-on-time i && ltb (cost i) (below standing late))
     gain-is i h = by (decLt (cost i) standing)
       where
         after : ℕ
@@ -81,8 +80,8 @@ module _ {locations : ℕ} {legs latest : List ℕ} {depot : ℕ} {r cs orders m
 
         moved : after + standing ≡ tour-length P r + cost i
         moved =
-            chain-delta P cs r J (pattern i .order) (pattern i .mask) (given .cut-set) (for-k i h) (given .joined)
-            ∙ ap (λ s. tour-length P r + chain J 9 s) (sym (given .state-rows .each i h))
+            chain-delta P cs r J (pattern i .order) (pattern i .mask) (given .cut-set) (given .patterned .for-k i h) (given .joined)
+            ∙ ap (λ s. tour-length P r + chain J 9 s) (sym (given .patterned .each i h))
 
         kept : Bool
         kept = feasible P (reconnected (record { cuts = cs; pattern = pattern i }) r)
@@ -91,7 +90,7 @@ module _ {locations : ℕ} {legs latest : List ℕ} {depot : ℕ} {r cs orders m
         by (yes l) =
             ap (λ b. kept && b) (lt-ltb after (tour-length P r) (omega (arith, moved)))
             ∙ and-true kept
-            ∙ candidate-judged cs r (given .cut-set) P (pattern i) (standing - cost i) (for-k i h) early (omega (arith, moved))
+            ∙ candidate-judged cs r (given .cut-set) P (pattern i) (standing - cost i) (given .patterned .for-k i h) early (omega (arith, moved))
             ∙ ap (λ n. middle-on-time i && leb n (standing - cost i)) (sym late-is)
             ∙ ap (λ b. middle-on-time i && b) (enough (cost i) standing late l)
         by (no n) =
@@ -100,7 +99,7 @@ module _ {locations : ℕ} {legs latest : List ℕ} {depot : ℕ} {r cs orders m
             ∙ sym (ap (λ b. middle-on-time i && b) (le-ltb (cost i) (below standing late) (omega arith)) ∙ and-false (middle-on-time i))
 
     -- Where no pattern costs so little, none improves.
-    pub none-below : (limit′ b : ℕ) → limit′ ≡ limit → b ≡ below standing late → NextShorter J rows b 0 limit limit′ → FirstGain P (pattern-rows (length cs) orders masks) (length cs) r cs limit limit
+    pub none-below : (limit′ b : ℕ) → limit′ ≡ limit → b ≡ below standing late → NextShorter J rows b 0 limit limit′ → FirstGain P ps (length cs) r cs limit limit
     none-below limit′ b e is next =
         record {
           within = omega arith;
@@ -112,16 +111,15 @@ module _ {locations : ℕ} {legs latest : List ℕ} {depot : ℕ} {r cs orders m
         }
 
     -- With the dues of the states.
-    module _ (D : List ℕ) (dues : DuesOf (problem locations legs latest 0) cs r D) where
+    module _ (D : List ℕ) (dues : DuesOf C cs r D) where
       gain-due : (i : ℕ) → i < limit → gain i ≡ due-gain J rows D (length cs - 1) clock (below standing late) i
       gain-due i h =
-          let k : i < length masks = omega (arith, given .allowed) in
+          let k : i < length ps = omega (arith, given .allowed) in
           gain-is i k
           ∙ ap (λ b. b && ltb (cost i) (below standing late))
-          (any-depot locations legs latest depot 0 (last-of depot (head r cs)) clock (middle r cs (pattern i .order) (pattern i .mask))
-          ∙ sym (row-kept (problem locations legs latest 0) cs r J D (given .cut-set) (given .joined) dues (pattern i .order) rows (pattern i .mask) i clock (for-k i k) (given .state-rows .each i k)))
+          (sym (row-kept C cs r J D (given .cut-set) (given .joined) dues (pattern i .order) rows (pattern i .mask) i clock (given .patterned .for-k i k) (given .patterned .each i k)))
 
-      pub first-due-gain : (b i : ℕ) → b ≡ below standing late → FirstDue J rows D (length cs - 1) clock b limit i → FirstGain P (pattern-rows (length cs) orders masks) (length cs) r cs limit i
+      pub first-due-gain : (b i : ℕ) → b ≡ below standing late → FirstDue J rows D (length cs - 1) clock b limit i → FirstGain P ps (length cs) r cs limit i
       first-due-gain b i e f =
           let d : FirstDue J rows D (length cs - 1) clock (below standing late) limit i = rw e at f in
           record {
@@ -138,19 +136,19 @@ module _ {locations : ℕ} {legs latest : List ℕ} {depot : ℕ} {r cs orders m
         most = omega (arith, given .cut-set .most);
         due-places = places;
         states = λ i h c l m.
-            let k : i < length masks = omega (arith, given .allowed) in
-            row-known (length cs) (pattern i .order) rows (pattern i .mask) i (given .cut-set .least) (given .cut-set .most) (for-k i k) (given .state-rows .each i k) c l m;
+            let k : i < length ps = omega (arith, given .allowed) in
+            row-known (length cs) (pattern i .order) rows (pattern i .mask) i (given .cut-set .least) (given .cut-set .most) (given .patterned .for-k i k) (given .patterned .each i k) c l m;
         early = e;
         first = next;
       }
 
 -- Once the joint table is filled.
-pub tabled : {locations : ℕ} {legs latest : List ℕ} {depot : ℕ} {r forwards backwards cs orders masks rows J J′ spare : List ℕ} {limit : ℕ} →
-    Gainable locations legs latest depot r forwards backwards cs orders masks rows J spare limit → JointOf locations legs depot r cs J′ → Tabled locations legs latest depot r cs orders masks rows J′ limit
-tabled g j = let s = g .searchable in record { timed = s .timed; cut-set = s .cut-set; patterns = s .rows; allowed = s .allowed; state-rows = g .state-rows; joined = j }
+pub tabled : {locations : ℕ} {legs latest : List ℕ} {depot : ℕ} {r forwards backwards cs rows J : List ℕ} {ps : List Pattern} {limit : ℕ} →
+    Searchable locations legs latest depot r forwards backwards cs → Patterned (length cs) ps rows → limit ≤ length ps → JointOf locations legs depot r cs J → Tabled locations legs latest depot r cs ps rows J limit
+tabled s w l j = record { timed = s .timed; cut-set = s .cut-set; patterned = w; allowed = l; joined = j }
 
 -- What is read of the lateness is that of the tail.
-pub told-late : {locations : ℕ} {legs latest : List ℕ} {depot : ℕ} {r forwards backwards cs orders masks rows late J spare D : List ℕ} {limit : ℕ} →
-    Findable locations legs latest depot r forwards backwards cs orders masks rows late J spare D limit → {v : ℕ} → v ≡ getD late (getD cs (length cs - 1) 0) 0 →
-    v ≡ lateness (problem locations legs latest depot) r (getD cs (length cs - 1) 0)
-told-late {r = r} {cs = cs} given e = e ∙ given .latenesses .each _ (last-cut cs r (given .gainable .searchable .cut-set))
+pub told-late : {locations : ℕ} {legs latest : List ℕ} {depot : ℕ} {r forwards backwards cs rows late J D : List ℕ} {limit : ℕ} →
+    Findable locations legs latest depot r forwards backwards cs rows late J D limit → {v : ℕ} → v ≡ getD late (getD cs (length cs - 1) 0) 0 →
+    v ≡ lateness (clock-by locations legs latest) depot r (getD cs (length cs - 1) 0)
+told-late {r = r} {cs = cs} given e = e ∙ given .latenesses .each _ (last-cut cs r (given .searchable .cut-set))

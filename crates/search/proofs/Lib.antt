@@ -1,3 +1,2 @@
-pub mod Candidate
 pub mod Gain
 pub mod FirstDue

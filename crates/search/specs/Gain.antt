@@ -9,24 +9,22 @@ use lib.ListN.{length, getD, take}
 use Rattle.theory.specs.Moves.{Pattern}
 use Rattle.theory.specs.Scan.{improves}
 use Rattle.theory.specs.Polish.{search-of, move-at}
-use Rattle.theory.specs.Route.{Problem, reconnected, on-time}
+use Rattle.theory.specs.Route.{Problem, on-time}
 use Rattle.theory.specs.Costs.{forward, backward}
-use Rattle.theory.specs.Tables.{problem, Timed, CutSet, PatternRows, pattern-rows}
+use Rattle.theory.specs.Tables.{problem, clock-by, Timed, CutSet}
 use Rattle.costs.specs.RouteCosts.{leg, Sums}
 use Rattle.deadlines.specs.Lateness.{Latenesses}
-use Rattle.joints.specs.States.{row, StateRows}
+use Rattle.joints.specs.States.{row, Patterned}
 use Rattle.dues.specs.Parts.{head}
 use Rattle.dues.specs.Due.{in-time, DuesHeld}
 use Rattle.joints.specs.JointTable.{chain, Padded, JointOf}
 
--- What the step reads: tables, the route with its running sums, k cuts of it, and rows of patterns of which the first `limit` are still allowed.
-pub record Searchable (locations : ℕ) (legs latest : List ℕ) (depot : ℕ) (route forward-sums backward-sums cuts orders masks : List ℕ) (limit : ℕ) : Type 0 where
+-- What the step reads: tables, the route with its running sums, and k cuts of it.
+pub record Searchable (locations : ℕ) (legs latest : List ℕ) (depot : ℕ) (route forward-sums backward-sums cuts : List ℕ) : Type 0 where
   pub timed : Timed locations legs latest depot route
   pub forwards : Sums route (forward (leg locations legs) route) forward-sums
   pub backwards : Sums route (backward (leg locations legs) route) backward-sums
   pub cut-set : CutSet (length cuts) (length route) cuts
-  pub rows : PatternRows (length cuts) orders masks
-  pub allowed : limit ≤ length masks
 
 -- The first of the first `limit` patterns on the cut set that improves the route, or `limit` where none does.
 pub record FirstGain (P : Problem) (ps : List Pattern) (k : ℕ) (route cuts : List ℕ) (limit i : ℕ) : Type 0 where
@@ -34,47 +32,34 @@ pub record FirstGain (P : Problem) (ps : List Pattern) (k : ℕ) (route cuts : L
   pub passed : (x : ℕ) → x < i → improves (search-of P ps k (length route)) route (move-at ps cuts x) ≡ false
   pub gains : i < limit → improves (search-of P ps k (length route)) route (move-at ps cuts i) ≡ true
 
--- With the lent arrays: the patterns as rows of states, and places for the joint table and for a candidate.
-pub record Gainable (locations : ℕ) (legs latest : List ℕ) (depot : ℕ) (route forward-sums backward-sums cuts orders masks rows table spare : List ℕ) (limit : ℕ) : Type 0 where
-  pub searchable : Searchable locations legs latest depot route forward-sums backward-sums cuts orders masks limit
-  pub state-rows : StateRows (length cuts) orders masks (length masks) rows
-  pub padded : Padded table
-  pub places : length spare ≡ 512
-
--- The answer, with the candidate in the first places of `spare`, and the lent arrays as fit for the next call as they were.
-pub record Gained (P : Problem) (ps : List Pattern) (k : ℕ) (route cuts : List ℕ) (limit i : ℕ) (table spare : List ℕ) : Type 0 where
-  pub first : FirstGain P ps k route cuts limit i
-  pub built : i < limit → take (length route) spare ≡ reconnected (move-at ps cuts i) route
-  pub padded : Padded table
-  pub places : length spare ≡ 512
-
 -- A cut, and a place for the lateness behind it.
 pub record LateBehind (late cuts : List ℕ) : Type 0 where
   pub some : 1 ≤ length cuts
   pub within : getD cuts (length cuts - 1) 0 < length late
   pub places : length late ≡ 513
 
--- With what is known of the deadlines: the head is on time, by how much the stops behind are late, and what is held of the dues for the first cuts.
-pub record Findable (locations : ℕ) (legs latest : List ℕ) (depot : ℕ) (route forward-sums backward-sums cuts orders masks rows late table spare dues : List ℕ) (limit : ℕ) : Type 0 where
-  pub gainable : Gainable locations legs latest depot route forward-sums backward-sums cuts orders masks rows table spare limit
-  pub early : on-time (problem locations legs latest depot) depot 0 (head route cuts) ≡ true
-  pub latenesses : Latenesses (problem locations legs latest depot) route late
-  pub held : DuesHeld (problem locations legs latest 0) route (take (length cuts - 1) cuts) dues
+-- With what is known of the deadlines: the head is on time, by how much the stops behind are late, and what is held of the dues for the first cuts; rows of
+-- patterns of which the first `limit` are still allowed; and places for the joint table.
+pub record Findable (locations : ℕ) (legs latest : List ℕ) (depot : ℕ) (route forward-sums backward-sums cuts rows late table dues : List ℕ) (limit : ℕ) : Type 0 where
+  pub searchable : Searchable locations legs latest depot route forward-sums backward-sums cuts
+  pub patterns : List Pattern
+  pub patterned : Patterned (length cuts) patterns rows
+  pub allowed : limit ≤ length patterns
+  pub early : on-time (clock-by locations legs latest) depot 0 (head route cuts) ≡ true
+  pub latenesses : Latenesses (clock-by locations legs latest) depot route late
+  pub held : DuesHeld (clock-by locations legs latest) route (take (length cuts - 1) cuts) dues
   pub behind : getD dues 8 0 ≤ getD cuts (length cuts - 1) 0
+  pub padded : Padded table
 
--- The answer, with what is then held.
-pub record Found (locations : ℕ) (legs latest : List ℕ) (depot : ℕ) (route cuts orders masks : List ℕ) (limit i : ℕ) (table spare dues : List ℕ) : Type 0 where
-  pub gained : Gained (problem locations legs latest depot) (pattern-rows (length cuts) orders masks) (length cuts) route cuts limit i table spare
-  pub held : DuesHeld (problem locations legs latest 0) route (take (length cuts - 1) cuts) dues
+-- The answer, of whichever patterns the rows are, with what is then held.
+pub record Found (locations : ℕ) (legs latest : List ℕ) (depot : ℕ) (route cuts rows : List ℕ) (limit i : ℕ) (table dues : List ℕ) : Type 0 where
+  pub within : i ≤ limit
+  pub first : (ps : List Pattern) → Patterned (length cuts) ps rows → limit ≤ length ps → FirstGain (problem locations legs latest depot) ps (length cuts) route cuts limit i
+  pub padded : Padded table
+  pub held : DuesHeld (clock-by locations legs latest) route (take (length cuts - 1) cuts) dues
   pub behind : getD dues 8 0 ≤ getD cuts (length cuts - 1) 0
 
 -- ---- the parts of the step
-
--- Whether pattern i improves the route.
-abbrev pub gains : ℕ → List ℕ → List ℕ → ℕ → List ℕ → List ℕ → List ℕ → List ℕ → ℕ → Bool
-gains locations legs latest depot route cuts orders masks i =
-    improves (search-of (problem locations legs latest depot) (pattern-rows (length cuts) orders masks) (length cuts) (length route)) route
-    (move-at (pattern-rows (length cuts) orders masks) cuts i)
 
 -- Rows of states up to `limit`, whose chains in the table can be added up.
 pub record Chains (table rows : List ℕ) (from limit : ℕ) : Type 0 where
@@ -91,13 +76,12 @@ pub record NextShorter (table rows : List ℕ) (standing from limit i : ℕ) : T
   pub passed : (x : ℕ) → from ≤ x → x < i → standing ≤ chain table 9 (row rows x)
   pub shorter : i < limit → chain table 9 (row rows i) < standing
 
--- The step once the joint table is filled.
-pub record Tabled (locations : ℕ) (legs latest : List ℕ) (depot : ℕ) (route cuts orders masks rows table : List ℕ) (limit : ℕ) : Type 0 where
+-- The step once the joint table is filled, for patterns that are rows of states.
+pub record Tabled (locations : ℕ) (legs latest : List ℕ) (depot : ℕ) (route cuts : List ℕ) (ps : List Pattern) (rows table : List ℕ) (limit : ℕ) : Type 0 where
   pub timed : Timed locations legs latest depot route
   pub cut-set : CutSet (length cuts) (length route) cuts
-  pub patterns : PatternRows (length cuts) orders masks
-  pub allowed : limit ≤ length masks
-  pub state-rows : StateRows (length cuts) orders masks (length masks) rows
+  pub patterned : Patterned (length cuts) ps rows
+  pub allowed : limit ≤ length ps
   pub joined : JointOf locations legs depot route cuts table
 
 -- What a pattern must cost less than: what stands, and so much less that the tail, late by at most `late`, is on time.

@@ -3,42 +3,7 @@ use dues::Timing;
 ghost use mathlib.Core.Path.{_≡_};
 ghost use Prim.Native.Nat.{_-_};
 ghost use lib.ListN.{length, getD};
-ghost use Rattle.search.specs.Candidate.{candidate, Buildable, BuildableFront, BuiltFront};
 ghost use Rattle.search.specs.Gain.{below, LateBehind, Findable, Found, Chains, NextShorter, DueRows, FirstDue};
-
-// The candidate of pattern i.
-fn build_candidate(
-    route: &[u32],
-    cuts: &[usize],
-    orders: &[u8],
-    masks: &[u8],
-    i: usize,
-    out: &mut [u32],
-)
-    requires { ⌜ Buildable (now route) (now cuts) (now orders) (now masks) i (now out) ⌝ }
-    ensures { λ _. ⌜ now (out .exit) ≡ candidate (now (route .entry)) (now (cuts .entry)) (now (orders .entry)) (now (masks .entry)) i ⌝ }
-{
-    let width = cuts.len() + 1;
-    let at = i * width;
-    let end = at + width;
-    reconnection::reconnect(route, cuts, &orders[at..end], masks[i], out);
-}
-
-// The same at the front of `spare`.
-fn build_front(
-    route: &[u32],
-    cuts: &[usize],
-    orders: &[u8],
-    masks: &[u8],
-    i: usize,
-    spare: &mut [u32],
-)
-    requires { ⌜ BuildableFront (now route) (now cuts) (now orders) (now masks) i (now spare) ⌝ }
-    ensures { λ _. ⌜ BuiltFront (now (route .entry)) (now (cuts .entry)) (now (orders .entry)) (now (masks .entry)) i (now (spare .exit)) ⌝ }
-{
-    let n = route.len();
-    build_candidate(route, cuts, orders, masks, i, &mut spare[..n]);
-}
 
 // The first pattern from `from` on that costs less than `standing`, or `limit`.
 fn next_shorter(
@@ -109,7 +74,7 @@ fn late_behind(lateness: &[u64; 513], cuts: &[usize]) -> u64
     lateness[c]
 }
 
-// The first of the first `limit` patterns on the cut set that improves the route, with its candidate in `spare`, or `limit`. Deadlines are looked at only where a pattern gains enough.
+// The first of the first `limit` patterns on the cut set that improves the route, or `limit`. Deadlines are looked at only where a pattern gains enough.
 pub fn first_gain(
     locations: usize,
     legs: &[u32],
@@ -119,17 +84,14 @@ pub fn first_gain(
     forward: &[u64; 512],
     backward: &[u64; 512],
     cuts: &[usize],
-    orders: &[u8],
-    masks: &[u8],
     rows: &[u8; 1532],
     lateness: &[u64; 513],
     joint: &mut [u64; 160],
-    spare: &mut [u32; 512],
     dues: &mut [u64; 9],
     limit: usize,
 ) -> usize
-    requires { ⌜ Findable locations (now legs) (now latest) depot (now route) (now forward) (now backward) (now cuts) (now orders) (now masks) (now rows) (now lateness) (now joint) (now spare) (now dues) limit ⌝ }
-    ensures { λ r. ⌜ Found locations (now (legs .entry)) (now (latest .entry)) depot (now (route .entry)) (now (cuts .entry)) (now (orders .entry)) (now (masks .entry)) limit r (now (joint .exit)) (now (spare .exit)) (now (dues .exit)) ⌝ }
+    requires { ⌜ Findable locations (now legs) (now latest) depot (now route) (now forward) (now backward) (now cuts) (now rows) (now lateness) (now joint) (now dues) limit ⌝ }
+    ensures { λ r. ⌜ Found locations (now (legs .entry)) (now (latest .entry)) depot (now (route .entry)) (now (cuts .entry)) (now (rows .entry)) limit r (now (joint .exit)) (now (dues .exit)) ⌝ }
 {
     joint_table::fill_joint(
         locations,
@@ -150,10 +112,5 @@ pub fn first_gain(
     dues::reach_dues(locations, legs, latest, route, backward, cuts, dues);
     let clock = dues::head_clock(locations, legs, depot, route, forward, cuts);
     let m = cuts.len() - 1;
-    let i = first_due(joint, rows, dues, m, clock, below, shorter, limit);
-    if i == limit {
-        return limit;
-    }
-    build_front(route, cuts, orders, masks, i, spare);
-    i
+    first_due(joint, rows, dues, m, clock, below, shorter, limit)
 }

@@ -9,36 +9,36 @@ use native.Mathlib.Nat.{zero-mul}
 use native.Mathlib.Decide.{decLt}
 use lib.ListN.{length, getD, set, take, replicate, length-append}
 use lib.Seq.{set-at, getD-take}
+use Rattle.theory.specs.Moves.{Pattern}
 use Rattle.theory.specs.Route.{reconnected, feasible}
-use Rattle.theory.specs.Polish.{move-at}
-use Rattle.theory.specs.Tables.{problem, CutSet, ForK, pattern-rows}
-use Rattle.theory.proofs.Rows.{length-rows, listed-for-k}
+use Rattle.theory.specs.Scan.{improves}
+use Rattle.theory.specs.Polish.{search-of, move-at}
+use Rattle.theory.specs.Tables.{problem, clock-by, CutSet, ForK}
 use Rattle.costs.proofs.Segments.{head-at}
 use Rattle.joints.specs.JointTable.{Padded}
-use Rattle.joints.specs.States.{row, states, pattern-row}
+use Rattle.joints.specs.States.{row, states, no-pattern}
 use Rattle.shared.specs.Kept.{Cut, Kept, Places, first-cuts, last-cut}
 use Rattle.shared.specs.Filling.{Keepable, KeptNow}
 use Rattle.shared.proofs.Keeping.{cuts-parted, first-many, first-of-cuts, last-of-cuts, zero-at}
 use Rattle.room.specs.Tests.{Nextable, NextRoom}
 use Rattle.room.proofs.Shared.{other-cut, last-two}
 use Rattle.dues.specs.Due.{DuesHeld}
-use Rattle.search.specs.Gain.{Findable, Found}
-use Rattle.stretches.specs.Stretch.{Hopeful, Stretched, GainAt, improves-at}
+use Rattle.search.specs.Gain.{FirstGain, Findable, Found}
+use Rattle.stretches.specs.Stretch.{Listed, Hopeful, Ended, GainAt, improves-at}
 use Rattle.stretches.proofs.LastCut.{two, some, long, at-cut}
 use Rattle.stretches.proofs.Counting.{count-to, count-next, count-least, up-to}
 
 -- At the last cut of `cuts`: the candidates before it are examined, and none improves the route.
-pub record Going (locations : ℕ) (legs latest : List ℕ) (depot : ℕ) (orders masks r cuts₀ : List ℕ) (left : ℕ) (cuts table spare dues : List ℕ) (examined : ℕ) : Type 0 where
+pub record Going (locations : ℕ) (legs latest : List ℕ) (depot : ℕ) (ps : List Pattern) (r cuts₀ : List ℕ) (left : ℕ) (cuts table dues : List ℕ) (examined : ℕ) : Type 0 where
   pub cut-set : CutSet (length cuts) (length r) cuts
   pub many : length cuts ≡ length cuts₀
   pub first : first-cuts cuts ≡ first-cuts cuts₀
   pub from : last-cut cuts₀ ≤ last-cut cuts
-  pub count : examined ≡ (last-cut cuts - last-cut cuts₀) * length masks
+  pub count : examined ≡ (last-cut cuts - last-cut cuts₀) * length ps
   pub within : examined ≤ left
-  pub idle : (t x : ℕ) → last-cut cuts₀ ≤ t → t < last-cut cuts → x < length masks → improves-at (problem locations legs latest depot) (pattern-rows (length cuts₀) orders masks) r cuts₀ t x ≡ false
+  pub idle : (t x : ℕ) → last-cut cuts₀ ≤ t → t < last-cut cuts → x < length ps → improves-at (problem locations legs latest depot) ps r cuts₀ t x ≡ false
   pub padded : Padded table
-  pub places : length spare ≡ 512
-  pub held : DuesHeld (problem locations legs latest 0) r (first-cuts cuts₀) dues
+  pub held : DuesHeld (clock-by locations legs latest) r (first-cuts cuts₀) dues
   pub behind : getD dues 8 0 ≤ last-cut cuts
 
 -- ---- the last cut as the array has it
@@ -46,64 +46,53 @@ pub record Going (locations : ℕ) (legs latest : List ℕ) (depot : ℕ) (order
 pub last-stored : (l : List ℕ) (v : ℕ) → 1 ≤ length l → set l (length l - 1) v ≡ first-cuts l ++ (v ∷ [])
 last-stored l v h = ap (λ z. set z (length l - 1) v) (cuts-parted l h) ∙ set-at (first-cuts l) (last-cut l) [] v (length l - 1) (first-many l)
 
-module _ {locations : ℕ} {legs latest : List ℕ} {depot : ℕ} {orders masks rows r forwards backwards late cuts₀ table₀ spare₀ : List ℕ}
-    (given : Hopeful locations legs latest depot orders masks rows r forwards backwards late cuts₀ table₀ spare₀) where
+module _ {locations : ℕ} {legs latest : List ℕ} {depot : ℕ} {rows : List ℕ} {patterns : ℕ} {r forwards backwards late cuts₀ table₀ : List ℕ}
+    (given : Hopeful locations legs latest depot rows patterns r forwards backwards late cuts₀ table₀) (ps : List Pattern) (list : Listed (length cuts₀) patterns rows ps) where
   abbrev cut₀ : CutSet (length cuts₀) (length r) cuts₀
-  cut₀ = given .gainable .searchable .cut-set
+  cut₀ = given .searchable .cut-set
 
   cut-of : (cuts : List ℕ) → CutSet (length cuts) (length r) cuts → Cut locations legs depot r forwards backwards cuts
-  cut-of cuts s = let g = given .gainable .searchable in record { measurable = g .timed .measurable; forwards = g .forwards; backwards = g .backwards; cut-set = s }
+  cut-of cuts s = let g = given .searchable in record { measurable = g .timed .measurable; forwards = g .forwards; backwards = g .backwards; cut-set = s }
 
-  -- The answer, from facts that count by the masks.
-  answered : {left e : ℕ} {g w : Bool} {cuts′ table spare : List ℕ} →
-      ((t x : ℕ) → last-cut cuts₀ ≤ t → x < length masks → (t - last-cut cuts₀) * length masks + x < e → improves-at (problem locations legs latest depot) (pattern-rows (length cuts₀) orders masks) r cuts₀ t x ≡ false) →
-      e ≤ left → (g ≡ true → (e < left) × GainAt (problem locations legs latest depot) (pattern-rows (length cuts₀) orders masks) r cuts₀ e spare) →
-      (w ≡ true → (e ≡ (length r + 1 - last-cut cuts₀) * length masks) × (cuts′ ≡ first-cuts cuts₀ ++ (length r ∷ []))) →
-      (g ≡ false → w ≡ false → (e ≡ left) × (left < (length r + 1 - last-cut cuts₀) * length masks)) → Padded table → length spare ≡ 512 →
-      Stretched (problem locations legs latest depot) (pattern-rows (length cuts₀) orders masks) r cuts₀ left (record { examined = e; gains = g; through = w }) cuts′ table spare
-  answered idle allowed gain over spent padded places =
-      record {
-        idle = λ t x h l i n. idle t x h (rw (length-rows (length cuts₀) orders masks) at i) (rw (length-rows (length cuts₀) orders masks) at n);
-        allowed = allowed;
-        gain = gain;
-        over = λ e. rw (length-rows (length cuts₀) orders masks) (over e);
-        spent = λ a b. rw (length-rows (length cuts₀) orders masks) (spent a b);
-        padded = padded;
-        places = places;
-      }
+  answered : {left e x : ℕ} {g w : Bool} {cuts′ : List ℕ} →
+      ((t y : ℕ) → last-cut cuts₀ ≤ t → y < length ps → (t - last-cut cuts₀) * length ps + y < e → improves-at (problem locations legs latest depot) ps r cuts₀ t y ≡ false) → e ≤ left →
+      (g ≡ true → (e < left) × GainAt (problem locations legs latest depot) ps r cuts₀ e x cuts′) →
+      (w ≡ true → (e ≡ (length r + 1 - last-cut cuts₀) * length ps) × (cuts′ ≡ first-cuts cuts₀ ++ (length r ∷ []))) →
+      (g ≡ false → w ≡ false → (e ≡ left) × (left < (length r + 1 - last-cut cuts₀) * length ps)) →
+      Ended (problem locations legs latest depot) ps r cuts₀ left (record { examined = e; gains = g; through = w; pattern = x }) cuts′
+  answered idle allowed gain over spent = record { idle = λ t y h l i n. idle t y h i n; allowed = allowed; gain = gain; over = over; spent = spent }
 
   -- ---- the start
 
-  pub keepable : Keepable locations legs depot r forwards backwards cuts₀ rows (length masks) (replicate 8 0) (replicate 8 0) (replicate 8 0) (replicate 21 0)
+  pub keepable : Keepable locations legs depot r forwards backwards cuts₀ rows patterns (replicate 8 0) (replicate 8 0) (replicate 8 0) (replicate 21 0)
   keepable =
-      let g = given .gainable in
+      let w = list .patterned in
       record {
-        cut = cut-of cuts₀ (g .searchable .cut-set);
-        rows-fit = record { places = g .state-rows .places; few = g .searchable .rows .few; known = g .state-rows .small };
+        cut = cut-of cuts₀ cut₀;
+        rows-fit = record { places = w .places; few = omega (arith, w .few); known = rw (list .many) at (w .small) };
         places = record { ends = record { entry-places = refl; exit-places = refl; inside-places = refl }; low-places = refl; low-small = λ c. rw (zero-at 21 c) (omega arith) };
         first = given .first;
       }
 
-  pub starts : (left : ℕ) → Going locations legs latest depot orders masks r cuts₀ left cuts₀ table₀ spare₀ (replicate 9 0) 0
+  pub starts : (left : ℕ) → Going locations legs latest depot ps r cuts₀ left cuts₀ table₀ (replicate 9 0) 0
   starts left =
       let z : last-cut cuts₀ - last-cut cuts₀ ≡ 0 = omega arith in
       record {
-        cut-set = given .gainable .searchable .cut-set;
+        cut-set = given .searchable .cut-set;
         many = refl;
         first = refl;
         from = omega arith;
-        count = sym (ap (λ n. n * length masks) z ∙ zero-mul (length masks));
+        count = sym (ap (λ n. n * length ps) z ∙ zero-mul (length ps));
         within = omega arith;
         idle = λ t x h l i. absurd (omega arith);
-        padded = given .gainable .padded;
-        places = given .gainable .places;
+        padded = given .padded;
         held = record { places = refl; held = inl refl };
         behind = rw (zero-at 9 8) (omega arith);
       }
 
   -- ---- the last cut at hand
 
-  module _ {left : ℕ} {cuts table spare dues : List ℕ} {examined : ℕ} (going : Going locations legs latest depot orders masks r cuts₀ left cuts table spare dues examined) where
+  module _ {left : ℕ} {cuts table dues : List ℕ} {examined : ℕ} (going : Going locations legs latest depot ps r cuts₀ left cuts table dues examined) where
     stored : (v : ℕ) → set cuts (length cuts₀ - 1) v ≡ first-cuts cuts₀ ++ (v ∷ [])
     stored v =
         ap (λ n. set cuts (n - 1) v) (sym (going .many))
@@ -125,9 +114,9 @@ module _ {locations : ℕ} {legs latest : List ℕ} {depot : ℕ} {orders masks 
         rw (← (cuts-parted cuts (omega (arith, going .many, (two r cuts₀ cut₀))))) (going .cut-set) in
         last-two (length r) 0 (first-cuts cuts) (last-cut cuts) (rw (going .first) (some r cuts₀ cut₀)) (s .rising) .1
 
-  module _ {left : ℕ} {cuts table spare dues : List ℕ} {examined : ℕ} {entries exits inside low : List ℕ}
-      (going : Going locations legs latest depot orders masks r cuts₀ left cuts table spare dues examined)
-      (now-kept : KeptNow locations legs depot r cuts₀ rows (length masks) entries exits inside low) where
+  module _ {left : ℕ} {cuts table dues : List ℕ} {examined : ℕ} {entries exits inside low : List ℕ}
+      (going : Going locations legs latest depot ps r cuts₀ left cuts table dues examined)
+      (now-kept : KeptNow locations legs depot r cuts₀ rows patterns entries exits inside low) where
     pub nextable : Nextable locations legs depot r forwards backwards cuts entries exits inside low (replicate 21 0)
     nextable =
         let k = now-kept .kept in
@@ -145,68 +134,66 @@ module _ {locations : ℕ} {legs latest : List ℕ} {depot : ℕ} {orders masks 
       behind-hit : last-cut cuts₀ ≤ hit
       behind-hit = omega (arith, going .from, next .least)
 
-      no-gain : (t x : ℕ) → last-cut cuts ≤ t → t < hit → x < length masks → improves-at (problem locations legs latest depot) (pattern-rows (length cuts₀) orders masks) r cuts₀ t x ≡ false
+      no-gain : (t x : ℕ) → last-cut cuts ≤ t → t < hit → x < length ps → improves-at (problem locations legs latest depot) ps r cuts₀ t x ≡ false
       no-gain t x h l i =
-          let p = pattern-row (length cuts₀) orders masks x in
+          let p = getD ps x no-pattern in
           let n : suc (length (first-cuts cuts₀)) ≡ length cuts₀ = omega (arith, first-many cuts₀, (two r cuts₀ cut₀)) in
-          let f : ForK (suc (length (first-cuts cuts₀))) (p .order) (p .mask) = rw n (listed-for-k (length cuts₀) orders masks (given .gainable .searchable .rows) x _ i) in
-          let w : row rows x ≡ states (suc (length (first-cuts cuts₀))) (p .order) (p .mask) = rw n (given .gainable .state-rows .each x i) in
+          let f : ForK (suc (length (first-cuts cuts₀))) (p .order) (p .mask) = rw n (list .patterned .for-k x i) in
+          let w : row rows x ≡ states (suc (length (first-cuts cuts₀))) (p .order) (p .mask) = rw n (list .patterned .each x i) in
           let q = rw (going .first) at (next .idle t h l) in
-          ap (λ b. feasible (problem locations legs latest depot) (reconnected (move-at (pattern-rows (length cuts₀) orders masks) (first-cuts cuts₀ ++ (t ∷ [])) x) r) && b)
-          (q rows (length masks) (now-kept .kept) latest (p .order) (p .mask) x i f w)
-          ∙ and-false (feasible (problem locations legs latest depot) (reconnected (move-at (pattern-rows (length cuts₀) orders masks) (first-cuts cuts₀ ++ (t ∷ [])) x) r))
+          ap (λ b. feasible (problem locations legs latest depot) (reconnected (move-at ps (first-cuts cuts₀ ++ (t ∷ [])) x) r) && b)
+          (q rows patterns (now-kept .kept) latest (p .order) (p .mask) x (omega arith) f w)
+          ∙ and-false (feasible (problem locations legs latest depot) (reconnected (move-at ps (first-cuts cuts₀ ++ (t ∷ [])) x) r))
 
-      passed : (t x : ℕ) → last-cut cuts₀ ≤ t → t < hit → x < length masks → improves-at (problem locations legs latest depot) (pattern-rows (length cuts₀) orders masks) r cuts₀ t x ≡ false
+      passed : (t x : ℕ) → last-cut cuts₀ ≤ t → t < hit → x < length ps → improves-at (problem locations legs latest depot) ps r cuts₀ t x ≡ false
       passed t x h l i = by (decLt t (last-cut cuts))
         where
-          by : Dec (t < last-cut cuts) → improves-at (problem locations legs latest depot) (pattern-rows (length cuts₀) orders masks) r cuts₀ t x ≡ false
+          by : Dec (t < last-cut cuts) → improves-at (problem locations legs latest depot) ps r cuts₀ t x ≡ false
           by (yes p) = going .idle t x h p i
           by (no p) = no-gain t x (omega arith) l i
 
-      pub few-sets : (hit - last-cut cuts ≤ 513) × (length masks ≤ 383)
-      few-sets = (omega (arith, next .most, given .gainable .searchable .cut-set .short), given .gainable .searchable .rows .few)
+      pub few-sets : (hit - last-cut cuts ≤ 513) × (patterns ≤ 383)
+      few-sets = (omega (arith, next .most, given .searchable .cut-set .short), omega (arith, list .patterned .few))
 
-      module _ {over : ℕ} (over-is : over ≡ (hit - last-cut cuts) * length masks) where
-        reaches : examined + over ≡ (hit - last-cut cuts₀) * length masks
-        reaches = ap (λ n. examined + n) over-is ∙ ap (λ n. n + (hit - last-cut cuts) * length masks) (going .count) ∙ count-to (last-cut cuts₀) (last-cut cuts) hit (length masks) (going .from) (next .least)
+      module _ {over : ℕ} (over-by : over ≡ (hit - last-cut cuts) * patterns) where
+        over-is : over ≡ (hit - last-cut cuts) * length ps
+        over-is = over-by ∙ ap (λ n. (hit - last-cut cuts) * n) (sym (list .many))
 
-        idle-below : (t x : ℕ) → last-cut cuts₀ ≤ t → x < length masks → (t - last-cut cuts₀) * length masks + x < examined + over →
-            improves-at (problem locations legs latest depot) (pattern-rows (length cuts₀) orders masks) r cuts₀ t x ≡ false
+        reaches : examined + over ≡ (hit - last-cut cuts₀) * length ps
+        reaches = ap (λ n. examined + n) over-is ∙ ap (λ n. n + (hit - last-cut cuts) * length ps) (going .count) ∙ count-to (last-cut cuts₀) (last-cut cuts) hit (length ps) (going .from) (next .least)
+
+        idle-below : (t x : ℕ) → last-cut cuts₀ ≤ t → x < length ps → (t - last-cut cuts₀) * length ps + x < examined + over →
+            improves-at (problem locations legs latest depot) ps r cuts₀ t x ≡ false
         idle-below t x h i n =
-            up-to (last-cut cuts₀) hit (length masks) 0 behind-hit (omega arith) (improves-at (problem locations legs latest depot) (pattern-rows (length cuts₀) orders masks) r cuts₀) passed
+            up-to (last-cut cuts₀) hit (length ps) 0 behind-hit (omega arith) (improves-at (problem locations legs latest depot) ps r cuts₀) passed
             (λ y l. absurd (omega arith)) t x h i (omega (arith, n, reaches))
 
         -- The allowance ends among them.
         pub spent-over : left - examined < over →
-            Stretched (problem locations legs latest depot) (pattern-rows (length cuts₀) orders masks) r cuts₀ left (record { examined = left; gains = false; through = false }) cuts table spare
+            Ended (problem locations legs latest depot) ps r cuts₀ left (record { examined = left; gains = false; through = false; pattern = 0 }) cuts
         spent-over b =
             answered
             (λ t x h i n. idle-below t x h i (omega (arith, n, b, going .within)))
             (omega arith)
             (λ e. absurd (true≢false (sym e)))
             (λ e. absurd (true≢false (sym e)))
-            (λ _ _. (refl, omega (arith, b, reaches, count-least (last-cut cuts₀) hit (length r + 1) (length masks) (next .most))))
-            (going .padded)
-            (going .places)
+            (λ _ _. (refl, omega (arith, b, reaches, count-least (last-cut cuts₀) hit (length r + 1) (length ps) (next .most))))
 
         module _ (room : over ≤ left - examined) where
           -- No last cut is left.
           pub through-over : length r < hit →
-              Stretched (problem locations legs latest depot) (pattern-rows (length cuts₀) orders masks) r cuts₀ left (record { examined = examined + over; gains = false; through = true })
-              (set cuts (length cuts₀ - 1) (length r)) table spare
+              Ended (problem locations legs latest depot) ps r cuts₀ left (record { examined = examined + over; gains = false; through = true; pattern = 0 }) (set cuts (length cuts₀ - 1) (length r))
           through-over b =
               let e : hit ≡ length r + 1 = omega (arith, next .most) in
               answered
               (λ t x h i n. idle-below t x h i n)
               (omega (arith, room, going .within))
               (λ e. absurd (true≢false (sym e)))
-              (λ _. (reaches ∙ ap (λ n. (n - last-cut cuts₀) * length masks) e, stored going (length r)))
+              (λ _. (reaches ∙ ap (λ n. (n - last-cut cuts₀) * length ps) e, stored going (length r)))
               (λ _ e. absurd (true≢false e))
-              (going .padded)
-              (going .places)
 
           -- At a last cut that has room.
-          pub at-hit : hit ≤ length r → Going locations legs latest depot orders masks r cuts₀ left (set cuts (length cuts₀ - 1) hit) table spare dues (examined + over)
+          pub at-hit : hit ≤ length r → Going locations legs latest depot ps r cuts₀ left (set cuts (length cuts₀ - 1) hit) table dues (examined + over)
           at-hit l =
               let f = first-of-cuts (first-cuts cuts₀) hit in
               let e = last-of-cuts (first-cuts cuts₀) hit in
@@ -216,18 +203,17 @@ module _ {locations : ℕ} {legs latest : List ℕ} {depot : ℕ} {orders masks 
                 many = long r cuts₀ cut₀ hit;
                 first = f;
                 from = rw e behind-hit;
-                count = reaches ∙ ap (λ c. (c - last-cut cuts₀) * length masks) (sym e);
+                count = reaches ∙ ap (λ c. (c - last-cut cuts₀) * length ps) (sym e);
                 within = omega (arith, room, going .within);
                 idle = λ t x h b i. passed t x h (rw e at b) i;
                 padded = going .padded;
-                places = going .places;
                 held = going .held;
                 behind = rw e (omega (arith, going .behind, next .least));
               })
 
   -- ---- at a last cut that has room
 
-  module _ {left : ℕ} {cuts table spare dues : List ℕ} {examined : ℕ} (going : Going locations legs latest depot orders masks r cuts₀ left cuts table spare dues examined) where
+  module _ {left : ℕ} {cuts table dues : List ℕ} {examined : ℕ} (going : Going locations legs latest depot ps r cuts₀ left cuts table dues examined) where
     cuts-are : cuts ≡ first-cuts cuts₀ ++ (last-cut cuts ∷ [])
     cuts-are = cuts-parted cuts (omega (arith, going .many, (two r cuts₀ cut₀))) ∙ ap (λ l. l ++ (last-cut cuts ∷ [])) (going .first)
 
@@ -237,102 +223,93 @@ module _ {locations : ℕ} {legs latest : List ℕ} {depot : ℕ} {orders masks 
         ∙ ap (λ l. getD l 0 0) (going .first)
         ∙ getD-take (length cuts₀ - 1) cuts₀ 0 0 (omega (arith, (two r cuts₀ cut₀)))
 
-    pub findable : {limit : ℕ} → limit ≡ min (length masks) (left - examined) → Findable locations legs latest depot r forwards backwards cuts orders masks rows late table spare dues limit
+    pub findable : {limit : ℕ} → limit ≡ min patterns (left - examined) → Findable locations legs latest depot r forwards backwards cuts rows late table dues limit
     findable e =
-        let g = given .gainable in
+        let g = given .searchable in
         record {
-          gainable = record {
-            searchable = record {
-              timed = g .searchable .timed;
-              forwards = g .searchable .forwards;
-              backwards = g .searchable .backwards;
-              cut-set = going .cut-set;
-              rows = rw (going .many) (g .searchable .rows);
-              allowed = omega arith;
-            };
-            state-rows = rw (going .many) (g .state-rows);
-            padded = going .padded;
-            places = going .places;
-          };
+          searchable = record { timed = g .timed; forwards = g .forwards; backwards = g .backwards; cut-set = going .cut-set };
+          patterns = ps;
+          patterned = rw (going .many) (list .patterned);
+          allowed = omega arith;
           early = rw (head-at cuts r (omega (arith, going .many, (two r cuts₀ cut₀))), first-same) (given .early);
           latenesses = given .latenesses;
           held = rw (going .first) (going .held);
           behind = going .behind;
+          padded = going .padded;
         }
 
-    module _ {limit i : ℕ} {table′ spare′ dues′ : List ℕ} (limit-is : limit ≡ min (length masks) (left - examined))
-        (found : Found locations legs latest depot r cuts orders masks limit i table′ spare′ dues′) where
+    module _ {limit i : ℕ} {table′ dues′ : List ℕ} (limit-is : limit ≡ min patterns (left - examined))
+        (found : Found locations legs latest depot r cuts rows limit i table′ dues′) where
+      first : FirstGain (problem locations legs latest depot) ps (length cuts) r cuts limit i
+      first = found .first ps (rw (going .many) (list .patterned)) (omega arith)
+
       few : i ≤ limit
-      few = found .gained .first .within
+      few = first .within
 
-      here : (x : ℕ) → x < i → improves-at (problem locations legs latest depot) (pattern-rows (length cuts₀) orders masks) r cuts₀ (last-cut cuts) x ≡ false
-      here x h = rw (going .many, cuts-are) at (found .gained .first .passed x h)
+      same-there : (x : ℕ) → improves-at (problem locations legs latest depot) ps r cuts₀ (last-cut cuts) x ≡ improves (search-of (problem locations legs latest depot) ps (length cuts) (length r)) r (move-at ps cuts x)
+      same-there x = ap (λ cs. improves (search-of (problem locations legs latest depot) ps (length cuts₀) (length r)) r (move-at ps cs x)) (sym cuts-are)
 
-      idle-now : (t x : ℕ) → last-cut cuts₀ ≤ t → x < length masks → (t - last-cut cuts₀) * length masks + x < examined + i →
-          improves-at (problem locations legs latest depot) (pattern-rows (length cuts₀) orders masks) r cuts₀ t x ≡ false
+      here : (x : ℕ) → x < i → improves-at (problem locations legs latest depot) ps r cuts₀ (last-cut cuts) x ≡ false
+      here x h = same-there x ∙ first .passed x h
+
+      idle-now : (t x : ℕ) → last-cut cuts₀ ≤ t → x < length ps → (t - last-cut cuts₀) * length ps + x < examined + i →
+          improves-at (problem locations legs latest depot) ps r cuts₀ t x ≡ false
       idle-now t x h l n =
-          up-to (last-cut cuts₀) (last-cut cuts) (length masks) i (going .from) (omega (arith, few)) (improves-at (problem locations legs latest depot) (pattern-rows (length cuts₀) orders masks) r cuts₀)
+          up-to (last-cut cuts₀) (last-cut cuts) (length ps) i (going .from) (omega (arith, few)) (improves-at (problem locations legs latest depot) ps r cuts₀)
           (going .idle) here t x h l (omega (arith, n, going .count))
 
       pub room-left : examined + i ≤ left
       room-left = omega (arith, few, going .within)
 
       pub gains : i < limit →
-          Stretched (problem locations legs latest depot) (pattern-rows (length cuts₀) orders masks) r cuts₀ left (record { examined = examined + i; gains = true; through = false }) cuts table′ spare′
+          Ended (problem locations legs latest depot) ps r cuts₀ left (record { examined = examined + i; gains = true; through = false; pattern = i }) cuts
       gains h =
           answered idle-now room-left
           (λ _. (
             omega arith,
             record {
               last = last-cut cuts;
-              pattern = i;
               least = going .from;
               most = last-most going;
-              listed = rw (length-rows (length cuts₀) orders masks) (omega arith);
-              is = rw (length-rows (length cuts₀) orders masks) (ap (λ n. n + i) (going .count));
-              improves = rw (going .many, cuts-are) at (found .gained .first .gains h);
-              built = rw (going .many, cuts-are) at (found .gained .built h);
+              cuts-are = cuts-are;
+              listed = omega arith;
+              is = ap (λ n. n + i) (going .count);
+              improves = same-there i ∙ first .gains h;
             },
           ))
           (λ e. absurd (true≢false (sym e)))
           (λ e. absurd (true≢false e))
-          (found .gained .padded)
-          (found .gained .places)
 
       module _ (all : limit ≤ i) where
         reached : i ≡ limit
         reached = omega (arith, few)
 
         -- The allowance ends on this cut set.
-        pub spent-here : limit < length masks →
-            Stretched (problem locations legs latest depot) (pattern-rows (length cuts₀) orders masks) r cuts₀ left (record { examined = examined + i; gains = false; through = false }) cuts table′ spare′
+        pub spent-here : limit < patterns →
+            Ended (problem locations legs latest depot) ps r cuts₀ left (record { examined = examined + i; gains = false; through = false; pattern = 0 }) cuts
         spent-here h =
             answered idle-now room-left
             (λ e. absurd (true≢false (sym e)))
             (λ e. absurd (true≢false (sym e)))
             (λ _ _. (
               omega (arith, reached, going .within),
-              omega (arith, going .within, going .count, count-next (last-cut cuts₀) (last-cut cuts) (length masks) (going .from), count-least (last-cut cuts₀) (last-cut cuts + 1) (length r + 1) (length masks) (omega (arith, last-most going))),
+              omega (arith, going .within, going .count, count-next (last-cut cuts₀) (last-cut cuts) (length ps) (going .from), count-least (last-cut cuts₀) (last-cut cuts + 1) (length r + 1) (length ps) (omega (arith, last-most going))),
             ))
-            (found .gained .padded)
-            (found .gained .places)
 
-        module _ (whole : length masks ≤ limit) {v : ℕ} (is-last : last-cut cuts ≡ v) where
-          counted : examined + i ≡ (last-cut cuts + 1 - last-cut cuts₀) * length masks
-          counted = omega (arith, reached, going .count, count-next (last-cut cuts₀) (last-cut cuts) (length masks) (going .from))
+        module _ (whole : patterns ≤ limit) {v : ℕ} (is-last : last-cut cuts ≡ v) where
+          counted : examined + i ≡ (last-cut cuts + 1 - last-cut cuts₀) * length ps
+          counted = omega (arith, reached, going .count, count-next (last-cut cuts₀) (last-cut cuts) (length ps) (going .from))
 
           -- It was the last one.
           pub ends : v ≡ length r →
-              Stretched (problem locations legs latest depot) (pattern-rows (length cuts₀) orders masks) r cuts₀ left (record { examined = examined + i; gains = false; through = true }) cuts table′ spare′
+              Ended (problem locations legs latest depot) ps r cuts₀ left (record { examined = examined + i; gains = false; through = true; pattern = 0 }) cuts
           ends e =
               answered idle-now room-left
               (λ e. absurd (true≢false (sym e)))
-              (λ _. (counted ∙ ap (λ c. (c + 1 - last-cut cuts₀) * length masks) (is-last ∙ e), cuts-are ∙ ap (λ c. first-cuts cuts₀ ++ (c ∷ [])) (is-last ∙ e)))
+              (λ _. (counted ∙ ap (λ c. (c + 1 - last-cut cuts₀) * length ps) (is-last ∙ e), cuts-are ∙ ap (λ c. first-cuts cuts₀ ++ (c ∷ [])) (is-last ∙ e)))
               (λ _ e. absurd (true≢false e))
-              (found .gained .padded)
-              (found .gained .places)
 
-          pub goes-on : (v ≡ length r → ⊥) → Going locations legs latest depot orders masks r cuts₀ left (set cuts (length cuts₀ - 1) (v + 1)) table′ spare′ dues′ (examined + i)
+          pub goes-on : (v ≡ length r → ⊥) → Going locations legs latest depot ps r cuts₀ left (set cuts (length cuts₀ - 1) (v + 1)) table′ dues′ (examined + i)
           goes-on n =
               let f = first-of-cuts (first-cuts cuts₀) (v + 1) in
               let e = last-of-cuts (first-cuts cuts₀) (v + 1) in
@@ -342,16 +319,15 @@ module _ {locations : ℕ} {legs latest : List ℕ} {depot : ℕ} {orders masks 
                 many = long r cuts₀ cut₀ (v + 1);
                 first = f;
                 from = rw e (omega (arith, going .from, is-last));
-                count = counted ∙ ap (λ c. (c + 1 - last-cut cuts₀) * length masks) is-last ∙ ap (λ c. (c - last-cut cuts₀) * length masks) (sym e);
+                count = counted ∙ ap (λ c. (c + 1 - last-cut cuts₀) * length ps) is-last ∙ ap (λ c. (c - last-cut cuts₀) * length ps) (sym e);
                 within = room-left;
                 idle = λ t x h b i. by t x h (omega (arith, rw e at b, is-last)) i (decLt t (last-cut cuts));
-                padded = found .gained .padded;
-                places = found .gained .places;
+                padded = found .padded;
                 held = rw (going .first) at (found .held);
                 behind = rw e (omega (arith, found .behind, is-last));
               })
             where
-              by : (t x : ℕ) → last-cut cuts₀ ≤ t → t < last-cut cuts + 1 → x < length masks → Dec (t < last-cut cuts) →
-                  improves-at (problem locations legs latest depot) (pattern-rows (length cuts₀) orders masks) r cuts₀ t x ≡ false
+              by : (t x : ℕ) → last-cut cuts₀ ≤ t → t < last-cut cuts + 1 → x < length ps → Dec (t < last-cut cuts) →
+                  improves-at (problem locations legs latest depot) ps r cuts₀ t x ≡ false
               by t x h b y (yes l) = going .idle t x h l y
               by t x h b y (no l) = let q : t ≡ last-cut cuts = omega arith in rw q (here x (omega (arith, reached)))

@@ -4,30 +4,42 @@ use mathlib.Core.Bool.{Bool, true, false}
 use mathlib.Core.List.{List, [], _∷_, _++_}
 use Prim.Native.Nat.{ℕ, _+_, _-_, _*_, _≤_, _<_}
 use lib.ListN.{length, getD, take}
-use Rattle.theory.specs.Moves.{Pattern, Move}
+use Rattle.theory.specs.Moves.{Pattern}
 use Rattle.theory.specs.Scan.{improves}
-use Rattle.theory.specs.Route.{Problem, reconnected, on-time}
+use Rattle.theory.specs.Route.{Problem, on-time}
 use Rattle.theory.specs.Polish.{search-of, move-at}
-use Rattle.theory.specs.Tables.{problem}
+use Rattle.theory.specs.Tables.{clock-by}
 use Rattle.deadlines.specs.Lateness.{LongestHead, Latenesses}
+use Rattle.joints.specs.States.{Patterned}
 use Rattle.joints.specs.JointTable.{Padded}
 use Rattle.shared.specs.Kept.{Opened, first-cuts, last-cut}
-use Rattle.search.specs.Gain.{Gainable}
+use Rattle.search.specs.Gain.{Searchable}
 use Rattle.stretches.specs.declared.Stretch.{Stretch}
 
+-- So many patterns, as rows of states.
+pub record Listed (k patterns : ℕ) (rows : List ℕ) (ps : List Pattern) : Type 0 where
+  pub patterned : Patterned k ps rows
+  pub many : length ps ≡ patterns
+
 -- What a stretch is scanned from, behind a head that is on time: its first cut set, and what the inner step reads.
-pub record Hopeful (locations : ℕ) (legs latest : List ℕ) (depot : ℕ) (orders masks rows route forward-sums backward-sums late cuts table spare : List ℕ) : Type 0 where
-  pub gainable : Gainable locations legs latest depot route forward-sums backward-sums cuts orders masks rows table spare 0
+pub record Hopeful (locations : ℕ) (legs latest : List ℕ) (depot : ℕ) (rows : List ℕ) (patterns : ℕ) (route forward-sums backward-sums late cuts table : List ℕ) : Type 0 where
+  pub searchable : Searchable locations legs latest depot route forward-sums backward-sums cuts
+  pub list : List Pattern
+  pub listed : Listed (length cuts) patterns rows list
+  pub padded : Padded table
   pub first : Opened cuts
-  pub early : on-time (problem locations legs latest depot) depot 0 (take (getD cuts 0 0) route) ≡ true
-  pub latenesses : Latenesses (problem locations legs latest depot) route late
+  pub early : on-time (clock-by locations legs latest) depot 0 (take (getD cuts 0 0) route) ≡ true
+  pub latenesses : Latenesses (clock-by locations legs latest) depot route late
 
 -- The same behind any head, with the longest that a candidate may have.
-pub record Stretchable (locations : ℕ) (legs latest : List ℕ) (depot : ℕ) (orders masks rows route forward-sums backward-sums : List ℕ) (longest : ℕ) (late cuts table spare : List ℕ) : Type 0 where
-  pub gainable : Gainable locations legs latest depot route forward-sums backward-sums cuts orders masks rows table spare 0
+pub record Stretchable (locations : ℕ) (legs latest : List ℕ) (depot : ℕ) (rows : List ℕ) (patterns : ℕ) (route forward-sums backward-sums : List ℕ) (longest : ℕ) (late cuts table : List ℕ) : Type 0 where
+  pub searchable : Searchable locations legs latest depot route forward-sums backward-sums cuts
+  pub list : List Pattern
+  pub listed : Listed (length cuts) patterns rows list
+  pub padded : Padded table
   pub first : Opened cuts
-  pub head : LongestHead (problem locations legs latest depot) route longest
-  pub latenesses : Latenesses (problem locations legs latest depot) route late
+  pub head : LongestHead (clock-by locations legs latest) depot route longest
+  pub latenesses : Latenesses (clock-by locations legs latest) depot route late
 
 -- The last cut of a route of so many stops, to be passed over with the last cuts behind it.
 pub record Passable (stops patterns : ℕ) (cuts : List ℕ) : Type 0 where
@@ -55,23 +67,25 @@ number ps cuts t x = (t - last-cut cuts) * length ps + x
 abbrev pub candidates : List Pattern → List ℕ → List ℕ → ℕ
 candidates ps route cuts = (length route + 1 - last-cut cuts) * length ps
 
--- The improving candidate of a number, built in the first places of `spare`.
-pub record GainAt (P : Problem) (ps : List Pattern) (route cuts : List ℕ) (examined : ℕ) (spare : List ℕ) : Type 0 where
+-- The improving candidate of a number: the pattern at the last cut of `cuts′`.
+pub record GainAt (P : Problem) (ps : List Pattern) (route cuts : List ℕ) (examined pattern : ℕ) (cuts′ : List ℕ) : Type 0 where
   pub last : ℕ
-  pub pattern : ℕ
   pub least : last-cut cuts ≤ last
   pub most : last ≤ length route
+  pub cuts-are : cuts′ ≡ first-cuts cuts ++ (last ∷ [])
   pub listed : pattern < length ps
   pub is : examined ≡ number ps cuts last pattern
   pub improves : improves-at P ps route cuts last pattern ≡ true
-  pub built : take (length route) spare ≡ reconnected (move-at ps (first-cuts cuts ++ (last ∷ [])) pattern) route
 
 -- The candidates examined do not improve the route. Then one does and is allowed; or the stretch is over, its last cut set at hand; or no more are allowed.
-pub record Stretched (P : Problem) (ps : List Pattern) (route cuts : List ℕ) (left : ℕ) (answer : Stretch) (cuts′ table spare : List ℕ) : Type 0 where
+pub record Ended (P : Problem) (ps : List Pattern) (route cuts : List ℕ) (left : ℕ) (answer : Stretch) (cuts′ : List ℕ) : Type 0 where
   pub idle : (t x : ℕ) → last-cut cuts ≤ t → t ≤ length route → x < length ps → number ps cuts t x < answer .examined → improves-at P ps route cuts t x ≡ false
   pub allowed : answer .examined ≤ left
-  pub gain : answer .gains ≡ true → (answer .examined < left) × GainAt P ps route cuts (answer .examined) spare
+  pub gain : answer .gains ≡ true → (answer .examined < left) × GainAt P ps route cuts (answer .examined) (answer .pattern) cuts′
   pub over : answer .through ≡ true → (answer .examined ≡ candidates ps route cuts) × (cuts′ ≡ first-cuts cuts ++ (length route ∷ []))
   pub spent : answer .gains ≡ false → answer .through ≡ false → (answer .examined ≡ left) × (left < candidates ps route cuts)
+
+-- Of whichever patterns the rows are.
+pub record Stretched (P : Problem) (patterns : ℕ) (rows route cuts : List ℕ) (left : ℕ) (answer : Stretch) (cuts′ table : List ℕ) : Type 0 where
+  pub ended : (ps : List Pattern) → Listed (length cuts) patterns rows ps → Ended P ps route cuts left answer cuts′
   pub padded : Padded table
-  pub places : length spare ≡ 512

@@ -1,15 +1,15 @@
 // A stretch of the scan: the cut sets with the same first cuts, in their order. Those that leave no room for a gain are passed over and counted. No entry: crate scanning calls it.
 ghost use mathlib.Core.Path.{_≡_};
 ghost use Prim.Native.Nat.{min, _*_, _≤_};
-ghost use lib.ListN.{length};
-ghost use Rattle.theory.specs.Tables.{problem, pattern-rows};
+ghost use Rattle.theory.specs.Tables.{problem};
 ghost use Rattle.stretches.specs.Stretch.{Passable, Passed, Hopeful, Stretchable, Stretched};
 
-// How a stretch ended: at an improving candidate, or through it, or else with the candidates allowed. Those before were examined.
+// How a stretch ended: at an improving candidate, whose pattern is told and whose cuts are at hand; or through it; or else with the candidates allowed. Those before were examined.
 pub struct Stretch {
     pub examined: u64,
     pub gains: bool,
     pub through: bool,
+    pub pattern: usize,
 }
 
 // The patterns of a cut set that are still allowed.
@@ -42,6 +42,7 @@ fn pass_stretch(stops: usize, patterns: usize, cuts: &mut [usize], left: u64) ->
             examined: left,
             gains: false,
             through: false,
+            pattern: 0,
         };
     }
     cuts[last] = stops;
@@ -49,6 +50,7 @@ fn pass_stretch(stops: usize, patterns: usize, cuts: &mut [usize], left: u64) ->
         examined: over,
         gains: false,
         through: true,
+        pattern: 0,
     }
 }
 
@@ -58,20 +60,18 @@ fn scan_last_cuts(
     legs: &[u32],
     latest: &[u32],
     depot: u32,
-    orders: &[u8],
-    masks: &[u8],
     rows: &[u8; 1532],
+    patterns: usize,
     route: &[u32],
     forward: &[u64; 512],
     backward: &[u64; 512],
     lateness: &[u64; 513],
     cuts: &mut [usize],
     joint: &mut [u64; 160],
-    spare: &mut [u32; 512],
     left: u64,
 ) -> Stretch
-    requires { ⌜ Hopeful locations (now legs) (now latest) depot (now orders) (now masks) (now rows) (now route) (now forward) (now backward) (now lateness) (now cuts) (now joint) (now spare) ⌝ }
-    ensures { λ r. ⌜ Stretched (problem locations (now (legs .entry)) (now (latest .entry)) depot) (pattern-rows (length (now (cuts .entry))) (now (orders .entry)) (now (masks .entry))) (now (route .entry)) (now (cuts .entry)) left r (now (cuts .exit)) (now (joint .exit)) (now (spare .exit)) ⌝ }
+    requires { ⌜ Hopeful locations (now legs) (now latest) depot (now rows) patterns (now route) (now forward) (now backward) (now lateness) (now cuts) (now joint) ⌝ }
+    ensures { λ r. ⌜ Stretched (problem locations (now (legs .entry)) (now (latest .entry)) depot) patterns (now (rows .entry)) (now (route .entry)) (now (cuts .entry)) left r (now (cuts .exit)) (now (joint .exit)) ⌝ }
 {
     let mut entries = [0u32; 8];
     let mut exits = [0u32; 8];
@@ -88,7 +88,7 @@ fn scan_last_cuts(
         backward,
         &cuts[..],
         rows,
-        masks.len(),
+        patterns,
         &mut entries,
         &mut exits,
         &mut inside,
@@ -111,12 +111,13 @@ fn scan_last_cuts(
             &low,
             &zero,
         );
-        let over = passed_patterns(hit - cuts[last], masks.len());
+        let over = passed_patterns(hit - cuts[last], patterns);
         if left - examined < over {
             return Stretch {
                 examined: left,
                 gains: false,
                 through: false,
+                pattern: 0,
             };
         }
         examined += over;
@@ -126,10 +127,11 @@ fn scan_last_cuts(
                 examined,
                 gains: false,
                 through: true,
+                pattern: 0,
             };
         }
         cuts[last] = hit;
-        let limit = still_allowed(masks.len(), left - examined);
+        let limit = still_allowed(patterns, left - examined);
         let found = search::first_gain(
             locations,
             legs,
@@ -139,12 +141,9 @@ fn scan_last_cuts(
             forward,
             backward,
             &cuts[..],
-            orders,
-            masks,
             rows,
             lateness,
             joint,
-            spare,
             &mut dues,
             limit,
         );
@@ -154,13 +153,15 @@ fn scan_last_cuts(
                 examined,
                 gains: true,
                 through: false,
+                pattern: found,
             };
         }
-        if limit < masks.len() {
+        if limit < patterns {
             return Stretch {
                 examined,
                 gains: false,
                 through: false,
+                pattern: 0,
             };
         }
         if hit == route.len() {
@@ -168,22 +169,22 @@ fn scan_last_cuts(
                 examined,
                 gains: false,
                 through: true,
+                pattern: 0,
             };
         }
         cuts[last] = hit + 1;
     }
 }
 
-// From the first cut set with its first cuts on, the first of the `left` candidates still allowed that improves the route; its candidate is in `spare`. With a head
-// beyond the longest, no candidate keeps every deadline.
+// From the first cut set with its first cuts on, the first of the `left` candidates still allowed that improves the route. With a head beyond the longest, no
+// candidate keeps every deadline.
 pub fn scan_stretch(
     locations: usize,
     legs: &[u32],
     latest: &[u32],
     depot: u32,
-    orders: &[u8],
-    masks: &[u8],
     rows: &[u8; 1532],
+    patterns: usize,
     route: &[u32],
     forward: &[u64; 512],
     backward: &[u64; 512],
@@ -191,30 +192,27 @@ pub fn scan_stretch(
     lateness: &[u64; 513],
     cuts: &mut [usize],
     joint: &mut [u64; 160],
-    spare: &mut [u32; 512],
     left: u64,
 ) -> Stretch
-    requires { ⌜ Stretchable locations (now legs) (now latest) depot (now orders) (now masks) (now rows) (now route) (now forward) (now backward) longest (now lateness) (now cuts) (now joint) (now spare) ⌝ }
-    ensures { λ r. ⌜ Stretched (problem locations (now (legs .entry)) (now (latest .entry)) depot) (pattern-rows (length (now (cuts .entry))) (now (orders .entry)) (now (masks .entry))) (now (route .entry)) (now (cuts .entry)) left r (now (cuts .exit)) (now (joint .exit)) (now (spare .exit)) ⌝ }
+    requires { ⌜ Stretchable locations (now legs) (now latest) depot (now rows) patterns (now route) (now forward) (now backward) longest (now lateness) (now cuts) (now joint) ⌝ }
+    ensures { λ r. ⌜ Stretched (problem locations (now (legs .entry)) (now (latest .entry)) depot) patterns (now (rows .entry)) (now (route .entry)) (now (cuts .entry)) left r (now (cuts .exit)) (now (joint .exit)) ⌝ }
 {
     if longest < cuts[0] {
-        return pass_stretch(route.len(), masks.len(), cuts, left);
+        return pass_stretch(route.len(), patterns, cuts, left);
     }
     scan_last_cuts(
         locations,
         legs,
         latest,
         depot,
-        orders,
-        masks,
         rows,
+        patterns,
         route,
         forward,
         backward,
         lateness,
         cuts,
         joint,
-        spare,
         left,
     )
 }

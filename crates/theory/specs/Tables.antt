@@ -4,11 +4,15 @@ use mathlib.Core.List.{List, [], _∷_, _++_, List·Memᴰ}
 use Prim.Native.Nat.{ℕ, suc, _+_, _-_, _*_, _^_, _≤_, _<_}
 use lib.ListN.{length, getD, take, drop}
 use Rattle.theory.specs.Moves.{Pattern, Rising, total, upfrom}
-use Rattle.theory.specs.Route.{Problem}
+use Rattle.theory.specs.Route.{Problem, Clock}
 
 -- "one lent table, a whole number of seconds for each ordered pair of locations, row = from"; "each location has a latest second".
+abbrev pub clock-by : ℕ → List ℕ → List ℕ → Clock
+clock-by locations legs latest = record { leg = λ a b. getD legs (a * locations + b) 0; latest = λ a. getD latest a 0 }
+
+-- With a depot. Its clock is the one above, by computation.
 abbrev pub problem : ℕ → List ℕ → List ℕ → ℕ → Problem
-problem locations legs latest depot = record { leg = λ a b. getD legs (a * locations + b) 0; latest = λ a. getD latest a 0; depot = depot }
+problem locations legs latest depot = let C = clock-by locations legs latest in record { leg = C .leg; latest = C .latest; depot = depot }
 
 -- The same where no deadline is read.
 abbrev pub legs-only : ℕ → List ℕ → ℕ → Problem

@@ -1,10 +1,10 @@
--- `scanning::clear_lateness` meets its contract. Assumes nothing.
+-- `taking::clear_lateness` meets its contract. Assumes nothing.
 use Prim.Native.Nat.{_+_, _-_, _≤_}
 use native.Mathlib.Omega.{arith}
 use borrow.Author.Needs.{needs}
-use Rattle.scanning.proofs.Taking.{Clearing, clear-next, all-clear}
-use Rattle.scanning.proofs.clear_lateness.Statement.{statement}
-use Rattle.scanning.proofs.clear_lateness.Tie as tie
+use Rattle.taking.proofs.Taking.{Clearing, clear-next, all-clear}
+use Rattle.taking.proofs.clear_lateness.Statement.{statement}
+use Rattle.taking.proofs.clear_lateness.Tie as tie
 
 abbrev Inv-loop : tie.InvT-loop
 Inv-loop stops lateness₀ c₀ lateness c = (c ≤ stops + 1) × Clearing lateness c

@@ -13,7 +13,7 @@ use Rattle.theory.proofs.Route.{total-reconnected}
 use Rattle.theory.proofs.Rows.{lent-row, lent-at, listed-for-k}
 use Rattle.theory.proofs.ForK.{for-k-order}
 use Rattle.theory.proofs.Stops.{as-many}
-use Rattle.search.specs.Candidate.{candidate, Candidate, BuildableFront, BuiltFront}
+use Rattle.taking.specs.Candidate.{candidate, Candidate, BuildableFront, BuiltFront}
 
 module _ {r cs orders masks : List ℕ} {i : ℕ} (given : Candidate r cs orders masks i) where
   abbrev move : Move
@@ -32,7 +32,7 @@ module _ {r cs orders masks : List ℕ} {i : ℕ} (given : Candidate r cs orders
   pub lent-candidate : reconnected (record { cuts = cs; pattern = record { order = lent-row (length cs) orders i; mask = getD masks i 0 } }) r ≡ candidate r cs orders masks i
   lent-candidate = ap (λ p. reconnected (record { cuts = cs; pattern = p }) r) (sym lent-pattern)
 
-  same-stops : (g : ℕ → ℕ) → total g (candidate r cs orders masks i) ≡ total g r
+  pub same-stops : (g : ℕ → ℕ) → total g (candidate r cs orders masks i) ≡ total g r
   same-stops g = total-reconnected g (length r) move r (given .cut-set .rising) (order-of .once)
 
   as-long : length (candidate r cs orders masks i) ≡ length r

@@ -1,23 +1,23 @@
 -- No two answers are told alike: each can be read back from its number and values. The deadline check's cannot, since kept and late at the number of stops have one value; what
--- forces it is `kept-forced` of FeasibleReply. Assumes nothing.
+-- forces it is `kept-forced` of crate mittenschist. Assumes nothing.
 use mathlib.Core.Path.{_≡_, refl}
 use mathlib.Core.List.{List, [], _∷_}
 use Prim.Native.Nat.{ℕ, zero, suc}
 use lib.ListN.{getD}
 use lib.IntN.{ℤ}
 use Rattle.theory.specs.Answers.{Answer, step-answer, length-answer, delta-answer, listing-answer, doable-answer, round-values}
 use Rattle.theory.specs.declared.CutStep.{CutStep}
 use Rattle.theory.specs.declared.CutStep.the-variants as Step
 use Rattle.theory.specs.declared.RouteLength.{RouteLength}
 use Rattle.theory.specs.declared.RouteLength.the-variants as Length
 use Rattle.theory.specs.declared.LengthDelta.{LengthDelta}
 use Rattle.theory.specs.declared.LengthDelta.the-variants as Delta
 use Rattle.theory.specs.declared.Listing.{Listing}
 use Rattle.theory.specs.declared.Listing.the-variants as Listed
 use Rattle.theory.specs.declared.Doable.{Doable}
 use Rattle.theory.specs.declared.Doable.the-variants as Do
 use Rattle.theory.specs.declared.RoundState.{RoundState}
 use Rattle.theory.specs.declared.RoundState.the-variants as Round
 
 abbrev step-of : ℕ → List ℕ → CutStep
 step-of n [] = Step.Refused n
