@@ -42,16 +42,16 @@ no-states J D rows a t at end whole e so-far = so-far ∙ rw (e, slice-empty end
 
 -- ---- as a middle
 
-module _ (C : Clock) (part : ℕ → List ℕ) {count head tail : ℕ} {J : List ℕ} (D : List ℕ) (t : JointTable (C .leg) part count head tail J)
+module _ (C : Clock) (part : ℕ → List ℕ) {count head tail : ℕ} {J : List ℕ} (D : List ℕ) (t : JointTable (C .step) part count head tail J)
     (full : (s : ℕ) → s < count → 0 < length (part s)) (dues : (s : ℕ) → s < count → Due C (part s) (getD D s 0)) where
-  along : (a exit c : ℕ) → JointRow (C .leg) (λ s. first-of (part s) 0) (λ s. inner (C .leg) (part s)) count tail J a exit →
+  along : (a exit c : ℕ) → JointRow (C .step) (λ s. first-of (part s) 0) (λ s. inner (C .step) (part s)) count tail J a exit →
       (bs : List ℕ) → ((b : ℕ) → List·Memᴰ b bs → b < count) → in-time J D a c bs ≡ on-time C exit c (flatten (map part bs))
   unfolding in-time on-time flatten
   along a exit c legs [] h = refl
   along a exit c legs (b ∷ bs) h =
       let k : b < count = h b (List·Memᴰ·head refl) in
-      let e : cell J a b ≡ path (C .leg) exit (part b) = legs .next b k ∙ sym (path-in (C .leg) exit (part b) (full b k)) in
-      let ih = along b (last-of 0 (part b)) (c + path (C .leg) exit (part b)) (t .from-each b k) bs (λ x m. h x (List·Memᴰ·tail m)) in
+      let e : cell J a b ≡ path (C .step) exit (part b) = legs .next b k ∙ sym (path-in (C .step) exit (part b) (full b k)) in
+      let ih = along b (last-of 0 (part b)) (c + path (C .step) exit (part b)) (t .from-each b k) bs (λ x m. h x (List·Memᴰ·tail m)) in
       rw (e, on-time-append C exit c (part b) (flatten (map part bs)), dues b k .is exit c, last-any exit 0 (part b) (full b k), ih)
 
 front-of : (a b : ℕ) (l : List ℕ) → slice a b l ≡ take (b - a) (drop a l)
@@ -92,7 +92,7 @@ module _ (k : ℕ) (order rows : List ℕ) (mask i : ℕ) (two : 2 ≤ k) (most 
       let b = state-below k mask (getD order (1 + j) 0) (middle .least (1 + j) (omega arith) (omega arith)) (middle .most (1 + j) (omega arith) (omega arith)) in
       omega (arith, b, is, ap (state-of mask) place)
 
-module _ (C : Clock) (cs r J D : List ℕ) (cut-set : CutSet (length cs) (length r) cs) {head tail : ℕ} (t : JointTable (C .leg) (placed-in cs r) (state-count (length cs)) head tail J)
+module _ (C : Clock) (cs r J D : List ℕ) (cut-set : CutSet (length cs) (length r) cs) {head tail : ℕ} (t : JointTable (C .step) (placed-in cs r) (state-count (length cs)) head tail J)
     (dues : DuesOf C cs r D) where
   -- The states of a pattern's row are left before their dues exactly where its middle segments, walked from the head's end, keep their deadlines.
   pub row-kept : (order rows : List ℕ) (mask i clock : ℕ) → ForK (length cs) order mask → row rows i ≡ states (length cs) order mask →

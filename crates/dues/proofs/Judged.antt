@@ -11,7 +11,7 @@ use lib.ListN.{length, getD, take, drop, length-append, length-drop}
 use lib.Seq.{take-at, drop-at, getD-at, split-at, take-take, getD-take, length-take-le}
 use borrow.Author.Tests.{le-leb}
 use Rattle.theory.specs.Moves.{Pattern, total, upfrom}
-use Rattle.theory.specs.Route.{Problem, Clock, clock-of, segments, reverses, reverse-if, placed, joined, reconnected, path, tour-length, arrival, timely, on-time}
+use Rattle.theory.specs.Route.{Problem, Clock, clock-of, segments, reverses, reverse-if, placed, joined, reconnected, path, tour-length, left, timely, on-time}
 use Rattle.theory.specs.Costs.{last-of, first-of}
 use Rattle.theory.specs.Tables.{CutSet, ForK}
 use Rattle.theory.proofs.Clock.{timely-on-time}
@@ -30,12 +30,12 @@ use Rattle.dues.specs.Parts.{head, middle, tail}
 
 -- When the standing tail's first stop is reached.
 tail-reached : (C : Clock) (depot : ℕ) (h m : List ℕ) (x : ℕ) (t : List ℕ) →
-    arrival C depot (h ++ (m ++ (x ∷ t))) (length h + length m) ≡ path (C .leg) depot h + path (C .leg) (last-of depot h) (m ++ (x ∷ []))
-unfolding arrival
+    left C depot (h ++ (m ++ (x ∷ t))) (length h + length m) ≡ path (C .step) depot h + path (C .step) (last-of depot h) (m ++ (x ∷ []))
+unfolding left
 tail-reached C depot h m x t =
     let e : h ++ (m ++ (x ∷ t)) ≡ (h ++ (m ++ (x ∷ []))) ++ t = simp append-assoc in
     let n : length (h ++ (m ++ (x ∷ []))) ≡ suc (length h + length m) = simp length-append (omega arith) in
-    rw (e, take-at (h ++ (m ++ (x ∷ []))) t (suc (length h + length m)) n, path-append (C .leg) depot h (m ++ (x ∷ [])))
+    rw (e, take-at (h ++ (m ++ (x ∷ []))) t (suc (length h + length m)) n, path-append (C .step) depot h (m ++ (x ∷ [])))
 
 module _ (P : Problem) (h m m′ : List ℕ) (g : ℕ) where
   abbrev C : Clock
@@ -62,7 +62,7 @@ module _ (P : Problem) (h m m′ : List ℕ) (g : ℕ) where
       let many : length (h ++ m) ≡ c = simp length-append in
       let left : drop c r ≡ x ∷ t = rw parted (drop-at (h ++ m) (x ∷ t) c many) in
       let first : getD r c 0 ≡ x = rw parted (getD-at (h ++ m) x t 0 c many) in
-      let there : clock + P .leg from x + g ≡ arrival C (P .depot) r c =
+      let there : clock + P .leg from x + g ≡ left C (P .depot) r c =
       omega (arith, e, delta P h m m′ (x ∷ t), tail-reached C (P .depot) h m x t, path-append (P .leg) (last-of (P .depot) h) m′ (x ∷ [])) in
       ap (on-time C from clock) (sym left)
       ∙ tail-on-time C (P .depot) r c from clock g (simp length-append (omega arith)) (λ _. ap (λ y. clock + P .leg from y + g) first ∙ there)

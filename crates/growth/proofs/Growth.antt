@@ -50,39 +50,39 @@ swap false false = refl
 
 -- ---- a stop more
 
-pub due-one : (C : Clock) (x : ℕ) → Due C (x ∷ []) (C .latest x + 1)
+pub due-one : (C : Clock) (x : ℕ) → Due C (x ∷ []) (C .until x + 1)
 unfolding on-time path
 due-one C x =
     record {
       is = λ a t.
-          let e : t + (C .leg a x + 0) ≡ t + C .leg a x = omega arith in
-          rw e (and-true (leb (t + C .leg a x) (C .latest x)) ∙ below (t + C .leg a x) (C .latest x));
+          let e : t + (C .step a x + 0) ≡ t + C .step a x = omega arith in
+          rw e (and-true (leb (t + C .step a x) (C .until x)) ∙ below (t + C .step a x) (C .until x));
     }
 
 one-leg : (d : ℕ → ℕ → ℕ) (a x : ℕ) → path d a (x ∷ []) ≡ d a x
 unfolding path
 one-leg d a x = omega arith
 
-pub due-behind : (C : Clock) (part : List ℕ) (g z y : ℕ) → Due C part g → ((a : ℕ) → last-of a part ≡ z) → Due C (part ++ (y ∷ [])) (min (g + C .leg z y) (C .latest y + 1))
+pub due-behind : (C : Clock) (part : List ℕ) (g z y : ℕ) → Due C part g → ((a : ℕ) → last-of a part ≡ z) → Due C (part ++ (y ∷ [])) (min (g + C .step z y) (C .until y + 1))
 due-behind C part g z y due last =
     record {
       is = λ a t.
-          let l = C .leg z y in
-          let e = t + path (C .leg) a part in
-          let whole : t + path (C .leg) a (part ++ (y ∷ [])) ≡ e + l = rw (path-append (C .leg) a part (y ∷ []), last a) (omega (arith, one-leg (C .leg) z y)) in
+          let l = C .step z y in
+          let e = t + path (C .step) a part in
+          let whole : t + path (C .step) a (part ++ (y ∷ [])) ≡ e + l = rw (path-append (C .step) a part (y ∷ []), last a) (omega (arith, one-leg (C .step) z y)) in
           on-time-append C a t part (y ∷ [])
-          ∙ rw (due .is a t, last a, due-one C y .is z e, whole, one-leg (C .leg) z y) (ap (λ b. b && ltb (e + l) (C .latest y + 1)) (shift e g l) ∙ both (e + l) (g + l) (C .latest y + 1));
+          ∙ rw (due .is a t, last a, due-one C y .is z e, whole, one-leg (C .step) z y) (ap (λ b. b && ltb (e + l) (C .until y + 1)) (shift e g l) ∙ both (e + l) (g + l) (C .until y + 1));
     }
 
-pub due-before : (C : Clock) (part : List ℕ) (g y : ℕ) → Due C part g → Due C (y ∷ part) (min g (C .latest y + 1 + path (C .leg) y part))
+pub due-before : (C : Clock) (part : List ℕ) (g y : ℕ) → Due C part g → Due C (y ∷ part) (min g (C .until y + 1 + path (C .step) y part))
 unfolding on-time path
 due-before C part g y due =
     record {
       is = λ a t.
-          let p = path (C .leg) y part in
-          let e = t + C .leg a y in
-          let whole : t + (C .leg a y + p) ≡ e + p = omega arith in
-          rw (due .is y e, whole, below e (C .latest y), shift e (C .latest y + 1) p) (swap (ltb (e + p) (C .latest y + 1 + p)) (ltb (e + p) g) ∙ both (e + p) g (C .latest y + 1 + p));
+          let p = path (C .step) y part in
+          let e = t + C .step a y in
+          let whole : t + (C .step a y + p) ≡ e + p = omega arith in
+          rw (due .is y e, whole, below e (C .until y), shift e (C .until y + 1) p) (swap (ltb (e + p) (C .until y + 1 + p)) (ltb (e + p) g) ∙ both (e + p) g (C .until y + 1 + p));
     }
 
 -- ---- a segment of a route
@@ -108,11 +108,11 @@ module _ {T : Tables} {r sums : List ℕ} {start end straight reversed : ℕ} (g
   turned-with : reverse (slice start (end + 1) r) ≡ stop ∷ reverse (slice start end r)
   turned-with = ap reverse (slice-snoc r start end (omega (arith, given .of .filled)) (given .more)) ∙ reverse-append (slice start end r) (stop ∷ [])
 
-  way-back : getD sums start 0 + path (C .leg) stop (reverse (slice start end r)) ≡ getD sums end 0
+  way-back : getD sums start 0 + path (C .step) stop (reverse (slice start end r)) ≡ getD sums end 0
   unfolding inner
   way-back =
-      let b = backward-inner (C .leg) r start end (omega (arith, given .of .filled)) (given .more) in
-      let c = ap (inner (C .leg)) (ap (λ n. reverse (slice start n r)) (sym (add-one end)) ∙ turned-with) in
+      let b = backward-inner (C .step) r start end (omega (arith, given .of .filled)) (given .more) in
+      let c = ap (inner (C .step)) (ap (λ n. reverse (slice start n r)) (sym (add-one end)) ∙ turned-with) in
       omega (arith, b, c, given .of .backwards .each start (omega (arith, given .of .filled, given .of .within)), given .of .backwards .each end (given .more))
 
   pub rises : getD sums start 0 ≤ getD sums end 0
@@ -122,10 +122,10 @@ module _ {T : Tables} {r sums : List ℕ} {start end straight reversed : ℕ} (g
   unfolding reverse-if
   last-stop a = last-placed r start end (given .of .filled) (given .of .within) false a
 
-  pub grown : (own leg s v : ℕ) → own ≡ getD (T .latest) stop 0 + 1 → own ≤ 2 ^ 32 → leg ≡ C .leg last stop → s ≡ min (straight + leg) own → v ≡ min reversed (own + (getD sums end 0 - getD sums start 0)) →
+  pub grown : (own leg s v : ℕ) → own ≡ getD (T .latest) stop 0 + 1 → own ≤ 2 ^ 32 → leg ≡ C .step last stop → s ≡ min (straight + leg) own → v ≡ min reversed (own + (getD sums end 0 - getD sums start 0)) →
       SegmentDues C (slice start (end + 1) r) s v
   grown own leg s v o small l e f =
-      let b : getD sums end 0 - getD sums start 0 ≡ path (C .leg) stop (reverse (slice start end r)) = omega (arith, way-back) in
+      let b : getD sums end 0 - getD sums start 0 ≡ path (C .step) stop (reverse (slice start end r)) = omega (arith, way-back) in
       record {
         as-it-stands = rw (e, l, o, slice-snoc r start end (omega (arith, given .of .filled)) (given .more)) (due-behind C (slice start end r) straight last stop (given .dues .as-it-stands) last-stop);
         turned = rw (f, b, o, turned-with) (due-before C (reverse (slice start end r)) reversed stop (given .dues .turned));

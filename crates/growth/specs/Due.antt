@@ -13,7 +13,7 @@ use Rattle.costs.specs.RouteCosts.{leg, Sums}
 -- "A stop is late if the legs from the depot up to it exceed its latest": from wherever and at whatever second one sets out, no stop of the part is late
 -- exactly where its last one is reached before the due.
 pub record Due (C : Clock) (part : List ℕ) (due : ℕ) : Type 0 where
-  pub is : (a t : ℕ) → on-time C a t part ≡ ltb (t + path (C .leg) a part) due
+  pub is : (a t : ℕ) → on-time C a t part ≡ ltb (t + path (C .step) a part) due
 
 pub record OwnDueIs (latest : List ℕ) (stop due : ℕ) : Type 0 where
   pub is : due ≡ getD latest stop 0 + 1
