@@ -1,12 +1,12 @@
 -- The stays of a route, filled stop by stop; and the clock's steps as legs and services apart. Assumes nothing.
 use mathlib.Core.Path.{_≡_, refl, sym, ap, _∙_}
-use mathlib.Core.List.{List, [], _∷_}
+use mathlib.Core.List.{List, [], _∷_, _++_}
 use Prim.Native.Nat.{ℕ, zero, suc, _+_, _-_, _*_, _≤_, _<_}
 use native.Mathlib.Decide.{ℕ-discrete}
 use native.Mathlib.Numerals.{add-one}
 use native.Mathlib.Omega.{arith}
-use lib.ListN.{length, getD, set, take, length-set}
-use lib.Seq.{take-suc, getD-set-same, getD-set-other}
+use lib.ListN.{length, getD, set, take, length-set, take-append-drop}
+use lib.Seq.{slice, take-suc, take-take, getD-set-same, getD-set-other}
 use Rattle.theory.specs.Moves.{total}
 use Rattle.theory.specs.Route.{path, left}
 use Rattle.theory.specs.Tables.{Tables, clock-by}
@@ -65,6 +65,15 @@ all-stays service r stayed i sum so h = record { places = so .places; each = λ 
 module _ {service r stayed : List ℕ} (stays : Stays service r stayed) (i : ℕ) (h : i < length r) where
   pub served : getD stayed (i + 1) 0 ≡ getD stayed i 0 + getD service (getD r i 0) 0
   served = omega (arith, stays .each (i + 1) (omega arith), stays .each i (omega arith), total-next (λ x. getD service x 0) r i h)
+
+-- The service of a part of the route.
+pub stayed-along : {service r stayed : List ℕ} → Stays service r stayed → (start end : ℕ) → start ≤ end → end ≤ length r →
+    getD stayed start 0 + total (λ x. getD service x 0) (slice start end r) ≡ getD stayed end 0
+stayed-along {service} {r} stays start end h k =
+    let g : ℕ → ℕ = λ x. getD service x 0 in
+    let whole : take start r ++ slice start end r ≡ take end r =
+    ap (λ (l : List ℕ). l ++ slice start end r) (sym (take-take start end r h)) ∙ take-append-drop start (take end r) in
+    omega (arith, stays .each start (omega arith), stays .each end k, ap (total g) whole, total-append g (take start r) (slice start end r))
 
 -- Legs and services apart.
 pub path-step : (T : Tables) (a : ℕ) (xs : List ℕ) → path (clock-by T .step) a xs ≡ path (leg (T .locations) (T .legs)) a xs + total (λ x. getD (T .service) x 0) xs

@@ -38,7 +38,7 @@ pub fn check_deadlines(
 }
 
 // The service of a stop.
-fn service_of(service: &[u32], stop: u32) -> u64
+pub fn service_of(service: &[u32], stop: u32) -> u64
     requires { ⌜ ServiceOf (now service) stop ⌝ }
     ensures { λ r. ⌜ ServiceIs (now (service .entry)) stop r ⌝ }
 {

@@ -3,8 +3,7 @@ use deadlines::least;
 ghost use Prim.Native.Nat.{_+_};
 ghost use lib.Seq.{slice};
 ghost use Rattle.theory.specs.Tables.{clock-by, tables};
-ghost use Rattle.deadlines.specs.Lateness.{LatestOf};
-ghost use Rattle.growth.specs.Due.{OwnDueIs, Growable, GrowableTo, Spannable, SegmentDues};
+ghost use Rattle.growth.specs.Due.{OwnDueAsked, OwnDue, WayBackAsked, WayBack, Growable, GrowableTo, Spannable, SegmentDues};
 
 // The dues of a segment as it stands and reversed.
 pub struct Dues {
@@ -12,12 +11,21 @@ pub struct Dues {
     pub reversed: u64,
 }
 
-// The second behind the latest one of a stop.
-fn own_due(latest: &[u32], stop: u32) -> u64
-    requires { ⌜ LatestOf (now latest) stop ⌝ }
-    ensures { λ r. ⌜ OwnDueIs (now (latest .entry)) stop r ⌝ }
+// The second behind the last one at which a stop may be left.
+fn own_due(latest: &[u32], stop: u32, served: u64) -> u64
+    requires { ⌜ OwnDueAsked (now latest) stop served ⌝ }
+    ensures { λ r. ⌜ OwnDue (now (latest .entry)) stop served r ⌝ }
 {
-    deadlines::latest_of(latest, stop) + 1
+    let place = stop as usize;
+    latest[place] as u64 + served + 1
+}
+
+// The seconds from leaving the stop at `end` to leaving the one at `start`, back along the route.
+fn way_back(backward: &[u64; 512], stayed: &[u64; 513], start: usize, end: usize) -> u64
+    requires { ⌜ WayBackAsked (now backward) (now stayed) start end ⌝ }
+    ensures { λ r. ⌜ WayBack (now (backward .entry)) (now (stayed .entry)) start end r ⌝ }
+{
+    (backward[end] - backward[start]) + (stayed[end] - stayed[start])
 }
 
 // The dues of route[start..end + 1] from those of route[start..end].
@@ -25,23 +33,26 @@ fn take_in(
     locations: usize,
     legs: &[u32],
     latest: &[u32],
+    service: &[u32],
     route: &[u32],
     backward: &[u64; 512],
+    stayed: &[u64; 513],
     start: usize,
     end: usize,
     straight: u64,
     reversed: u64,
 ) -> Dues
-    requires { ⌜ Growable (tables locations (now legs) (now latest)) (now route) (now backward) start end straight reversed ⌝ }
-    ensures { λ r. ⌜ SegmentDues (clock-by (tables locations (now (legs .entry)) (now (latest .entry)))) (slice start (end + 1) (now (route .entry))) (r .straight) (r .reversed) ⌝ }
+    requires { ⌜ Growable (tables locations (now legs) (now latest) (now service)) (now route) (now backward) (now stayed) start end straight reversed ⌝ }
+    ensures { λ r. ⌜ SegmentDues (clock-by (tables locations (now (legs .entry)) (now (latest .entry)) (now (service .entry)))) (slice start (end + 1) (now (route .entry))) (r .straight) (r .reversed) ⌝ }
 {
     let last = route[end - 1];
     let stop = route[end];
-    let own = own_due(latest, stop);
-    let leg = costs::route_distance(locations, legs, last, stop);
-    let back = backward[end] - backward[start];
+    let served = deadlines::service_of(service, stop);
+    let own = own_due(latest, stop, served);
+    let step = costs::route_distance(locations, legs, last, stop) + served;
+    let back = way_back(backward, stayed, start, end);
     Dues {
-        straight: least(straight + leg, own),
+        straight: least(straight + step, own),
         reversed: least(reversed, own + back),
     }
 }
@@ -51,16 +62,18 @@ pub fn grow_dues(
     locations: usize,
     legs: &[u32],
     latest: &[u32],
+    service: &[u32],
     route: &[u32],
     backward: &[u64; 512],
+    stayed: &[u64; 513],
     start: usize,
     from: usize,
     to: usize,
     straight: u64,
     reversed: u64,
 ) -> Dues
-    requires { ⌜ GrowableTo (tables locations (now legs) (now latest)) (now route) (now backward) start from to straight reversed ⌝ }
-    ensures { λ r. ⌜ SegmentDues (clock-by (tables locations (now (legs .entry)) (now (latest .entry)))) (slice start to (now (route .entry))) (r .straight) (r .reversed) ⌝ }
+    requires { ⌜ GrowableTo (tables locations (now legs) (now latest) (now service)) (now route) (now backward) (now stayed) start from to straight reversed ⌝ }
+    ensures { λ r. ⌜ SegmentDues (clock-by (tables locations (now (legs .entry)) (now (latest .entry)) (now (service .entry)))) (slice start to (now (route .entry))) (r .straight) (r .reversed) ⌝ }
 {
     let mut dues = Dues { straight, reversed };
     let mut upto = from;
@@ -69,8 +82,10 @@ pub fn grow_dues(
             locations,
             legs,
             latest,
+            service,
             route,
             backward,
+            stayed,
             start,
             upto,
             dues.straight,
@@ -86,21 +101,27 @@ pub fn segment_dues(
     locations: usize,
     legs: &[u32],
     latest: &[u32],
+    service: &[u32],
     route: &[u32],
     backward: &[u64; 512],
+    stayed: &[u64; 513],
     start: usize,
     end: usize,
 ) -> Dues
-    requires { ⌜ Spannable (tables locations (now legs) (now latest)) (now route) (now backward) start end ⌝ }
-    ensures { λ r. ⌜ SegmentDues (clock-by (tables locations (now (legs .entry)) (now (latest .entry)))) (slice start end (now (route .entry))) (r .straight) (r .reversed) ⌝ }
+    requires { ⌜ Spannable (tables locations (now legs) (now latest) (now service)) (now route) (now backward) (now stayed) start end ⌝ }
+    ensures { λ r. ⌜ SegmentDues (clock-by (tables locations (now (legs .entry)) (now (latest .entry)) (now (service .entry)))) (slice start end (now (route .entry))) (r .straight) (r .reversed) ⌝ }
 {
-    let own = own_due(latest, route[start]);
+    let stop = route[start];
+    let served = deadlines::service_of(service, stop);
+    let own = own_due(latest, stop, served);
     grow_dues(
         locations,
         legs,
         latest,
+        service,
         route,
         backward,
+        stayed,
         start,
         start + 1,
         end,

@@ -21,7 +21,7 @@ unfolding total
 total-reverseAux g [] r = omega arith
 total-reverseAux g (x ∷ l) r = omega (arith, total-reverseAux g l (x ∷ r))
 
-total-reverse-if : (g : ℕ → ℕ) (b : Bool) (l : List ℕ) → total g (reverse-if b l) ≡ total g l
+pub total-reverse-if : (g : ℕ → ℕ) (b : Bool) (l : List ℕ) → total g (reverse-if b l) ≡ total g l
 unfolding reverse-if total
 total-reverse-if g true l = omega (arith, total-reverseAux g l [])
 total-reverse-if g false l = refl
@@ -46,11 +46,16 @@ unfolding total upfrom flatten
 total-segments g [] = refl
 total-segments g (p ∷ ps) = omega (arith, total-append g p (flatten ps), total-segments g ps, total-shift (λ i. total g (getD (p ∷ ps) i [])) 0 (length ps))
 
+-- Over placed segments, whichever are reversed.
+pub total-placed : (g : ℕ → ℕ) (mask : ℕ) (ps : List (List ℕ)) (o : List ℕ) → total g (flatten (placed mask ps o)) ≡ total (λ i. total g (getD ps i [])) o
+unfolding placed
+total-placed g mask ps o =
+    total-flatten g (λ i. reverse-if (reverses mask i) (getD ps i [])) o ∙ total-same _ _ (λ i. total-reverse-if g (reverses mask i) (getD ps i [])) o
+
 pub total-joined : (g : ℕ → ℕ) (p : Pattern) (ps : List (List ℕ)) → ((h : ℕ → ℕ) → total h (p .order) ≡ total h (upfrom 0 (length ps))) → total g (joined p ps) ≡ total g (flatten ps)
-unfolding joined placed
+unfolding joined
 total-joined g p ps h =
-    total-flatten g (λ i. reverse-if (reverses (p .mask) i) (getD ps i [])) (p .order)
-    ∙ total-same _ _ (λ i. total-reverse-if g (reverses (p .mask) i) (getD ps i [])) (p .order)
+    total-placed g (p .mask) ps (p .order)
     ∙ h (λ i. total g (getD ps i []))
     ∙ total-segments g ps
 
