@@ -1,4 +1,4 @@
--- The stays of a route, filled stop by stop; and the clock's steps as legs and services apart. Assumes nothing.
+-- The stays of a route, filled stop by stop, and read. Assumes nothing.
 use mathlib.Core.Path.{_≡_, refl, sym, ap, _∙_}
 use mathlib.Core.List.{List, [], _∷_, _++_}
 use Prim.Native.Nat.{ℕ, zero, suc, _+_, _-_, _*_, _≤_, _<_}
@@ -8,10 +8,10 @@ use native.Mathlib.Omega.{arith}
 use lib.ListN.{length, getD, set, take, length-set, take-append-drop}
 use lib.Seq.{slice, take-suc, take-take, getD-set-same, getD-set-other}
 use Rattle.theory.specs.Moves.{total}
-use Rattle.theory.specs.Route.{path, left}
-use Rattle.theory.specs.Tables.{Tables, clock-by}
+use Rattle.theory.specs.Route.{left}
+use Rattle.theory.specs.Tables.{Tables, timetable-by, clock-by}
+use Rattle.theory.proofs.Clock.{path-step}
 use Rattle.theory.proofs.Moves.{total-append}
-use Rattle.costs.specs.RouteCosts.{leg}
 use Rattle.deadlines.specs.Stays.{Stays}
 use Rattle.deadlines.specs.Lateness.{LeftAt, UntilAt}
 
@@ -75,17 +75,11 @@ stayed-along {service} {r} stays start end h k =
     ap (λ (l : List ℕ). l ++ slice start end r) (sym (take-take start end r h)) ∙ take-append-drop start (take end r) in
     omega (arith, stays .each start (omega arith), stays .each end k, ap (total g) whole, total-append g (take start r) (slice start end r))
 
--- Legs and services apart.
-pub path-step : (T : Tables) (a : ℕ) (xs : List ℕ) → path (clock-by T .step) a xs ≡ path (leg (T .locations) (T .legs)) a xs + total (λ x. getD (T .service) x 0) xs
-unfolding path total
-path-step T a [] = refl
-path-step T a (x ∷ xs) = omega (arith, path-step T x xs)
-
 -- When a stop is left, and until when it may be, on the clock.
 module _ (T : Tables) {r stayed : List ℕ} (stays : Stays (T .service) r stayed) (i : ℕ) (h : i < length r) where
   pub left-told : {depot v : ℕ} → LeftAt (T .locations) (T .legs) depot r stayed i v → v ≡ left (clock-by T) depot r i
   unfolding left
-  left-told {depot} a = a .is ∙ rw (stays .each (i + 1) (omega arith), add-one i) (sym (path-step T depot (take (suc i) r)))
+  left-told {depot} a = a .is ∙ rw (stays .each (i + 1) (omega arith), add-one i) (sym (path-step (timetable-by T) depot (take (suc i) r)))
 
   pub until-told : {v : ℕ} → UntilAt (T .latest) r stayed i v → v ≡ clock-by T .until (getD r i 0)
   until-told u = omega (arith, u .is, served stays i h)

@@ -13,13 +13,14 @@ use borrow.Author.Tests.{lt-ltb, le-ltb, le-leb, lt-leb}
 use Rattle.theory.specs.Moves.{total}
 use Rattle.theory.specs.Route.{Clock, path, reverse-if, on-time}
 use Rattle.theory.specs.Costs.{last-of, inner, backward}
-use Rattle.theory.specs.Tables.{clock-by, Tables}
+use Rattle.theory.specs.Tables.{Tables, timetable-by, clock-by}
+use Rattle.theory.proofs.Clock.{path-step}
 use Rattle.theory.proofs.Costs.{path-append, backward-inner}
 use Rattle.theory.proofs.Route.{total-reverse-if}
 use Rattle.costs.specs.RouteCosts.{leg}
 use Rattle.costs.proofs.Segments.{last-placed}
 use Rattle.deadlines.proofs.Along.{on-time-append}
-use Rattle.deadlines.proofs.Stays.{stayed-along, path-step}
+use Rattle.deadlines.proofs.Stays.{stayed-along}
 use Rattle.growth.specs.Due.{Due, OwnDue, WayBackAsked, WayBack, SegmentDues, Spannable, Growable}
 
 -- ---- numbers
@@ -128,7 +129,7 @@ module _ {T : Tables} {r sums stayed : List ℕ} {start end straight reversed : 
       omega (arith, stayed-along (given .of .read .stays) start end (omega (arith, given .of .filled)) (given .of .within), total-reverse-if (λ x. getD (T .service) x 0) true (slice start end r))
 
   way-back : (v : ℕ) → WayBack sums stayed start end v → v ≡ path (C .step) stop (reverse (slice start end r))
-  way-back v w = omega (arith, w .is, legs-back, services-back, path-step T stop (reverse (slice start end r)))
+  way-back v w = omega (arith, w .is, legs-back, services-back, path-step (timetable-by T) stop (reverse (slice start end r)))
 
   pub way-back-asked : WayBackAsked sums stayed start end
   way-back-asked =

@@ -34,6 +34,12 @@ by-iff true b e = sym (e .0 refl)
 by-iff false true e = e .1 refl
 by-iff false false e = refl
 
+-- Legs and services apart.
+pub path-step : (B : Timetable) (a : ℕ) (xs : List ℕ) → path (clock B .step) a xs ≡ path (B .leg) a xs + total (B .service) xs
+unfolding path total
+path-step B a [] = refl
+path-step B a (x ∷ xs) = omega (arith, path-step B x xs)
+
 -- Left after its service: every stop reached in time is left in time, and the other way round.
 pub left-is : (B : Timetable) (depot : ℕ) (r : List ℕ) (i : ℕ) → i < length r → left (clock B) depot r i ≡ arrival B depot r i + B .service (getD r i 0)
 unfolding left arrival path total
