@@ -8,11 +8,13 @@ use lib.Dec.{ltb}
 use lib.Ieee.{Float}
 use lib.ListN.{length}
 use borrow.Author.Tests.{ltb-false}
-use Rattle.theory.specs.Refusals.{Rule, number, either, refusal, cut-count, leg-table, deadline-list, leg-sizes, known-stops, stop-count, pattern-index, known-rounds, round-lists, nearby-input, room}
-use Rattle.theory.proofs.Refusals.{passed, either-zero, either-assoc, three-then, four-then, applies-first, passed-over}
+use Rattle.theory.specs.Tables.{Tables}
+use Rattle.theory.specs.Refusals.{Rule, number, either, refusal, cut-count, leg-table, leg-sizes, known-stops, stop-count, pattern-index, nearby-input, room, table-rules}
+use Rattle.theory.proofs.Refusals.{passed, either-zero, either-assoc, four-then, applies-first, passed-over}
 use Rattle.theory.proofs.LastRule.{early, room-last}
 use Rattle.theory.proofs.Judged.{cut-count-fine}
-use Rattle.judging.specs.Rules.{pattern-rules, route-length-rules, run-rules, nearby-rules, with-room}
+use Rattle.refusals.proofs.Either.{tables-then}
+use Rattle.judging.specs.Rules.{pattern-rules, route-length-rules, rounds-rules, run-rules, nearby-rules, with-room}
 
 -- The rules of the route, and then the others.
 pub route-then : (locations : ℕ) (legs : List ℕ) (depot : ℕ) (route : List ℕ) (rest : ℕ) →
@@ -21,15 +23,6 @@ pub route-then : (locations : ℕ) (legs : List ℕ) (depot : ℕ) (route : List
 unfolding refusal
 route-then locations legs depot route rest =
     four-then (number (leg-table locations legs)) (number (leg-sizes legs)) (number (known-stops locations depot route)) (number (stop-count (length route))) rest
-
--- The rules of the tables, and then the others.
-tables-then : (locations : ℕ) (legs latest : List ℕ) (rest : ℕ) →
-    either (refusal (leg-table locations legs ∷ deadline-list locations latest ∷ leg-sizes legs ∷ [])) rest
-    ≡ either (number (leg-table locations legs)) (either (number (deadline-list locations latest)) (either (number (leg-sizes legs)) rest))
-unfolding refusal
-tables-then locations legs latest rest =
-    ap (λ x. either (either (number (leg-table locations legs)) (either (number (deadline-list locations latest)) x)) rest) (either-zero (number (leg-sizes legs)))
-    ∙ three-then (number (leg-table locations legs)) (number (deadline-list locations latest)) (number (leg-sizes legs)) rest
 
 by-5 : (b : Bool) → _≡_ {A = ℕ} (cond b 5 0) 0 → b ≡ false
 by-5 true z = absurd (omega arith)
@@ -64,13 +57,11 @@ pub room-left : (rules : List Rule) → early rules ≡ true → (needed lent a 
 room-left rules before needed lent a b p q h = q ∙ passed-over a (refusal rules) (number (room needed lent)) p h ∙ sym (room-last rules needed lent before)
 
 -- k, the tables, the rounds.
-pub run-parts : (k locations : ℕ) (legs latest stops lengths depots pins : List ℕ) (lent a b c : ℕ) → a ≡ number (cut-count k) →
-    b ≡ refusal (leg-table locations legs ∷ deadline-list locations latest ∷ leg-sizes legs ∷ []) →
-    c ≡ refusal (known-rounds locations depots stops ∷ round-lists lengths depots pins (length stops) ∷ room (4 * length lengths) lent ∷ []) →
-    either a (either b c) ≡ refusal (run-rules k locations legs latest stops lengths depots pins lent)
+pub run-parts : (k : ℕ) (T : Tables) (stops lengths depots pins : List ℕ) (lent a b c : ℕ) → a ≡ number (cut-count k) → b ≡ refusal (table-rules T) →
+    c ≡ refusal (with-room (rounds-rules (T .locations) stops lengths depots pins) (4 * length lengths) lent) →
+    either a (either b c) ≡ refusal (run-rules k T stops lengths depots pins lent)
 unfolding refusal
-run-parts k locations legs latest stops lengths depots pins lent a b c p q r =
-    ap₂ either p (ap₂ either q r ∙ tables-then locations legs latest (either (number (known-rounds locations depots stops)) (either (number (round-lists lengths depots pins (length stops))) (either (number (room (4 * length lengths) lent)) 0))))
+run-parts k T stops lengths depots pins lent a b c p q r = ap₂ either p (ap₂ either q r ∙ tables-then T _)
 
 -- k and n, and then the input and the room for the sets.
 module _ (n : ℕ) (distances : List Float) (k m neighbours lent a : ℕ) (sized : a ≡ either (number (cut-count k)) (number (stop-count n))) where
