@@ -6,18 +6,19 @@ use Prim.Native.Nat.{ℕ, _*_}
 use lib.Dec.{leb, ltb, eqb}
 use lib.ListN.{length, getD}
 use borrow.Author.Tests.{ltb-false, leb-false, eqb-true, not-false}
+use Rattle.theory.specs.Tables.{Tables}
 use Rattle.theory.specs.Moves.{total}
 use Rattle.theory.specs.Refusals.{some, cut-count, leg-table, deadline-list, leg-sizes, known-rounds, round-lists, room}
 use Rattle.theory.proofs.Judged.{or-false, none-at, cut-count-fine, table-fine, deadlines-fine, room-fine}
 use Rattle.run.specs.Run.{Runnable}
 
-pub runnable-fine : (k locations : ℕ) (legs latest stops lengths depots pins result : List ℕ) →
-    cut-count k .1 ≡ false → leg-table locations legs .1 ≡ false → deadline-list locations latest .1 ≡ false → leg-sizes legs .1 ≡ false →
-    known-rounds locations depots stops .1 ≡ false → round-lists lengths depots pins (length stops) .1 ≡ false →
-    room (4 * length lengths) (length result) .1 ≡ false → Runnable k locations legs latest stops lengths depots pins result
-runnable-fine k locations legs latest stops lengths depots pins result a b c d e f g =
+pub runnable-fine : (k : ℕ) (T : Tables) (stops lengths depots pins result : List ℕ) →
+    cut-count k .1 ≡ false → leg-table (T .locations) (T .legs) .1 ≡ false → deadline-list (T .locations) (T .latest) .1 ≡ false → leg-sizes (T .legs) .1 ≡ false →
+    known-rounds (T .locations) depots stops .1 ≡ false → round-lists lengths depots pins (length stops) .1 ≡ false →
+    room (4 * length lengths) (length result) .1 ≡ false → Runnable k T stops lengths depots pins result
+runnable-fine k T stops lengths depots pins result a b c d e f g =
     let n = cut-count-fine k a in
-    let p = or-false (some (λ s. leb locations s) depots) (some (λ s. leb locations s) stops) e in
+    let p = or-false (some (λ s. leb (T .locations) s) depots) (some (λ s. leb (T .locations) s) stops) e in
     let many = ltb 64 (length lengths) in
     let long = some (λ n. ltb 512 n) lengths in
     let depots-differ = not (eqb (length depots) (length lengths)) in
@@ -30,10 +31,10 @@ runnable-fine k locations legs latest stops lengths depots pins result a b c d e
     record {
       least = n .0;
       most = n .1;
-      table = table-fine locations legs b d;
-      deadlines = deadlines-fine locations latest c;
-      stops-known = λ i h. leb-false locations (getD stops i 0) (none-at (λ s. leb locations s) stops (p .1) i h);
-      depots-known = λ i h. leb-false locations (getD depots i 0) (none-at (λ s. leb locations s) depots (p .0) i h);
+      table = table-fine (T .locations) (T .legs) b d;
+      deadlines = deadlines-fine (T .locations) (T .latest) c;
+      stops-known = λ i h. leb-false (T .locations) (getD stops i 0) (none-at (λ s. leb (T .locations) s) stops (p .1) i h);
+      depots-known = λ i h. leb-false (T .locations) (getD depots i 0) (none-at (λ s. leb (T .locations) s) depots (p .0) i h);
       few = ltb-false 64 (length lengths) (q₄ .0);
       short = λ i h. ltb-false 512 (getD lengths i 0) (none-at (λ n. ltb 512 n) lengths (q₄ .1) i h);
       depots-each = eqb-true (length depots) (length lengths) (not-false _ (q₃ .1));

@@ -9,7 +9,7 @@ use lib.ListN.{length, getD, take, drop, length-map, length-take, length-drop, L
 use lib.Seq.{take-at, drop-at, drop-drop, ext-getD}
 use Rattle.theory.specs.Moves.{total, upfrom}
 use Rattle.theory.specs.Route.{Problem, count}
-use Rattle.theory.specs.Tables.{problem}
+use Rattle.theory.specs.Tables.{problem, Tables}
 use Rattle.theory.specs.declared.RoundState.the-variants as State
 use Rattle.theory.proofs.Moves.{length-upfrom}
 use Rattle.states.specs.States.{number-of, examined-of}
@@ -126,35 +126,35 @@ module _ (lengths depots pins stops : List ℕ) where
       size i h = simp (length-take, length-drop) (omega (arith, within lengths i h, e))
 
 -- Where stops and result are the definition's, the rest of the promise follows.
-module _ (k A locations : ℕ) (legs latest stops lengths depots pins result : List ℕ) (ok : Runnable k locations legs latest stops lengths depots pins result) where
+module _ (k A : ℕ) (T : Tables) (stops lengths depots pins result : List ℕ) (ok : Runnable k T stops lengths depots pins result) where
   abbrev gs : List Given
   gs = rounds lengths depots pins stops
 
   abbrev os : List Outcome
-  os = run (problem locations legs latest) k A gs
+  os = run (problem T) k A gs
 
   -- The outcome of round i.
   module _ (i : ℕ) (h : i < length lengths) where
     abbrev P : Problem
-    P = problem locations legs latest (getD depots i 0)
+    P = problem T (getD depots i 0)
 
     mine : (a : ℕ) × (getD os i none ≡ run-round P k a (getD pins i 0) (round-at lengths stops i))
-    mine = rw (given-at lengths depots pins stops i h) at (turn-of (problem locations legs latest) k gs A i (omega (arith, how-many lengths depots pins stops, h)))
+    mine = rw (given-at lengths depots pins stops i h) at (turn-of (problem T) k gs A i (omega (arith, how-many lengths depots pins stops, h)))
 
     listed : i < length os
-    listed = omega (arith, as-many (problem locations legs latest) k gs A, how-many lengths depots pins stops, h)
+    listed = omega (arith, as-many (problem T) k gs A, how-many lengths depots pins stops, h)
 
     fine : Fine P k (mine .0) (round-at lengths stops i) (getD os i none)
     fine = rw (mine .1) (round-fine P k (mine .0) (getD pins i 0) (round-at lengths stops i) (ok .least))
 
     route-is : round-at lengths (routes os) i ≡ getD os i none .route
     route-is =
-        rw (same-lengths (problem locations legs latest) k (ok .least) gs A ∙ lengths-are lengths depots pins stops (ok .end-to-end))
+        rw (same-lengths (problem T) k (ok .least) gs A ∙ lengths-are lengths depots pins stops (ok .end-to-end))
         at (route-at os i listed)
 
-  pub ran : (stops′ result′ : List ℕ) → stops′ ≡ routes (run (problem locations legs latest) k A (rounds lengths depots pins stops)) →
-      result′ ≡ numbers (run (problem locations legs latest) k A (rounds lengths depots pins stops)) ++ drop (4 * length lengths) result →
-      Ran k A locations legs latest stops lengths depots pins result stops′ result′
+  pub ran : (stops′ result′ : List ℕ) → stops′ ≡ routes (run (problem T) k A (rounds lengths depots pins stops)) →
+      result′ ≡ numbers (run (problem T) k A (rounds lengths depots pins stops)) ++ drop (4 * length lengths) result →
+      Ran k A T stops lengths depots pins result stops′ result′
   unfolding count
   ran stops′ result′ s n =
       let rest = drop (4 * length lengths) result in
@@ -162,21 +162,21 @@ module _ (k A locations : ℕ) (legs latest stops lengths depots pins result : L
       λ i h. ap (λ (l : List ℕ). getD l (4 * i) 0) n ∙ number-at os rest i (listed i h) in
       let route : (i : ℕ) → i < length lengths → round-at lengths stops′ i ≡ getD os i none .route =
       λ i h. ap (λ (l : List ℕ). round-at lengths l i) s ∙ route-is i h in
-      let many : length lengths ≡ length os = sym (as-many (problem locations legs latest) k gs A ∙ how-many lengths depots pins stops) in
+      let many : length lengths ≡ length os = sym (as-many (problem T) k gs A ∙ how-many lengths depots pins stops) in
       let examined : examined-in result′ (length lengths) ≡ taken os = rw (many, n) (taken-is os rest) in
       record {
         stops-are = s;
         result-is = n;
         same-stops = λ i h x. ap (count x) (route i h) ∙ fine i h .same (λ y. cond (eqb x y) 1 0);
         unchanged = λ i h e. route i h ∙ fine i h .unchanged (rw (number i h) at e);
-        within = rw examined (taken-within (problem locations legs latest) k (ok .least) gs A);
+        within = rw examined (taken-within (problem T) k (ok .least) gs A);
         spent = λ i h e.
             examined
-            ∙ all-taken (problem locations legs latest) k (ok .least) gs A i (omega (arith, how-many lengths depots pins stops, h))
+            ∙ all-taken (problem T) k (ok .least) gs A i (omega (arith, how-many lengths depots pins stops, h))
             (sym (number i h) ∙ e);
         stopped = λ i j l h e.
             number j h
-            ∙ after-spent (problem locations legs latest) k (ok .least) gs A i j l (omega (arith, how-many lengths depots pins stops, h))
+            ∙ after-spent (problem T) k (ok .least) gs A i j l (omega (arith, how-many lengths depots pins stops, h))
             (sym (number i (omega (arith, l, h))) ∙ e);
         optimal = λ l i h f. rw (route i h) (fine i h .optimal l (rw (number i h) at f));
       }

@@ -7,7 +7,7 @@ use native.Mathlib.Omega.{arith}
 use lib.ListN.{length, getD, take, drop, length-append, length-take, length-drop, take-append-drop, drop-of-length-le}
 use lib.Seq.{take-at, drop-at, drop-drop, take-all, getD-take, getD-drop}
 use Rattle.theory.specs.Moves.{total, upfrom}
-use Rattle.theory.specs.Tables.{problem}
+use Rattle.theory.specs.Tables.{problem, Tables}
 use Rattle.theory.specs.Answers.{round-values}
 use Rattle.theory.specs.declared.RoundState.{RoundState}
 use Rattle.polishing.specs.Loop.{Polishable}
@@ -50,13 +50,13 @@ total-more ls i h = rw (add-one i) (by ls i h)
     by (l ∷ ls) zero h = omega arith
     by (l ∷ ls) (suc i) h = omega (arith, by ls i (omega arith))
 
-module _ (k A locations : ℕ) (legs latest stops₀ lengths depots pins result₀ : List ℕ) where
+module _ (k A : ℕ) (T : Tables) (stops₀ lengths depots pins result₀ : List ℕ) where
   -- The rounds from i on.
   abbrev pub rest-from : ℕ → List Given
   rest-from i = map (given lengths depots pins stops₀) (upfrom i (length lengths - i))
 
   abbrev pub whole : List Outcome
-  whole = run (problem locations legs latest) k A (rounds lengths depots pins stops₀)
+  whole = run (problem T) k A (rounds lengths depots pins stops₀)
 
   -- Before round i, whose stops begin at `at`: what is done, and then what is left done with the allowance left, is the whole.
   pub record Running (stops result : List ℕ) (left at i : ℕ) : Type 0 where
@@ -65,9 +65,9 @@ module _ (k A locations : ℕ) (legs latest stops₀ lengths depots pins result�
     pub result-size : length result ≡ length result₀
     pub at-is : at ≡ total (λ n. n) (take i lengths)
     pub stops-rest : drop at stops ≡ drop at stops₀
-    pub stops-done : take at stops ++ routes (run (problem locations legs latest) k left (rest-from i)) ≡ routes whole
+    pub stops-done : take at stops ++ routes (run (problem T) k left (rest-from i)) ≡ routes whole
     pub result-rest : drop (4 * i) result ≡ drop (4 * i) result₀
-    pub result-done : take (4 * i) result ++ numbers (run (problem locations legs latest) k left (rest-from i)) ≡ numbers whole
+    pub result-done : take (4 * i) result ++ numbers (run (problem T) k left (rest-from i)) ≡ numbers whole
 
   pub begins : Running stops₀ result₀ A 0 0
   unfolding rounds total
@@ -90,7 +90,7 @@ module _ (k A locations : ℕ) (legs latest stops₀ lengths depots pins result�
       let e : length lengths - i ≡ suc (length lengths - (i + 1)) = omega arith in
       rw (e, add-one i)
 
-  module _ (ok : Runnable k locations legs latest stops₀ lengths depots pins result₀) where
+  module _ (ok : Runnable k T stops₀ lengths depots pins result₀) where
     module _ (stops result : List ℕ) (left at i : ℕ) (now : Running stops result left at i) (more : i < length lengths) where
       pub round-room : at + getD lengths i 0 ≤ length stops
       round-room = omega (arith, within lengths i more, now .at-is, now .stops-size, ok .end-to-end)
@@ -104,7 +104,7 @@ module _ (k A locations : ℕ) (legs latest stops₀ lengths depots pins result�
       size : length (round-at lengths stops₀ i) ≡ getD lengths i 0
       size = simp (length-take, length-drop) (omega (arith, within lengths i more, ok .end-to-end))
 
-      pub polishable : Polishable k locations legs latest (getD depots i 0) (take (getD lengths i 0) (drop at stops))
+      pub polishable : Polishable k T (getD depots i 0) (take (getD lengths i 0) (drop at stops))
       polishable =
           record {
             least = ok .least;
@@ -127,31 +127,31 @@ module _ (k A locations : ℕ) (legs latest stops₀ lengths depots pins result�
           }
 
       -- The first of the rounds that are left, and the others.
-      routes-next : (state : RoundState) (y : List ℕ) → RoundRan (problem locations legs latest (getD depots i 0)) k left (getD pins i 0) (round-at lengths stops₀ i) state y →
-          y ++ routes (run (problem locations legs latest) k (left - examined-of state) (rest-from (i + 1))) ≡ routes (run (problem locations legs latest) k left (rest-from i))
+      routes-next : (state : RoundState) (y : List ℕ) → RoundRan (problem T (getD depots i 0)) k left (getD pins i 0) (round-at lengths stops₀ i) state y →
+          y ++ routes (run (problem T) k (left - examined-of state) (rest-from (i + 1))) ≡ routes (run (problem T) k left (rest-from i))
       unfolding run routes flatMap
       routes-next state y r = rw (rest-cons i more, r .route-is, r .state-is)
 
-      numbers-next : (state : RoundState) (y : List ℕ) → RoundRan (problem locations legs latest (getD depots i 0)) k left (getD pins i 0) (round-at lengths stops₀ i) state y →
-          round-values state ++ numbers (run (problem locations legs latest) k (left - examined-of state) (rest-from (i + 1))) ≡ numbers (run (problem locations legs latest) k left (rest-from i))
+      numbers-next : (state : RoundState) (y : List ℕ) → RoundRan (problem T (getD depots i 0)) k left (getD pins i 0) (round-at lengths stops₀ i) state y →
+          round-values state ++ numbers (run (problem T) k (left - examined-of state) (rest-from (i + 1))) ≡ numbers (run (problem T) k left (rest-from i))
       unfolding run numbers flatMap
       numbers-next state y r = rw (rest-cons i more, r .state-is)
 
       pub turn : (state : RoundState) (y z : List ℕ) →
-          RoundRan (problem locations legs latest (getD depots i 0)) k left (getD pins i 0) (take (getD lengths i 0) (drop at stops)) state y →
+          RoundRan (problem T (getD depots i 0)) k left (getD pins i 0) (take (getD lengths i 0) (drop at stops)) state y →
           z ≡ round-values state ++ drop 4 (take 4 (drop (4 * i) result)) →
           Running (back stops at (getD lengths i 0) y) (back result (4 * i) 4 z) (left - examined-of state) (at + getD lengths i 0) (i + 1)
       turn state y z r p =
           let r′ = rw part at r in
           let m = getD lengths i 0 in
           let l : length y ≡ getD lengths i 0 =
-          ap length (r′ .route-is) ∙ round-length (problem locations legs latest (getD depots i 0)) k left (getD pins i 0) (round-at lengths stops₀ i) (ok .least) ∙ size in
+          ap length (r′ .route-is) ∙ round-length (problem T (getD depots i 0)) k left (getD pins i 0) (round-at lengths stops₀ i) (ok .least) ∙ size in
           let w : length (take 4 (drop (4 * i) result)) ≤ 4 = simp length-take (omega arith) in
           let e : z ≡ round-values state = p ∙ rw (drop-of-length-le (take 4 (drop (4 * i) result)) w) (append-nil (round-values state)) in
           let n : length z ≡ 4 = ap length e ∙ four-values state in
           let f : 4 * (i + 1) ≡ 4 * i + 4 = omega arith in
-          let stops-left = routes (run (problem locations legs latest) k (left - examined-of state) (rest-from (i + 1))) in
-          let result-left = numbers (run (problem locations legs latest) k (left - examined-of state) (rest-from (i + 1))) in
+          let stops-left = routes (run (problem T) k (left - examined-of state) (rest-from (i + 1))) in
+          let result-left = numbers (run (problem T) k (left - examined-of state) (rest-from (i + 1))) in
           record {
             in-time = omega (arith, more);
             stops-size = back-size stops stops₀ at m round-room (now .stops-rest) y l ∙ now .stops-size;
@@ -167,7 +167,7 @@ module _ (k A locations : ℕ) (legs latest stops₀ lengths depots pins result�
           }
 
     pub ends : (stops result : List ℕ) (left at i : ℕ) → Running stops result left at i → length lengths ≤ i →
-        Ran k A locations legs latest stops₀ lengths depots pins result₀ stops result
+        Ran k A T stops₀ lengths depots pins result₀ stops result
     unfolding upfrom run routes numbers flatMap
     ends stops result left at i now h =
         let e : i ≡ length lengths = omega (arith, h, now .in-time) in
@@ -176,6 +176,6 @@ module _ (k A locations : ℕ) (legs latest stops₀ lengths depots pins result�
         let full : length stops ≤ at = omega (arith, now .at-is ∙ ap (total (λ n. n)) t, now .stops-size, ok .end-to-end) in
         let s : take at stops ++ [] ≡ routes whole = rw z at (now .stops-done) in
         let n : take (4 * i) result ++ [] ≡ numbers whole = rw z at (now .result-done) in
-        ran k A locations legs latest stops₀ lengths depots pins result₀ ok stops result
+        ran k A T stops₀ lengths depots pins result₀ ok stops result
         (sym (take-all at stops full) ∙ sym (append-nil (take at stops)) ∙ s)
         (sym (take-append-drop (4 * i) result) ∙ rw (sym (append-nil (take (4 * i) result)) ∙ n, now .result-rest, e))

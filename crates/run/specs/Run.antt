@@ -6,7 +6,7 @@ use lib.ListN.{length, getD, take, drop}
 use Rattle.theory.specs.Moves.{patterns, total, upfrom}
 use Rattle.theory.specs.Route.{Problem, count}
 use Rattle.theory.specs.Polish.{KOptimal}
-use Rattle.theory.specs.Tables.{problem, LegTable}
+use Rattle.theory.specs.Tables.{problem, LegTable, Tables}
 use Rattle.theory.specs.Answers.{round-values}
 use Rattle.states.specs.States.{examined-of, Finished}
 use Rattle.round.specs.Round.{Outcome, run-round}
@@ -49,13 +49,13 @@ abbrev pub examined-in : List ℕ → ℕ → ℕ
 examined-in result n = total (λ i. getD result (4 * i + 1) 0) (upfrom 0 n)
 
 -- What the checks establish for a run.
-pub record Runnable (k locations : ℕ) (legs latest stops lengths depots pins result : List ℕ) : Type 0 where
+pub record Runnable (k : ℕ) (T : Tables) (stops lengths depots pins result : List ℕ) : Type 0 where
   pub least : 2 ≤ k
   pub most : k ≤ 5
-  pub table : LegTable locations legs
-  pub deadlines : length latest ≡ locations
-  pub stops-known : (i : ℕ) → i < length stops → getD stops i 0 < locations
-  pub depots-known : (i : ℕ) → i < length depots → getD depots i 0 < locations
+  pub table : LegTable (T .locations) (T .legs)
+  pub deadlines : length (T .latest) ≡ (T .locations)
+  pub stops-known : (i : ℕ) → i < length stops → getD stops i 0 < (T .locations)
+  pub depots-known : (i : ℕ) → i < length depots → getD depots i 0 < (T .locations)
   pub few : length lengths ≤ 64
   pub short : (i : ℕ) → i < length lengths → getD lengths i 0 ≤ 512
   pub depots-each : length depots ≡ length lengths
@@ -66,13 +66,13 @@ pub record Runnable (k locations : ℕ) (legs latest stops lengths depots pins r
 -- What a run promises: stops and result by the definition, the places of the result beyond those written kept; each round holds the same stops, each as
 -- often, and in the order handed in unless its state is 4; all rounds together examine no more than the allowance, and a round is spent only when they
 -- have examined all of it, after which none is reached; and with k from 3 to 5 each round that finished is k-optimal.
-pub record Ran (k allowance locations : ℕ) (legs latest stops lengths depots pins result stops′ result′ : List ℕ) : Type 0 where
-  pub stops-are : stops′ ≡ routes (run (problem locations legs latest) k allowance (rounds lengths depots pins stops))
-  pub result-is : result′ ≡ numbers (run (problem locations legs latest) k allowance (rounds lengths depots pins stops)) ++ drop (4 * length lengths) result
+pub record Ran (k allowance : ℕ) (T : Tables) (stops lengths depots pins result stops′ result′ : List ℕ) : Type 0 where
+  pub stops-are : stops′ ≡ routes (run (problem T) k allowance (rounds lengths depots pins stops))
+  pub result-is : result′ ≡ numbers (run (problem T) k allowance (rounds lengths depots pins stops)) ++ drop (4 * length lengths) result
   pub same-stops : (i : ℕ) → i < length lengths → (x : ℕ) → count x (round-at lengths stops′ i) ≡ count x (round-at lengths stops i)
   pub unchanged : (i : ℕ) → i < length lengths → ¬ (getD result′ (4 * i) 0 ≡ 4) → round-at lengths stops′ i ≡ round-at lengths stops i
   pub within : examined-in result′ (length lengths) ≤ allowance
   pub spent : (i : ℕ) → i < length lengths → getD result′ (4 * i) 0 ≡ 5 → examined-in result′ (length lengths) ≡ allowance
   pub stopped : (i j : ℕ) → i < j → j < length lengths → getD result′ (4 * i) 0 ≡ 5 → getD result′ (4 * j) 0 ≡ 0
   pub optimal : 3 ≤ k → (i : ℕ) → i < length lengths → Finished (getD result′ (4 * i) 0) →
-      KOptimal (problem locations legs latest (getD depots i 0)) (patterns k) k (round-at lengths stops′ i)
+      KOptimal (problem T (getD depots i 0)) (patterns k) k (round-at lengths stops′ i)

@@ -1,5 +1,5 @@
 // The scan of document 01, stretch by stretch: the cut sets with the same first cuts are one. No entry: crate polishing calls it.
-ghost use Rattle.theory.specs.Tables.{problem, pattern-rows};
+ghost use Rattle.theory.specs.Tables.{problem, pattern-rows, trip};
 ghost use Rattle.scanning.specs.Loop.{Scannable, Scans};
 
 // What the scan counted when it ended.
@@ -22,8 +22,8 @@ pub fn scan_cut_sets(
     rows: &[u8; 1532],
     route: &mut [u32],
 ) -> Scanned
-    requires { ⌜ Scannable k locations (now legs) (now latest) depot (now orders) (now masks) (now rows) (now route) ⌝ }
-    ensures { λ r. ⌜ Scans (problem locations (now (legs .entry)) (now (latest .entry)) depot) (pattern-rows k (now (orders .entry)) (now (masks .entry))) k allowance (now (route .entry)) r (now (route .exit)) ⌝ }
+    requires { ⌜ Scannable k (trip locations (now legs) (now latest) depot) (now orders) (now masks) (now rows) (now route) ⌝ }
+    ensures { λ r. ⌜ Scans (problem (trip locations (now (legs .entry)) (now (latest .entry)) depot)) (pattern-rows k (now (orders .entry)) (now (masks .entry))) k allowance (now (route .entry)) r (now (route .exit)) ⌝ }
 {
     let mut forward = [0u64; 512];
     let mut backward = [0u64; 512];

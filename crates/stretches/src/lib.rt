@@ -1,7 +1,7 @@
 // A stretch of the scan: the cut sets with the same first cuts, in their order. Those that leave no room for a gain are passed over and counted. No entry: crate scanning calls it.
 ghost use mathlib.Core.Path.{_≡_};
 ghost use Prim.Native.Nat.{min, _*_, _≤_};
-ghost use Rattle.theory.specs.Tables.{problem};
+ghost use Rattle.theory.specs.Tables.{problem, trip};
 ghost use Rattle.stretches.specs.Stretch.{Passable, Passed, Hopeful, Stretchable, Stretched};
 
 // How a stretch ended: at an improving candidate, whose pattern is told and whose cuts are at hand; or through it; or else with the candidates allowed. Those before were examined.
@@ -70,8 +70,8 @@ fn scan_last_cuts(
     joint: &mut [u64; 160],
     left: u64,
 ) -> Stretch
-    requires { ⌜ Hopeful locations (now legs) (now latest) depot (now rows) patterns (now route) (now forward) (now backward) (now lateness) (now cuts) (now joint) ⌝ }
-    ensures { λ r. ⌜ Stretched (problem locations (now (legs .entry)) (now (latest .entry)) depot) patterns (now (rows .entry)) (now (route .entry)) (now (cuts .entry)) left r (now (cuts .exit)) (now (joint .exit)) ⌝ }
+    requires { ⌜ Hopeful (trip locations (now legs) (now latest) depot) (now rows) patterns (now route) (now forward) (now backward) (now lateness) (now cuts) (now joint) ⌝ }
+    ensures { λ r. ⌜ Stretched (problem (trip locations (now (legs .entry)) (now (latest .entry)) depot)) patterns (now (rows .entry)) (now (route .entry)) (now (cuts .entry)) left r (now (cuts .exit)) (now (joint .exit)) ⌝ }
 {
     let mut entries = [0u32; 8];
     let mut exits = [0u32; 8];
@@ -194,8 +194,8 @@ pub fn scan_stretch(
     joint: &mut [u64; 160],
     left: u64,
 ) -> Stretch
-    requires { ⌜ Stretchable locations (now legs) (now latest) depot (now rows) patterns (now route) (now forward) (now backward) longest (now lateness) (now cuts) (now joint) ⌝ }
-    ensures { λ r. ⌜ Stretched (problem locations (now (legs .entry)) (now (latest .entry)) depot) patterns (now (rows .entry)) (now (route .entry)) (now (cuts .entry)) left r (now (cuts .exit)) (now (joint .exit)) ⌝ }
+    requires { ⌜ Stretchable (trip locations (now legs) (now latest) depot) (now rows) patterns (now route) (now forward) (now backward) longest (now lateness) (now cuts) (now joint) ⌝ }
+    ensures { λ r. ⌜ Stretched (problem (trip locations (now (legs .entry)) (now (latest .entry)) depot)) patterns (now (rows .entry)) (now (route .entry)) (now (cuts .entry)) left r (now (cuts .exit)) (now (joint .exit)) ⌝ }
 {
     if longest < cuts[0] {
         return pass_stretch(route.len(), patterns, cuts, left);

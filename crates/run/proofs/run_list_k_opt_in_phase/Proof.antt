@@ -2,6 +2,7 @@
 use mathlib.Core.Path.{_≡_}
 use Prim.Native.Nat.{_+_, _-_, _*_}
 use lib.ListN.{length, getD}
+use Rattle.theory.specs.Tables.{tables}
 use Rattle.run.proofs.Turn.{Running, begins, round-room, polishable, turn, ends}
 use native.Mathlib.Omega.{arith}
 use borrow.Author.Needs.{needs}
@@ -10,7 +11,7 @@ use Rattle.run.proofs.run_list_k_opt_in_phase.Tie as tie
 
 abbrev Inv-loop : tie.InvT-loop
 Inv-loop k allowance locations legs latest stops₀ lengths depots pins result₀ left₀ at₀ i₀ stops result left at i =
-    Running k allowance locations legs latest stops₀ lengths depots pins result₀ stops result left at i
+    Running k allowance (tables locations legs latest) stops₀ lengths depots pins result₀ stops result left at i
 
 abbrev μ-loop : tie.MeasureT-loop
 μ-loop k allowance locations legs latest stops₀ lengths depots pins result₀ left₀ at₀ i₀ stops result left at i = length lengths - i
