@@ -1,7 +1,7 @@
 -- Lists of rules that are judged in parts, over plain values. Assumes nothing.
 use mathlib.Core.Path.{_≡_, refl, sym, ap₂, _∙_}
 use mathlib.Core.Bool.{Bool, true, false, cond}
-use mathlib.Core.List.{List}
+use mathlib.Core.List.{List, [], _∷_, _++_}
 use Prim.Native.Nat.{ℕ, _≤_, _*_}
 use native.Mathlib.Omega.{arith}
 use lib.Dec.{ltb}
@@ -10,7 +10,7 @@ use lib.ListN.{length}
 use borrow.Author.Tests.{ltb-false}
 use Rattle.theory.specs.Tables.{Tables}
 use Rattle.theory.specs.Refusals.{Rule, number, either, refusal, cut-count, leg-table, leg-sizes, known-stops, stop-count, pattern-index, nearby-input, room, table-rules}
-use Rattle.theory.proofs.Refusals.{passed, either-zero, either-assoc, four-then, applies-first, passed-over}
+use Rattle.theory.proofs.Refusals.{Passes, passed, either-zero, either-assoc, four-then, applies-first, passed-over}
 use Rattle.theory.proofs.LastRule.{early, room-last}
 use Rattle.theory.proofs.Judged.{cut-count-fine}
 use Rattle.refusals.proofs.Either.{tables-then}
@@ -55,6 +55,11 @@ before-room rules before needed lent a p h = applies-first a (refusal rules) (nu
 
 pub room-left : (rules : List Rule) → early rules ≡ true → (needed lent a b : ℕ) → a ≡ refusal rules → b ≡ number (room needed lent) → a ≡ 0 → b ≡ refusal (with-room rules needed lent)
 room-left rules before needed lent a b p q h = q ∙ passed-over a (refusal rules) (number (room needed lent)) p h ∙ sym (room-last rules needed lent before)
+
+-- What passes the rules of two parts passes those of each.
+pub both-pass : (rs ss : List Rule) → Passes (rs ++ ss) → Passes rs × Passes ss
+both-pass [] ss p = (tt, p)
+both-pass (r ∷ rs) ss p = let q = both-pass rs ss (p .1) in ((p .0, q .0), q .1)
 
 -- k, the tables, the rounds.
 pub run-parts : (k : ℕ) (T : Tables) (stops lengths depots pins : List ℕ) (lent a b c : ℕ) → a ≡ number (cut-count k) → b ≡ refusal (table-rules T) →

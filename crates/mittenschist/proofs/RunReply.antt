@@ -3,7 +3,7 @@ use mathlib.Core.Path.{_≡_, refl, sym, _∙_}
 use mathlib.Core.List.{List, _++_}
 use Prim.Native.Nat.{ℕ, _*_}
 use lib.ListN.{length, drop}
-use Rattle.theory.specs.Tables.{problem}
+use Rattle.theory.specs.Tables.{Tables}
 use Rattle.theory.specs.Refusals.{Rule, refusal}
 use Rattle.theory.proofs.Refusals.{known}
 use Rattle.run.specs.Run.{run, rounds, routes, numbers, Runnable, Ran}
@@ -12,18 +12,18 @@ use Rattle.judging.specs.Rules.{run-rules}
 use Rattle.mittenschist.specs.Promises.{RunReply}
 use Rattle.theory.proofs.Taken.{refused-kept, taken-done, taken-passes}
 
-module _ (k A locations : ℕ) (legs latest stops lengths depots pins result : List ℕ) (number : ℕ)
-    (judged : number ≡ refusal (run-rules k locations legs latest stops lengths depots pins (length result))) where
+module _ (k A : ℕ) (T : Tables) (stops lengths depots pins result : List ℕ) (number : ℕ)
+    (judged : number ≡ refusal (run-rules k T stops lengths depots pins (length result))) where
   abbrev rules : List Rule
-  rules = run-rules k locations legs latest stops lengths depots pins (length result)
+  rules = run-rules k T stops lengths depots pins (length result)
 
   abbrev stops-done : List ℕ
-  stops-done = routes (run (problem locations legs latest) k A (rounds lengths depots pins stops))
+  stops-done = routes (run (problem-from T) k A (rounds lengths depots pins stops))
 
   abbrev result-done : List ℕ
-  result-done = numbers (run (problem locations legs latest) k A (rounds lengths depots pins stops)) ++ drop (4 * length lengths) result
+  result-done = numbers (run (problem-from T) k A (rounds lengths depots pins stops)) ++ drop (4 * length lengths) result
 
-  pub run-refused : (number ≡ 0 → ⊥) → RunReply k A locations legs latest stops lengths depots pins result number stops result
+  pub run-refused : (number ≡ 0 → ⊥) → RunReply k A T stops lengths depots pins result number stops result
   run-refused h =
       record {
         number-is = judged;
@@ -33,15 +33,14 @@ module _ (k A locations : ℕ) (legs latest stops lengths depots pins result : L
       }
 
   module _ (h : number ≡ 0) where
-    pub runnable : Runnable k locations legs latest stops lengths depots pins result
+    pub runnable : Runnable k T stops lengths depots pins result
     unfolding known
     runnable =
         let p = taken-passes rules number judged refl h in
         let q = p .1 .1 .1 in
-        runnable-fine k locations legs latest stops lengths depots pins result (p .0) (p .1 .0) (p .1 .1 .0) (q .0) (q .1 .0) (q .1 .1 .0) (q .1 .1 .1 .0)
+        runnable-fine k T stops lengths depots pins result (p .0) (p .1 .0) (p .1 .1 .0) (q .0) (q .1 .0) (q .1 .1 .0) (q .1 .1 .1 .0)
 
-    pub has-run : (stops′ result′ : List ℕ) → Ran k A locations legs latest stops lengths depots pins result stops′ result′ →
-        RunReply k A locations legs latest stops lengths depots pins result 0 stops′ result′
+    pub has-run : (stops′ result′ : List ℕ) → Ran k A T stops lengths depots pins result stops′ result′ → RunReply k A T stops lengths depots pins result 0 stops′ result′
     has-run stops′ result′ r =
         record {
           number-is = sym h ∙ judged;
