@@ -24,6 +24,16 @@ pub record Trip : Type 0 where
 abbrev pub trip : ℕ → List ℕ → List ℕ → ℕ → Trip
 trip locations legs latest depot = record { tables = tables locations legs latest; depot = depot }
 
+-- What the boats of a run are lent: rounds "whose stops lie end to end, with a length, a depot and a pin byte for each".
+pub record Fleet : Type 0 where
+  pub stops : List ℕ
+  pub lengths : List ℕ
+  pub depots : List ℕ
+  pub pins : List ℕ
+
+abbrev pub fleet : (stops lengths depots pins : List ℕ) → Fleet
+fleet stops lengths depots pins = record { stops = stops; lengths = lengths; depots = depots; pins = pins }
+
 abbrev pub clock-by : Tables → Clock
 clock-by T = record { leg = λ a b. getD (T .legs) (a * T .locations + b) 0; latest = λ a. getD (T .latest) a 0 }
 
