@@ -8,7 +8,7 @@ use lib.Dec.{ltb}
 use lib.Ieee.{Float}
 use lib.ListN.{length}
 use borrow.Author.Tests.{ltb-false}
-use Rattle.theory.specs.Tables.{Tables}
+use Rattle.theory.specs.Tables.{Tables, Fleet}
 use Rattle.theory.specs.Refusals.{Rule, number, either, refusal, cut-count, leg-table, leg-sizes, known-stops, stop-count, pattern-index, nearby-input, room, table-rules}
 use Rattle.theory.proofs.Refusals.{Passes, passed, either-zero, either-assoc, four-then, applies-first, passed-over}
 use Rattle.theory.proofs.LastRule.{early, room-last}
@@ -62,11 +62,10 @@ both-pass [] ss p = (tt, p)
 both-pass (r ∷ rs) ss p = let q = both-pass rs ss (p .1) in ((p .0, q .0), q .1)
 
 -- k, the tables, the rounds.
-pub run-parts : (k : ℕ) (T : Tables) (stops lengths depots pins : List ℕ) (lent a b c : ℕ) → a ≡ number (cut-count k) → b ≡ refusal (table-rules T) →
-    c ≡ refusal (with-room (rounds-rules (T .locations) stops lengths depots pins) (4 * length lengths) lent) →
-    either a (either b c) ≡ refusal (run-rules k T stops lengths depots pins lent)
+pub run-parts : (k : ℕ) (T : Tables) (F : Fleet) (lent a b c : ℕ) → a ≡ number (cut-count k) → b ≡ refusal (table-rules T) →
+    c ≡ refusal (with-room (rounds-rules (T .locations) F) (4 * length (F .lengths)) lent) → either a (either b c) ≡ refusal (run-rules k T F lent)
 unfolding refusal
-run-parts k T stops lengths depots pins lent a b c p q r = ap₂ either p (ap₂ either q r ∙ tables-then T _)
+run-parts k T F lent a b c p q r = ap₂ either p (ap₂ either q r ∙ tables-then T _)
 
 -- k and n, and then the input and the room for the sets.
 module _ (n : ℕ) (distances : List Float) (k m neighbours lent a : ℕ) (sized : a ≡ either (number (cut-count k)) (number (stop-count n))) where

@@ -3,7 +3,7 @@ use mathlib.Core.List.{List, [], _∷_, _++_}
 use Prim.Native.Nat.{ℕ, _*_}
 use lib.Ieee.{Float}
 use lib.ListN.{length}
-use Rattle.theory.specs.Tables.{Tables}
+use Rattle.theory.specs.Tables.{Tables, Fleet}
 use Rattle.theory.specs.Question.{Question, question-rules}
 use Rattle.theory.specs.Refusals.{Rule, cut-count, leg-table, leg-sizes, known-stops, stop-count, pattern-index, cut-positions, known-rounds, round-lists, nearby-input, room, table-rules}
 
@@ -30,12 +30,11 @@ delta-rules k pattern cuts locations legs depot route =
 abbrev pub polish-rules : Question → ℕ → List Rule
 polish-rules q lent = with-room (question-rules q) 5 lent
 
--- Of the rounds of a run: the stops, and the lists that part them.
-abbrev pub rounds-rules : ℕ → List ℕ → List ℕ → List ℕ → List ℕ → List Rule
-rounds-rules locations stops lengths depots pins = known-rounds locations depots stops ∷ round-lists lengths depots pins (length stops) ∷ []
+abbrev pub rounds-rules : ℕ → Fleet → List Rule
+rounds-rules locations F = known-rounds locations (F .depots) (F .stops) ∷ round-lists (F .lengths) (F .depots) (F .pins) (length (F .stops)) ∷ []
 
-abbrev pub run-rules : ℕ → Tables → List ℕ → List ℕ → List ℕ → List ℕ → ℕ → List Rule
-run-rules k T stops lengths depots pins lent = with-room (cut-count k ∷ (table-rules T ++ rounds-rules (T .locations) stops lengths depots pins)) (4 * length lengths) lent
+abbrev pub run-rules : ℕ → Tables → Fleet → ℕ → List Rule
+run-rules k T F lent = with-room (cut-count k ∷ (table-rules T ++ rounds-rules (T .locations) F)) (4 * length (F .lengths)) lent
 
 abbrev pub nearby-rules : ℕ → List Float → ℕ → ℕ → ℕ → ℕ → List Rule
 nearby-rules n distances k m neighbours lent = with-room (cut-count k ∷ stop-count n ∷ nearby-input n distances m neighbours ∷ []) k lent

@@ -4,7 +4,7 @@ ghost use mathlib.Core.Path.{_≡_};
 ghost use mathlib.Core.List.{_∷_};
 ghost use Prim.Native.Nat.{_+_, _*_};
 ghost use lib.ListN.{length};
-ghost use Rattle.theory.specs.Tables.{tables, trip};
+ghost use Rattle.theory.specs.Tables.{tables, trip, fleet};
 ghost use Rattle.theory.specs.Refusals.{refusal, cut-count, problem-rules};
 ghost use Rattle.judging.specs.Rules.{pattern-rules, next-cut-set-rules, reconnect-rules, route-length-rules, delta-rules, rounds-rules, run-rules, nearby-rules, with-room};
 
@@ -118,7 +118,7 @@ fn rounds_refusal(
     pins: &[u8],
     lent: usize,
 ) -> u32
-    ensures { λ r. ⌜ r ≡ refusal (with-room (rounds-rules locations (now (stops .entry)) (now (lengths .entry)) (now (depots .entry)) (now (pins .entry))) (4 * length (now (lengths .entry))) lent) ⌝ }
+    ensures { λ r. ⌜ r ≡ refusal (with-room (rounds-rules locations (fleet (now (stops .entry)) (now (lengths .entry)) (now (depots .entry)) (now (pins .entry)))) (4 * length (now (lengths .entry))) lent) ⌝ }
 {
     let bad_stops = round_refusals::check_known_rounds(locations, depots, stops);
     let bad_rounds = round_refusals::check_round_lists(lengths, depots, pins, stops.len());
@@ -137,7 +137,7 @@ pub fn run_refusal(
     pins: &[u8],
     lent: usize,
 ) -> u32
-    ensures { λ r. ⌜ r ≡ refusal (run-rules k (tables locations (now (legs .entry)) (now (latest .entry))) (now (stops .entry)) (now (lengths .entry)) (now (depots .entry)) (now (pins .entry)) lent) ⌝ }
+    ensures { λ r. ⌜ r ≡ refusal (run-rules k (tables locations (now (legs .entry)) (now (latest .entry))) (fleet (now (stops .entry)) (now (lengths .entry)) (now (depots .entry)) (now (pins .entry))) lent) ⌝ }
 {
     let bad_k = refusals::check_cut_count(k);
     let bad_tables = refusals::check_tables(locations, legs, latest);

@@ -16,8 +16,8 @@ use Rattle.theory.specs.declared.Feasibility.{Feasibility}
 use Rattle.theory.specs.declared.Feasibility.the-variants as Answer
 use Rattle.theory.proofs.Refusals.{known}
 use Rattle.theory.proofs.LastRule.{early}
-use Rattle.theory.proofs.Judged.{measurable-fine, deadlines-fine}
 use Rattle.deadlines.proofs.Answer.{kept-timely, late-untimely}
+use Rattle.polishing.proofs.Judged.{timed-fine}
 use Rattle.replies.specs.Handed.{Handed}
 use Rattle.mittenschist.specs.Promises.{Says, FeasibleReply, FeasibleWritten}
 use Rattle.theory.proofs.Taken.{refused-reply, taken-reply, taken-passes}
@@ -30,12 +30,7 @@ module _ (T : Trip) (route : List ℕ) (number : ℕ) (judged : number ≡ refus
   module _ (h : number ≡ 0) where
     pub fine : Timed T route
     unfolding known
-    fine =
-        let p = taken-passes (problem-rules T route) number judged refl h in
-        record {
-          measurable = measurable-fine (T .tables .locations) (T .tables .legs) (T .depot) route (p .0) (p .1 .1 .0) (p .1 .1 .1 .0) (p .1 .1 .1 .1 .0);
-          deadlines = deadlines-fine (T .tables .locations) (T .tables .latest) (p .1 .0);
-        }
+    fine = timed-fine T route (taken-passes (problem-rules T route) number judged refl h)
 
     pub checked : (d : Deadline) → Checked (clock-by (T .tables)) (T .depot) route d → FeasibleReply T route (Answer.Checked d)
     checked d c =

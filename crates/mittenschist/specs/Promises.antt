@@ -9,7 +9,7 @@ use lib.ListN.{length, getD, drop, replicate}
 use Rattle.theory.specs.Moves.{Pattern, patterns, next-cuts}
 use Rattle.theory.specs.Route.{tour-length, reconnected}
 use Rattle.theory.specs.Polish.{move-at, Demand3}
-use Rattle.theory.specs.Tables.{Tables, Trip, problem, clock-by, legs-only}
+use Rattle.theory.specs.Tables.{Tables, Trip, Fleet, problem, clock-by, legs-only}
 use Rattle.theory.specs.Question.{Question, asked}
 use Rattle.theory.specs.Refusals.{Rule, refusal, if-taken, problem-rules}
 use Rattle.judging.specs.Rules.{pattern-rules, next-cut-set-rules, reconnect-rules, route-length-rules, delta-rules, polish-rules, run-rules, nearby-rules, with-room}
@@ -112,14 +112,11 @@ doable-values k round n rounds positions = cond (doable k round n rounds positio
 
 -- Stops and result are those of document 01's run; and whenever it returns 0 each round holds the same stops, none is reached after a spent one, and with k
 -- from 3 to 5 each that finished is k-optimal (`Ran`).
-pub record RunReply (k allowance : ℕ) (T : Tables) (stops lengths depots pins result : List ℕ) (answer : ℕ) (stops′ result′ : List ℕ) : Type 0 where
-  pub number-is : answer ≡ refusal (run-rules k T stops lengths depots pins (length result))
-  pub stops-are : stops′ ≡ if-taken (run-rules k T stops lengths depots pins (length result)) (routes (run (problem-from T) k allowance (rounds lengths depots pins stops))) stops
-  pub result-is : result′
-      ≡ if-taken (run-rules k T stops lengths depots pins (length result))
-      (numbers (run (problem-from T) k allowance (rounds lengths depots pins stops)) ++ drop (4 * length lengths) result)
-      result
-  pub ran : answer ≡ 0 → Ran k allowance T stops lengths depots pins result stops′ result′
+pub record RunReply (k allowance : ℕ) (T : Tables) (F : Fleet) (result : List ℕ) (answer : ℕ) (stops′ result′ : List ℕ) : Type 0 where
+  pub number-is : answer ≡ refusal (run-rules k T F (length result))
+  pub stops-are : stops′ ≡ if-taken (run-rules k T F (length result)) (routes (run k allowance (rounds T F))) (F .stops)
+  pub result-is : result′ ≡ if-taken (run-rules k T F (length result)) (numbers (run k allowance (rounds T F)) ++ drop (4 * length (F .lengths)) result) result
+  pub ran : answer ≡ 0 → Ran k allowance T F result stops′ result′
 
 -- ---- nearby cuts
 

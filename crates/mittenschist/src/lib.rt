@@ -4,7 +4,7 @@ ghost use Prim.Native.Nat.{_+_};
 ghost use Rattle.theory.specs.Route.{tour-length};
 ghost use Rattle.theory.specs.Polish.{move-at};
 ghost use Rattle.theory.specs.Moves.{patterns};
-ghost use Rattle.theory.specs.Tables.{tables, trip, legs-only};
+ghost use Rattle.theory.specs.Tables.{tables, trip, fleet, legs-only};
 ghost use Rattle.theory.specs.Question.{question};
 ghost use Rattle.cut_moves.specs.Entries.{DoMoveReply, UndoReply, doable-rules};
 ghost use Rattle.moves.specs.Moves.{length-change, pattern-values};
@@ -286,7 +286,7 @@ pub extern "C" fn mittenschist_run_list_k_opt(
     pins: &[u8],
     result: &mut [u64],
 ) -> u32
-    ensures { λ r. ⌜ RunReply k allowance (tables locations (now (legs .entry)) (now (latest .entry))) (now (stops .entry)) (now (lengths .entry)) (now (depots .entry)) (now (pins .entry)) (now (result .entry)) r (now (stops .exit)) (now (result .exit)) ⌝ }
+    ensures { λ r. ⌜ RunReply k allowance (tables locations (now (legs .entry)) (now (latest .entry))) (fleet (now (stops .entry)) (now (lengths .entry)) (now (depots .entry)) (now (pins .entry))) (now (result .entry)) r (now (stops .exit)) (now (result .exit)) ⌝ }
 {
     let lent = result.len();
     let refused = judging::run_refusal(

@@ -34,6 +34,4 @@ module _ (q : Question) (number : ℕ) (judged : number ≡ refusal (question-ru
 
 pub fine : (q : Question) (number : ℕ) → number ≡ refusal (question-rules q) → number ≡ 0 → Polishable (q .k) (q .trip) (q .route)
 unfolding known
-fine q number judged h =
-    let p = accepted (question-rules q) refl (sym judged ∙ h) in
-    polishable-fine (q .k) (q .trip) (q .route) (p .0) (p .1 .0) (p .1 .1 .0) (p .1 .1 .1 .0) (p .1 .1 .1 .1 .0) (p .1 .1 .1 .1 .1 .0)
+fine q number judged h = polishable-fine q (accepted (question-rules q) refl (sym judged ∙ h))
