@@ -30,9 +30,9 @@ still-lent l a b c =
 -- The parts of the places that hold a question.
 pub record Fits (h : Header) (count : ℕ) (T : Tables) (stops : List ℕ) : Type 0 where
   pub cells : h .locations * h .locations ≤ 9216
-  pub legs : h .locations * h .locations ≤ length (T .legs)
-  pub latest : h .locations ≤ length (T .latest)
-  pub stops : count ≤ length stops
+  pub legs-fit : h .locations * h .locations ≤ length (T .legs)
+  pub latest-fit : h .locations ≤ length (T .latest)
+  pub stops-fit : count ≤ length stops
 
 -- What was printed stands in the first places.
 pub shown : {text out out′ : List ℕ} {n : ℕ} → Printed (program text) out out′ n → Shown text (record { bytes = out′; length = n })
@@ -61,9 +61,9 @@ module _ (text : List ℕ) (T : Tables) (stops : List ℕ) {answer : Reading} (a
         let cells : h .locations * h .locations ≤ 96 * 96 = mul-le-mul few few in
         record {
           cells = cells;
-          legs = rw (p .sized .square .square, p .most) cells;
-          latest = rw (p .sized .deadlines, p .most) few;
-          stops = subst (λ a. stop-count a ≤ length stops) is (answered .within);
+          legs-fit = rw (p .sized .square .square, p .most) cells;
+          latest-fit = rw (p .sized .deadlines, p .most) few;
+          stops-fit = subst (λ a. stop-count a ≤ length stops) is (answered .within);
         }
 
     pub asked-of : (out out′ : List ℕ) (n : ℕ) → Printed (question-text question) out out′ n → Printed (program text) out out′ n

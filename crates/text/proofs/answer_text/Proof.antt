@@ -60,22 +60,22 @@ mul-cells : tie.Need-mul-cells
 mul-cells c = omega (arith, fits-at (c .before .before .before) .cells)
 
 slice-reshare-prefix-answer-question : tie.Need-slice-reshare-prefix-answer-question
-slice-reshare-prefix-answer-question c = fits-at (c .before .before .before) .legs
+slice-reshare-prefix-answer-question c = fits-at (c .before .before .before) .legs-fit
 
 slice-aggregate-answer-question : tie.Need-slice-aggregate-answer-question
-slice-aggregate-answer-question c = sym (length-take-le _ _ (fits-at (c .before .before .before .before) .legs))
+slice-aggregate-answer-question c = sym (length-take-le _ _ (fits-at (c .before .before .before .before) .legs-fit))
 
 slice-reshare-prefix-answer-question-2 : tie.Need-slice-reshare-prefix-answer-question-2
-slice-reshare-prefix-answer-question-2 c = fits-at (c .before .before .before .before) .latest
+slice-reshare-prefix-answer-question-2 c = fits-at (c .before .before .before .before) .latest-fit
 
 slice-aggregate-answer-question-2 : tie.Need-slice-aggregate-answer-question-2
-slice-aggregate-answer-question-2 c = sym (length-take-le _ _ (fits-at (c .before .before .before .before .before) .latest))
+slice-aggregate-answer-question-2 c = sym (length-take-le _ _ (fits-at (c .before .before .before .before .before) .latest-fit))
 
 slice-relend-prefix-answer-question : tie.Need-slice-relend-prefix-answer-question
-slice-relend-prefix-answer-question c = fits-at (c .before .before .before .before .before) .stops
+slice-relend-prefix-answer-question c = fits-at (c .before .before .before .before .before) .stops-fit
 
 slice-aggregate-answer-question-3 : tie.Need-slice-aggregate-answer-question-3
-slice-aggregate-answer-question-3 c = sym (length-take-le _ _ (fits-at (c .before .before .before .before .before .before) .stops))
+slice-aggregate-answer-question-3 c = sym (length-take-le _ _ (fits-at (c .before .before .before .before .before .before) .stops-fit))
 
 answer-question-requires : tie.Need-answer-question-requires
 answer-question-requires c κs = search needs
