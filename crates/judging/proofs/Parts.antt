@@ -12,7 +12,7 @@ use Rattle.theory.specs.Tables.{Tables, Fleet}
 use Rattle.theory.specs.Refusals.{Rule, number, either, refusal, cut-count, leg-table, leg-sizes, known-stops, stop-count, pattern-index, nearby-input, room, table-rules}
 use Rattle.theory.proofs.Refusals.{Passes, passed, either-zero, either-assoc, four-then, applies-first, passed-over}
 use Rattle.theory.proofs.LastRule.{early, room-last}
-use Rattle.theory.proofs.Judged.{cut-count-fine}
+use Rattle.theory.proofs.Judged.{cut-count-fine, room-fine}
 use Rattle.refusals.proofs.Either.{tables-then}
 use Rattle.judging.specs.Rules.{pattern-rules, route-length-rules, rounds-rules, run-rules, nearby-rules, with-room}
 
@@ -60,6 +60,9 @@ room-left rules before needed lent a b p q h = q ∙ passed-over a (refusal rule
 pub both-pass : (rs ss : List Rule) → Passes (rs ++ ss) → Passes rs × Passes ss
 both-pass [] ss p = (tt, p)
 both-pass (r ∷ rs) ss p = let q = both-pass rs ss (p .1) in ((p .0, q .0), q .1)
+
+pub pass-with-room : (rules : List Rule) (needed lent : ℕ) → Passes (with-room rules needed lent) → Passes rules × (needed ≤ lent)
+pass-with-room rules needed lent p = let q = both-pass rules (room needed lent ∷ []) p in (q .0, room-fine needed lent (q .1 .0))
 
 -- k, the tables, the rounds.
 pub run-parts : (k : ℕ) (T : Tables) (F : Fleet) (lent a b c : ℕ) → a ≡ number (cut-count k) → b ≡ refusal (table-rules T) →

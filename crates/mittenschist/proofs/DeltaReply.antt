@@ -13,8 +13,7 @@ use Rattle.theory.specs.declared.LengthDelta.the-variants.{Refused, Seconds}
 use Rattle.theory.proofs.Refusals.{known}
 use Rattle.theory.proofs.Judged.{measurable-fine, pattern-fine, cuts-fine}
 use Rattle.moves.specs.Moves.{Comparable, length-change}
-use Rattle.judging.specs.Rules.{route-length-rules, delta-rules}
-use Rattle.judging.proofs.Parts.{both-pass}
+use Rattle.judging.specs.Rules.{delta-rules}
 use Rattle.mittenschist.specs.Promises.{DeltaReply}
 use Rattle.theory.proofs.Taken.{refused-reply, taken-reply, taken-passes}
 
@@ -31,12 +30,11 @@ module _ (k pattern : ℕ) (cuts : List ℕ) (locations : ℕ) (legs : List ℕ)
     unfolding known
     fine =
         let p = taken-passes (delta-rules k pattern cuts locations legs depot route) number judged refl h in
-        let d = both-pass (route-length-rules locations legs depot route) _ p in
-        let r = d .0 in
+        let r = p .1 .1 .1 .1 in
         record {
-          cut-set = cuts-fine k (length route) cuts (d .1 .0) (r .1 .1 .1 .0) (d .1 .1 .1 .0);
-          listed = pattern-fine k pattern (d .1 .1 .0);
-          measurable = measurable-fine locations legs depot route (r .0) (r .1 .0) (r .1 .1 .0) (r .1 .1 .1 .0);
+          cut-set = cuts-fine k (length route) cuts (r .0) (p .1 .1 .1 .0) (r .1 .1 .0);
+          listed = pattern-fine k pattern (r .1 .0);
+          measurable = measurable-fine locations legs depot route (p .0) (p .1 .0) (p .1 .1 .0) (p .1 .1 .1 .0);
         }
 
     pub changed : (seconds : ℤ) → seconds ≡ length-change (legs-only locations legs depot) (move-at (patterns k) cuts pattern) route → DeltaReply k pattern cuts locations legs depot route (Seconds seconds)

@@ -12,11 +12,10 @@ use Rattle.theory.specs.Answers.{Polishes, reply-of, counts-of, polish-values, 
 use Rattle.theory.specs.declared.Polished.{Polished}
 use Rattle.theory.specs.declared.Polished.the-variants.{Finished, Spent}
 use Rattle.theory.proofs.Refusals.{Passes, known}
-use Rattle.theory.proofs.Judged.{room-fine}
 use Rattle.polishing.specs.Loop.{Polishable}
 use Rattle.polishing.proofs.Judged.{polishable-fine}
 use Rattle.judging.specs.Rules.{polish-rules}
-use Rattle.judging.proofs.Parts.{both-pass}
+use Rattle.judging.proofs.Parts.{pass-with-room}
 use Rattle.mittenschist.specs.Promises.{PolishReply}
 use Rattle.theory.proofs.Taken.{refused-kept, taken-done, taken-passes}
 
@@ -54,15 +53,15 @@ module _ (q : Question) (result : List ℕ) (number : ℕ) (judged : number ≡ 
       }
 
   module _ (h : number ≡ 0) where
-    passes : Passes rules
+    passes : Passes (question-rules q) × (5 ≤ length result)
     unfolding known
-    passes = taken-passes rules number judged refl h
+    passes = pass-with-room (question-rules q) 5 (length result) (taken-passes rules number judged refl h)
 
     pub fine : Polishable (q .k) (q .trip) (q .route)
-    fine = polishable-fine q (both-pass (question-rules q) _ passes .0)
+    fine = polishable-fine q (passes .0)
 
     pub space : 5 ≤ length result
-    space = room-fine 5 (length result) (both-pass (question-rules q) _ passes .1 .0)
+    space = passes .1
 
     pub polished : (answer : Polished) (route′ result′ : List ℕ) → Polishes P (patterns (q .k)) (q .k) (q .allowance) (q .route) answer route′ →
         result′ ≡ polish-values answer ++ drop 5 result → PolishReply q result 0 route′ result′

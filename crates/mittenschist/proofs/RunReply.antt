@@ -9,7 +9,7 @@ use Rattle.theory.proofs.Refusals.{known}
 use Rattle.run.specs.Run.{run, rounds, routes, numbers, Runnable, Ran}
 use Rattle.run.proofs.Judged.{runnable-fine}
 use Rattle.judging.specs.Rules.{rounds-rules, run-rules}
-use Rattle.judging.proofs.Parts.{both-pass}
+use Rattle.judging.proofs.Parts.{both-pass, pass-with-room}
 use Rattle.mittenschist.specs.Promises.{RunReply}
 use Rattle.theory.proofs.Taken.{refused-kept, taken-done, taken-passes}
 
@@ -36,9 +36,10 @@ module _ (k A : ℕ) (T : Tables) (F : Fleet) (result : List ℕ) (number : ℕ)
     pub runnable : Runnable k T F result
     unfolding known
     runnable =
-        let p = both-pass (cut-count k ∷ (table-rules T ++ rounds-rules (T .locations) F)) _ (taken-passes rules number judged refl h) in
-        let t = both-pass (table-rules T) _ (p .0 .1) in
-        runnable-fine k T F result (p .0 .0) (t .0) (t .1 .0) (t .1 .1 .0) (p .1 .0)
+        let rounds-of = rounds-rules (T .locations) F in
+        let p = pass-with-room (cut-count k ∷ (table-rules T ++ rounds-of)) (4 * length (F .lengths)) (length result) (taken-passes rules number judged refl h) in
+        let t = both-pass (table-rules T) rounds-of (p .0 .1) in
+        runnable-fine k T F result (p .0 .0) (t .0) (t .1 .0) (t .1 .1 .0) (p .1)
 
     pub has-run : (stops′ result′ : List ℕ) → Ran k A T F result stops′ result′ → RunReply k A T F result 0 stops′ result′
     has-run stops′ result′ r =
