@@ -9,9 +9,10 @@ use Rattle.joints.specs.JointTable.{cell, Padded, JointRow, Fillable}
 
 -- A row that can be filled: not the tail's.
 pub record FillableRow (locations : ℕ) (legs : List ℕ) (from tail count : ℕ) (entries inside : List ℕ) (a : ℕ) (table : List ℕ) : Type 0 where
-  pub fillable : Fillable locations legs tail count entries inside
+  pub fillable : Fillable locations legs count entries inside
   pub padded : Padded table
   pub from-known : from < locations
+  pub tail-known : tail < locations
   pub within : a < 10
   pub not-tail : a ≢ 8
 
@@ -23,8 +24,9 @@ pub record FilledRow (locations : ℕ) (legs : List ℕ) (from tail count : ℕ)
 
 -- With the exits of the states, whose rows can be filled.
 pub record FillableStates (locations : ℕ) (legs : List ℕ) (tail count : ℕ) (entries exits inside : List ℕ) (table : List ℕ) : Type 0 where
-  pub fillable : Fillable locations legs tail count entries inside
+  pub fillable : Fillable locations legs count entries inside
   pub padded : Padded table
+  pub tail-known : tail < locations
   pub exit-places : length exits ≡ 8
   pub exits-known : (s : ℕ) → s < count → getD exits s 0 < locations
 

@@ -1,4 +1,11 @@
 // A stretch of the scan: the cut sets with the same first cuts, in their order. Those that leave no room for a gain are passed over and counted. No entry: crate scanning calls it.
+use dues::DUE_PLACES;
+use joints::CELLS;
+use joints::ROW_BYTES;
+use joints::STATES;
+use shared::LOW_PLACES;
+use theory::CUT_PLACES;
+use theory::STOPS;
 ghost use mathlib.Core.Path.{_≡_};
 ghost use Prim.Native.Nat.{min, _*_, _≤_};
 ghost use Rattle.theory.specs.Tables.{problem};
@@ -60,25 +67,25 @@ fn scan_last_cuts(
     legs: &[u32],
     latest: &[u32],
     depot: u32,
-    rows: &[u8; 1532],
+    rows: &[u8; ROW_BYTES],
     patterns: usize,
     route: &[u32],
-    forward: &[u64; 512],
-    backward: &[u64; 512],
-    lateness: &[u64; 513],
+    forward: &[u64; STOPS],
+    backward: &[u64; STOPS],
+    lateness: &[u64; CUT_PLACES],
     cuts: &mut [usize],
-    joint: &mut [u64; 160],
+    joint: &mut [u64; CELLS],
     left: u64,
 ) -> Stretch
     requires { ⌜ Hopeful locations (now legs) (now latest) depot (now rows) patterns (now route) (now forward) (now backward) (now lateness) (now cuts) (now joint) ⌝ }
     ensures { λ r. ⌜ Stretched (problem locations (now (legs .entry)) (now (latest .entry)) depot) patterns (now (rows .entry)) (now (route .entry)) (now (cuts .entry)) left r (now (cuts .exit)) (now (joint .exit)) ⌝ }
 {
-    let mut entries = [0u32; 8];
-    let mut exits = [0u32; 8];
-    let mut inside = [0u64; 8];
-    let mut low = [0u64; 21];
-    let mut dues = [0u64; 9];
-    let zero = [0u64; 21];
+    let mut entries = [0u32; STATES];
+    let mut exits = [0u32; STATES];
+    let mut inside = [0u64; STATES];
+    let mut low = [0u64; LOW_PLACES];
+    let mut dues = [0u64; DUE_PLACES];
+    let zero = [0u64; LOW_PLACES];
     shared::fill_kept(
         locations,
         legs,
@@ -183,15 +190,15 @@ pub fn scan_stretch(
     legs: &[u32],
     latest: &[u32],
     depot: u32,
-    rows: &[u8; 1532],
+    rows: &[u8; ROW_BYTES],
     patterns: usize,
     route: &[u32],
-    forward: &[u64; 512],
-    backward: &[u64; 512],
+    forward: &[u64; STOPS],
+    backward: &[u64; STOPS],
     longest: usize,
-    lateness: &[u64; 513],
+    lateness: &[u64; CUT_PLACES],
     cuts: &mut [usize],
-    joint: &mut [u64; 160],
+    joint: &mut [u64; CELLS],
     left: u64,
 ) -> Stretch
     requires { ⌜ Stretchable locations (now legs) (now latest) depot (now rows) patterns (now route) (now forward) (now backward) longest (now lateness) (now cuts) (now joint) ⌝ }
