@@ -5,7 +5,7 @@ use Prim.Native.Nat.{ℕ, zero, suc, max, _+_, _-_, _*_, _≤_, _<_}
 use lib.ListN.{length, getD, take}
 use Rattle.theory.specs.Route.{Clock, path, arrival}
 use Rattle.theory.specs.Costs.{forward}
-use Rattle.theory.specs.Tables.{Measurable, Timed}
+use Rattle.theory.specs.Tables.{Measurable, Timed, Trip}
 use Rattle.costs.specs.RouteCosts.{leg, Sums}
 
 -- The seconds by which the stop at position i is reached after its latest; 0 where it is on time.
@@ -66,9 +66,9 @@ pub record LaterFits (most reached deadline : ℕ) : Type 0 where
   pub small : deadline ≤ 4294967295
 
 -- A route with its forward sums, and places for the lateness.
-pub record LatenessFillable (locations : ℕ) (legs latest : List ℕ) (depot : ℕ) (route forward-sums table : List ℕ) : Type 0 where
-  pub timed : Timed locations legs latest depot route
-  pub forwards : Sums route (forward (leg locations legs) route) forward-sums
+pub record LatenessFillable (T : Trip) (route forward-sums table : List ℕ) : Type 0 where
+  pub timed : Timed T route
+  pub forwards : Sums route (forward (leg (T .tables .locations) (T .tables .legs)) route) forward-sums
   pub places : length table ≡ 513
 
 pub record LatenessFilled (C : Clock) (depot : ℕ) (route : List ℕ) (longest : ℕ) (table : List ℕ) : Type 0 where

@@ -4,7 +4,7 @@ use theory::Deadline;
 use theory::STOPS;
 ghost use mathlib.Core.Path.{_≡_};
 ghost use Prim.Native.Nat.{min, max, _-_};
-ghost use Rattle.theory.specs.Tables.{clock-by, Timed};
+ghost use Rattle.theory.specs.Tables.{clock-by, Timed, trip, tables};
 ghost use Rattle.theory.specs.Answers.{Checked};
 ghost use Rattle.deadlines.specs.Lateness.{Arriving, Arrives, LatestOf, LatestIs, LaterFits, LatenessFillable, LatenessFilled};
 
@@ -16,8 +16,8 @@ pub fn check_deadlines(
     depot: u32,
     route: &[u32],
 ) -> Deadline
-    requires { ⌜ Timed locations (now legs) (now latest) depot (now route) ⌝ }
-    ensures { λ r. ⌜ Checked (clock-by locations (now (legs .entry)) (now (latest .entry))) depot (now (route .entry)) r ⌝ }
+    requires { ⌜ Timed (trip locations (now legs) (now latest) depot) (now route) ⌝ }
+    ensures { λ r. ⌜ Checked (clock-by (tables locations (now (legs .entry)) (now (latest .entry)))) depot (now (route .entry)) r ⌝ }
 {
     let mut clock = 0u64;
     let mut previous = depot;
@@ -81,8 +81,8 @@ pub fn fill_lateness(
     forward: &[u64; STOPS],
     lateness: &mut [u64; CUT_PLACES],
 ) -> usize
-    requires { ⌜ LatenessFillable locations (now legs) (now latest) depot (now route) (now forward) (now lateness) ⌝ }
-    ensures { λ r. ⌜ LatenessFilled (clock-by locations (now (legs .entry)) (now (latest .entry))) depot (now (route .entry)) r (now (lateness .exit)) ⌝ }
+    requires { ⌜ LatenessFillable (trip locations (now legs) (now latest) depot) (now route) (now forward) (now lateness) ⌝ }
+    ensures { λ r. ⌜ LatenessFilled (clock-by (tables locations (now (legs .entry)) (now (latest .entry)))) depot (now (route .entry)) r (now (lateness .exit)) ⌝ }
 {
     let mut c = route.len();
     let mut longest = c;

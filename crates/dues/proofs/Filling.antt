@@ -9,7 +9,7 @@ use lib.Dec.{eqb}
 use lib.ListN.{length, getD, set, length-set}
 use lib.Seq.{slice, getD-set-same, getD-set-other}
 use Rattle.theory.specs.Route.{Clock, reverse-if}
-use Rattle.theory.specs.Tables.{CutSet}
+use Rattle.theory.specs.Tables.{CutSet, Tables}
 use Rattle.costs.proofs.Segments.{cut-below, segment-is, segment-filled}
 use Rattle.joints.proofs.States.{part-at, halves}
 use Rattle.growth.specs.Due.{Due, SegmentDues, Spannable}
@@ -42,8 +42,8 @@ more-dues C cs r D i s v h k w found =
     by j l m (no n) = rw (kept (2 * j - 2) (omega arith), kept (2 * j - 2 + 1) (omega arith)) (w .each j l (omega arith))
 
 -- A middle segment that can be spanned.
-pub segment-spanned : {locations : ℕ} {legs latest r sums cs D : List ℕ} {count : ℕ} → DuesFillable locations legs latest r sums cs count D → (i : ℕ) → 1 ≤ i → i ≤ count →
-    Spannable locations legs latest r sums (getD cs (i - 1) 0) (getD cs i 0)
+pub segment-spanned : {T : Tables} {r sums cs D : List ℕ} {count : ℕ} → DuesFillable T r sums cs count D → (i : ℕ) → 1 ≤ i → i ≤ count →
+    Spannable T r sums (getD cs (i - 1) 0) (getD cs i 0)
 segment-spanned {r = r} {cs = cs} given i h k =
     record {
       table = given .table;

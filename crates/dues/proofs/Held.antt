@@ -7,7 +7,7 @@ use native.Mathlib.Omega.{arith}
 use lib.ListN.{length, getD, set, take, drop, length-set, take-append-drop, List·getD-append}
 use lib.Seq.{slice, drop-cons, drop-length, length-take-le, getD-take, getD-append-seam, getD-set-same, getD-set-other}
 use Rattle.theory.specs.Route.{Clock}
-use Rattle.theory.specs.Tables.{clock-by, CutSet}
+use Rattle.theory.specs.Tables.{clock-by, CutSet, Tables}
 use Rattle.costs.proofs.Segments.{segment-filled, last-cut}
 use Rattle.growth.specs.Due.{SegmentDues, GrowableTo}
 use Rattle.dues.specs.Due.{DuesFillable, SegmentsDue, DuesOf, DuesReach, DuesHeld, DuesReachable, DuesReached}
@@ -51,9 +51,9 @@ last-held : (C : Clock) (r pre D : List ℕ) (c : ℕ) → 1 ≤ length pre → 
     SegmentDues C (slice (getD pre (length pre - 1) 0) c r) (getD D (2 * length pre - 2) 0) (getD D (2 * length pre - 2 + 1) 0)
 last-held C r pre D c h w = rw (List·getD-append pre (c ∷ []) 0 (length pre - 1) (omega arith), getD-append-seam pre c [] 0) at (w .each (length pre) h (omega arith))
 
-module _ {locations : ℕ} {legs latest r sums cs D : List ℕ} (given : DuesReachable locations legs latest r sums cs D) where
+module _ {T : Tables} {r sums cs D : List ℕ} (given : DuesReachable T r sums cs D) where
   abbrev C : Clock
-  C = clock-by locations legs latest
+  C = clock-by T
 
   abbrev last : ℕ
   last = length cs - 1
@@ -61,7 +61,7 @@ module _ {locations : ℕ} {legs latest r sums cs D : List ℕ} (given : DuesRea
   start : getD (first-cuts cs) (last - 1) 0 ≡ getD cs (last - 1) 0
   start = getD-take last cs (last - 1) 0 (omega (arith, given .cut-set .least))
 
-  pub fillable : DuesFillable locations legs latest r sums cs last D
+  pub fillable : DuesFillable T r sums cs last D
   fillable =
       record {
         table = given .table;
@@ -77,7 +77,7 @@ module _ {locations : ℕ} {legs latest r sums cs D : List ℕ} (given : DuesRea
     reaching : DuesReach C r (first-cuts cs) D (getD D 8 0)
     reaching = reach-of C r (first-cuts cs) D (given .held) h
 
-    pub growing : GrowableTo locations legs latest r sums (getD cs (last - 1) 0) (getD D 8 0) (getD cs last 0) (getD D (2 * last - 2) 0) (getD D (2 * last - 2 + 1) 0)
+    pub growing : GrowableTo T r sums (getD cs (last - 1) 0) (getD D 8 0) (getD cs last 0) (getD D (2 * last - 2) 0) (getD D (2 * last - 2 + 1) 0)
     growing =
         record {
           of = record {

@@ -9,7 +9,7 @@ use lib.ListN.{length, getD, take}
 use lib.Seq.{slice}
 use Rattle.theory.specs.Route.{Clock}
 use Rattle.theory.specs.Costs.{backward}
-use Rattle.theory.specs.Tables.{LegTable, Stops, CutSet, clock-by}
+use Rattle.theory.specs.Tables.{LegTable, Stops, CutSet, clock-by, Tables}
 use Rattle.costs.specs.RouteCosts.{leg, Sums}
 use Rattle.growth.specs.Due.{Due, SegmentDues}
 use Rattle.joints.specs.States.{state-count, placed-in}
@@ -24,11 +24,11 @@ pub record Puttable (dues : List ℕ) (segment : ℕ) : Type 0 where
   pub most : segment ≤ 4
 
 -- What the dues of the first `count` middle segments are read from, and the places for them.
-pub record DuesFillable (locations : ℕ) (legs latest route backward-sums cuts : List ℕ) (count : ℕ) (dues : List ℕ) : Type 0 where
-  pub table : LegTable locations legs
-  pub deadlines : length latest ≡ locations
-  pub stops : Stops locations route
-  pub backwards : Sums route (backward (leg locations legs) route) backward-sums
+pub record DuesFillable (T : Tables) (route backward-sums cuts : List ℕ) (count : ℕ) (dues : List ℕ) : Type 0 where
+  pub table : LegTable (T .locations) (T .legs)
+  pub deadlines : length (T .latest) ≡ (T .locations)
+  pub stops : Stops (T .locations) route
+  pub backwards : Sums route (backward (leg (T .locations) (T .legs)) route) backward-sums
   pub cut-set : CutSet (length cuts) (length route) cuts
   pub fewer : count < length cuts
   pub places : length dues ≡ 9
@@ -75,13 +75,13 @@ pub record DuesHeld (C : Clock) (route pre dues : List ℕ) : Type 0 where
   pub held : (getD dues 8 0 ≡ 0) ⊎ DuesReach C route pre dues (getD dues 8 0)
 
 -- A cut set whose last cut lies no earlier than the one that the held dues reach, and what its dues are read from.
-pub record DuesReachable (locations : ℕ) (legs latest route backward-sums cuts dues : List ℕ) : Type 0 where
-  pub table : LegTable locations legs
-  pub deadlines : length latest ≡ locations
-  pub stops : Stops locations route
-  pub backwards : Sums route (backward (leg locations legs) route) backward-sums
+pub record DuesReachable (T : Tables) (route backward-sums cuts dues : List ℕ) : Type 0 where
+  pub table : LegTable (T .locations) (T .legs)
+  pub deadlines : length (T .latest) ≡ (T .locations)
+  pub stops : Stops (T .locations) route
+  pub backwards : Sums route (backward (leg (T .locations) (T .legs)) route) backward-sums
   pub cut-set : CutSet (length cuts) (length route) cuts
-  pub held : DuesHeld (clock-by locations legs latest) route (take (length cuts - 1) cuts) dues
+  pub held : DuesHeld (clock-by T) route (take (length cuts - 1) cuts) dues
   pub behind : getD dues 8 0 ≤ getD cuts (length cuts - 1) 0
 
 -- The dues of every middle segment of a cut set, and in place 8 its last cut.

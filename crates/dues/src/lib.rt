@@ -12,7 +12,7 @@ ghost use mathlib.Core.Path.{_≡_};
 ghost use Prim.Native.Nat.{_+_, _-_, _*_, _<_};
 ghost use lib.ListN.{length, getD, set};
 ghost use lib.Seq.{slice};
-ghost use Rattle.theory.specs.Tables.{clock-by};
+ghost use Rattle.theory.specs.Tables.{clock-by, tables};
 ghost use Rattle.dues.specs.Parts.{HeadTimed, HeadClock};
 ghost use Rattle.dues.specs.Due.{in-time, is-in-time, Puttable, DuesFillable, SegmentsDue, DuesReachable, DuesReached, RowTimed};
 
@@ -42,8 +42,8 @@ fn fill_dues(
     count: usize,
     dues: &mut [u64; DUE_PLACES],
 )
-    requires { ⌜ DuesFillable locations (now legs) (now latest) (now route) (now backward) (now cuts) count (now dues) ⌝ }
-    ensures { λ _. ⌜ SegmentsDue (clock-by locations (now (legs .entry)) (now (latest .entry))) (now (cuts .entry)) (now (route .entry)) count (now (dues .exit)) ⌝ }
+    requires { ⌜ DuesFillable (tables locations (now legs) (now latest)) (now route) (now backward) (now cuts) count (now dues) ⌝ }
+    ensures { λ _. ⌜ SegmentsDue (clock-by (tables locations (now (legs .entry)) (now (latest .entry)))) (now (cuts .entry)) (now (route .entry)) count (now (dues .exit)) ⌝ }
 {
     let mut i = 1;
     while i <= count {
@@ -65,8 +65,8 @@ fn stretch_dues(
     cuts: &[usize],
     dues: &mut [u64; DUE_PLACES],
 )
-    requires { ⌜ DuesReachable locations (now legs) (now latest) (now route) (now backward) (now cuts) (now dues) × (0 < getD (now dues) 8 0) ⌝ }
-    ensures { λ _. ⌜ SegmentsDue (clock-by locations (now (legs .entry)) (now (latest .entry))) (now (cuts .entry)) (now (route .entry)) (length (now (cuts .entry)) - 1) (now (dues .exit)) ⌝ }
+    requires { ⌜ DuesReachable (tables locations (now legs) (now latest)) (now route) (now backward) (now cuts) (now dues) × (0 < getD (now dues) 8 0) ⌝ }
+    ensures { λ _. ⌜ SegmentsDue (clock-by (tables locations (now (legs .entry)) (now (latest .entry)))) (now (cuts .entry)) (now (route .entry)) (length (now (cuts .entry)) - 1) (now (dues .exit)) ⌝ }
 {
     let segment = cuts.len() - 1;
     let start = cuts[segment - 1];
@@ -98,8 +98,8 @@ pub fn reach_dues(
     cuts: &[usize],
     dues: &mut [u64; DUE_PLACES],
 )
-    requires { ⌜ DuesReachable locations (now legs) (now latest) (now route) (now backward) (now cuts) (now dues) ⌝ }
-    ensures { λ _. ⌜ DuesReached (clock-by locations (now (legs .entry)) (now (latest .entry))) (now (route .entry)) (now (cuts .entry)) (now (dues .exit)) ⌝ }
+    requires { ⌜ DuesReachable (tables locations (now legs) (now latest)) (now route) (now backward) (now cuts) (now dues) ⌝ }
+    ensures { λ _. ⌜ DuesReached (clock-by (tables locations (now (legs .entry)) (now (latest .entry)))) (now (route .entry)) (now (cuts .entry)) (now (dues .exit)) ⌝ }
 {
     let last = cuts.len() - 1;
     let reach = cuts[last] as u64;

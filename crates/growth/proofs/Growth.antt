@@ -12,7 +12,7 @@ use lib.Seq.{slice, slice-cons, slice-empty, take-suc, drop-append-le, length-ta
 use borrow.Author.Tests.{lt-ltb, le-ltb, le-leb, lt-leb}
 use Rattle.theory.specs.Route.{Clock, path, reverse-if, on-time}
 use Rattle.theory.specs.Costs.{last-of, inner, backward}
-use Rattle.theory.specs.Tables.{clock-by}
+use Rattle.theory.specs.Tables.{clock-by, Tables}
 use Rattle.theory.proofs.Costs.{path-append, backward-inner}
 use Rattle.costs.proofs.Segments.{last-placed}
 use Rattle.deadlines.proofs.Along.{on-time-append}
@@ -95,9 +95,9 @@ slice-snoc r s e h k =
     rw (add-one e)
     (ap (drop s) (take-suc r e 0 k) ∙ drop-append-le s (take e r) (getD r e 0 ∷ []) (omega (arith, length-take-le e r (omega arith))))
 
-module _ {locations : ℕ} {legs latest r sums : List ℕ} {start end straight reversed : ℕ} (given : Growable locations legs latest r sums start end straight reversed) where
+module _ {T : Tables} {r sums : List ℕ} {start end straight reversed : ℕ} (given : Growable T r sums start end straight reversed) where
   abbrev C : Clock
-  C = clock-by locations legs latest
+  C = clock-by T
 
   abbrev stop : ℕ
   stop = getD r end 0
@@ -122,7 +122,7 @@ module _ {locations : ℕ} {legs latest r sums : List ℕ} {start end straight r
   unfolding reverse-if
   last-stop a = last-placed r start end (given .of .filled) (given .of .within) false a
 
-  pub grown : (own leg s v : ℕ) → own ≡ getD latest stop 0 + 1 → own ≤ 2 ^ 32 → leg ≡ C .leg last stop → s ≡ min (straight + leg) own → v ≡ min reversed (own + (getD sums end 0 - getD sums start 0)) →
+  pub grown : (own leg s v : ℕ) → own ≡ getD (T .latest) stop 0 + 1 → own ≤ 2 ^ 32 → leg ≡ C .leg last stop → s ≡ min (straight + leg) own → v ≡ min reversed (own + (getD sums end 0 - getD sums start 0)) →
       SegmentDues C (slice start (end + 1) r) s v
   grown own leg s v o small l e f =
       let b : getD sums end 0 - getD sums start 0 ≡ path (C .leg) stop (reverse (slice start end r)) = omega (arith, way-back) in
@@ -134,13 +134,13 @@ module _ {locations : ℕ} {legs latest r sums : List ℕ} {start end straight r
       }
 
 -- The first stop of a segment alone.
-module _ {locations : ℕ} {legs latest r sums : List ℕ} {start end : ℕ} (given : Spannable locations legs latest r sums start end) where
-  pub alone : (own : ℕ) → own ≡ getD latest (getD r start 0) 0 + 1 → own ≤ 2 ^ 32 → SegmentDues (clock-by locations legs latest) (slice start (start + 1) r) own own
+module _ {T : Tables} {r sums : List ℕ} {start end : ℕ} (given : Spannable T r sums start end) where
+  pub alone : (own : ℕ) → own ≡ getD (T .latest) (getD r start 0) 0 + 1 → own ≤ 2 ^ 32 → SegmentDues (clock-by T) (slice start (start + 1) r) own own
   alone own o small =
       let one : slice start (start + 1) r ≡ getD r start 0 ∷ [] = slice-one r start (omega (arith, given .filled, given .within)) in
       record {
-        as-it-stands = rw (one, o) (due-one (clock-by locations legs latest) (getD r start 0));
-        turned = rw (one, o) (due-one (clock-by locations legs latest) (getD r start 0));
+        as-it-stands = rw (one, o) (due-one (clock-by T) (getD r start 0));
+        turned = rw (one, o) (due-one (clock-by T) (getD r start 0));
         small = small;
         turned-small = small;
       }

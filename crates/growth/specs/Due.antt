@@ -7,7 +7,7 @@ use lib.ListN.{length, getD}
 use lib.Seq.{slice}
 use Rattle.theory.specs.Route.{Clock, path, on-time}
 use Rattle.theory.specs.Costs.{backward}
-use Rattle.theory.specs.Tables.{LegTable, Stops, clock-by}
+use Rattle.theory.specs.Tables.{LegTable, Stops, clock-by, Tables}
 use Rattle.costs.specs.RouteCosts.{leg, Sums}
 
 -- "A stop is late if the legs from the depot up to it exceed its latest": from wherever and at whatever second one sets out, no stop of the part is late
@@ -27,23 +27,23 @@ pub record SegmentDues (C : Clock) (segment : List ℕ) (straight reversed : ℕ
   pub turned-small : reversed ≤ 2 ^ 32
 
 -- A segment of a route, not empty, with what its dues are read from.
-pub record Spannable (locations : ℕ) (legs latest route backward-sums : List ℕ) (start end : ℕ) : Type 0 where
-  pub table : LegTable locations legs
-  pub deadlines : length latest ≡ locations
-  pub stops : Stops locations route
-  pub backwards : Sums route (backward (leg locations legs) route) backward-sums
+pub record Spannable (T : Tables) (route backward-sums : List ℕ) (start end : ℕ) : Type 0 where
+  pub table : LegTable (T .locations) (T .legs)
+  pub deadlines : length (T .latest) ≡ (T .locations)
+  pub stops : Stops (T .locations) route
+  pub backwards : Sums route (backward (leg (T .locations) (T .legs)) route) backward-sums
   pub filled : start < end
   pub within : end ≤ length route
 
 -- A segment whose dues are known, with a stop behind it.
-pub record Growable (locations : ℕ) (legs latest route backward-sums : List ℕ) (start end straight reversed : ℕ) : Type 0 where
-  pub of : Spannable locations legs latest route backward-sums start end
+pub record Growable (T : Tables) (route backward-sums : List ℕ) (start end straight reversed : ℕ) : Type 0 where
+  pub of : Spannable T route backward-sums start end
   pub more : end < length route
-  pub dues : SegmentDues (clock-by locations legs latest) (slice start end route) straight reversed
+  pub dues : SegmentDues (clock-by T) (slice start end route) straight reversed
 
 -- A segment whose dues are known, with the stops up to `to` behind it.
-pub record GrowableTo (locations : ℕ) (legs latest route backward-sums : List ℕ) (start end to straight reversed : ℕ) : Type 0 where
-  pub of : Spannable locations legs latest route backward-sums start end
+pub record GrowableTo (T : Tables) (route backward-sums : List ℕ) (start end to straight reversed : ℕ) : Type 0 where
+  pub of : Spannable T route backward-sums start end
   pub least : end ≤ to
   pub most : to ≤ length route
-  pub dues : SegmentDues (clock-by locations legs latest) (slice start end route) straight reversed
+  pub dues : SegmentDues (clock-by T) (slice start end route) straight reversed

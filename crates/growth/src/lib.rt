@@ -3,7 +3,7 @@ use costs::least;
 use theory::STOPS;
 ghost use Prim.Native.Nat.{_+_};
 ghost use lib.Seq.{slice};
-ghost use Rattle.theory.specs.Tables.{clock-by};
+ghost use Rattle.theory.specs.Tables.{clock-by, tables};
 ghost use Rattle.deadlines.specs.Lateness.{LatestOf};
 ghost use Rattle.growth.specs.Due.{OwnDueIs, Growable, GrowableTo, Spannable, SegmentDues};
 
@@ -33,8 +33,8 @@ fn take_in(
     straight: u64,
     reversed: u64,
 ) -> Dues
-    requires { ⌜ Growable locations (now legs) (now latest) (now route) (now backward) start end straight reversed ⌝ }
-    ensures { λ r. ⌜ SegmentDues (clock-by locations (now (legs .entry)) (now (latest .entry))) (slice start (end + 1) (now (route .entry))) (r .straight) (r .reversed) ⌝ }
+    requires { ⌜ Growable (tables locations (now legs) (now latest)) (now route) (now backward) start end straight reversed ⌝ }
+    ensures { λ r. ⌜ SegmentDues (clock-by (tables locations (now (legs .entry)) (now (latest .entry)))) (slice start (end + 1) (now (route .entry))) (r .straight) (r .reversed) ⌝ }
 {
     let last = route[end - 1];
     let stop = route[end];
@@ -60,8 +60,8 @@ pub fn grow_dues(
     straight: u64,
     reversed: u64,
 ) -> Dues
-    requires { ⌜ GrowableTo locations (now legs) (now latest) (now route) (now backward) start from to straight reversed ⌝ }
-    ensures { λ r. ⌜ SegmentDues (clock-by locations (now (legs .entry)) (now (latest .entry))) (slice start to (now (route .entry))) (r .straight) (r .reversed) ⌝ }
+    requires { ⌜ GrowableTo (tables locations (now legs) (now latest)) (now route) (now backward) start from to straight reversed ⌝ }
+    ensures { λ r. ⌜ SegmentDues (clock-by (tables locations (now (legs .entry)) (now (latest .entry)))) (slice start to (now (route .entry))) (r .straight) (r .reversed) ⌝ }
 {
     let mut dues = Dues { straight, reversed };
     let mut upto = from;
@@ -92,8 +92,8 @@ pub fn segment_dues(
     start: usize,
     end: usize,
 ) -> Dues
-    requires { ⌜ Spannable locations (now legs) (now latest) (now route) (now backward) start end ⌝ }
-    ensures { λ r. ⌜ SegmentDues (clock-by locations (now (legs .entry)) (now (latest .entry))) (slice start end (now (route .entry))) (r .straight) (r .reversed) ⌝ }
+    requires { ⌜ Spannable (tables locations (now legs) (now latest)) (now route) (now backward) start end ⌝ }
+    ensures { λ r. ⌜ SegmentDues (clock-by (tables locations (now (legs .entry)) (now (latest .entry)))) (slice start end (now (route .entry))) (r .straight) (r .reversed) ⌝ }
 {
     let own = own_due(latest, route[start]);
     grow_dues(

@@ -8,6 +8,7 @@ use native.Mathlib.Omega.{arith}
 use borrow.Author.Tests.{ltb-true, lt-ltb, le-ltb, eqb-true, eqb-false}
 use lib.Dec.{ltb, eqb}
 use lib.ListN.{length}
+use Rattle.theory.specs.Tables.{Trip}
 use Rattle.theory.specs.Moves.{total, upfrom}
 use Rattle.theory.specs.Route.{Problem, count}
 use Rattle.theory.specs.Scan.{Reply}
@@ -161,23 +162,23 @@ module _ (P : Problem) (allowance : ℕ) where
   unfolding pair-loop
   passes-first r = refl
 
-  module _ {locations : ℕ} {legs latest : List ℕ} {depot : ℕ} {counted : PairLoop} {r : List ℕ} (g : Going allowance locations legs latest depot counted r) where
+  module _ {T : Trip} {counted : PairLoop} {r : List ℕ} (g : Going allowance T counted r) where
     going-bounded : Bounded allowance (reply-of counted r)
     going-bounded = record { within = g .within; fewer = g .fewer; spent = λ e. absurd (false≢true (sym e ∙ g .going)) }
 
     still-going : {counted′ : PairLoop} {r′ : List ℕ} → Onward allowance (reply-of counted r) (reply-of counted′ r′) → counted′ .finished ≡ true →
-        Going allowance locations legs latest depot counted′ r′ × (length r′ ≡ length r)
+        Going allowance T counted′ r′ × (length r′ ≡ length r)
     still-going on f =
         let b = on .bounded going-bounded in
         let k = timed-rearranged (on .same) (g .timed) in
         (record { timed = k .0; going = f; within = b .within; fewer = b .fewer }, k .1)
 
     pub going-after-row : (n i : ℕ) {counted′ : PairLoop} {r′ : List ℕ} → reply-of counted′ r′ ≡ row P allowance n (reply-of counted r) i → counted′ .finished ≡ true →
-        Going allowance locations legs latest depot counted′ r′ × (length r′ ≡ length r)
+        Going allowance T counted′ r′ × (length r′ ≡ length r)
     going-after-row n i e f = still-going (rw e (onward-row n (reply-of counted r) i)) f
 
     pub going-after-pass : (n : ℕ) {counted′ : PairLoop} {r′ : List ℕ} → reply-of counted′ r′ ≡ pass P allowance n (reply-of counted r) → counted′ .finished ≡ true →
-        Going allowance locations legs latest depot counted′ r′ × (length r′ ≡ length r)
+        Going allowance T counted′ r′ × (length r′ ≡ length r)
     going-after-pass n e f = still-going (rw e (onward-pass n (reply-of counted r))) f
 
     -- A pass that the code made, on a route of n stops.

@@ -2,7 +2,7 @@
 ghost use mathlib.Core.Path.{_≡_};
 ghost use Prim.Native.Nat.{_<_};
 ghost use lib.ListN.{length};
-ghost use Rattle.theory.specs.Tables.{problem, Timed};
+ghost use Rattle.theory.specs.Tables.{problem, Timed, trip};
 ghost use Rattle.pair_loop.specs.PairLoop.{stop-before, row, pass, reply-of, PairsTried};
 ghost use Rattle.pair_loop.specs.Parts.{Going, Row};
 
@@ -34,8 +34,8 @@ fn try_row(
     so_far: PairLoop,
     route: &mut [u32],
 ) -> PairLoop
-    requires { ⌜ Row allowance locations (now legs) (now latest) depot i «so_far» (now route) ⌝ }
-    ensures { λ r. ⌜ reply-of r (now (route .exit)) ≡ row (problem locations (now (legs .entry)) (now (latest .entry)) depot) allowance (length (now (route .entry))) (reply-of «so_far» (now (route .entry))) i ⌝ }
+    requires { ⌜ Row allowance (trip locations (now legs) (now latest) depot) i «so_far» (now route) ⌝ }
+    ensures { λ r. ⌜ reply-of r (now (route .exit)) ≡ row (problem (trip locations (now (legs .entry)) (now (latest .entry)) depot)) allowance (length (now (route .entry))) (reply-of «so_far» (now (route .entry))) i ⌝ }
 {
     let mut examined = so_far.examined;
     let mut accepted = so_far.accepted;
@@ -73,8 +73,8 @@ fn try_pass(
     so_far: PairLoop,
     route: &mut [u32],
 ) -> PairLoop
-    requires { ⌜ Going allowance locations (now legs) (now latest) depot «so_far» (now route) ⌝ }
-    ensures { λ r. ⌜ reply-of r (now (route .exit)) ≡ pass (problem locations (now (legs .entry)) (now (latest .entry)) depot) allowance (length (now (route .entry))) (reply-of «so_far» (now (route .entry))) ⌝ }
+    requires { ⌜ Going allowance (trip locations (now legs) (now latest) depot) «so_far» (now route) ⌝ }
+    ensures { λ r. ⌜ reply-of r (now (route .exit)) ≡ pass (problem (trip locations (now (legs .entry)) (now (latest .entry)) depot)) allowance (length (now (route .entry))) (reply-of «so_far» (now (route .entry))) ⌝ }
 {
     let mut passed = so_far;
     let mut i = 0;
@@ -97,8 +97,8 @@ pub fn pair_loop(
     depot: u32,
     route: &mut [u32],
 ) -> PairLoop
-    requires { ⌜ Timed locations (now legs) (now latest) depot (now route) ⌝ }
-    ensures { λ r. ⌜ PairsTried (problem locations (now (legs .entry)) (now (latest .entry)) depot) allowance (now (route .entry)) r (now (route .exit)) ⌝ }
+    requires { ⌜ Timed (trip locations (now legs) (now latest) depot) (now route) ⌝ }
+    ensures { λ r. ⌜ PairsTried (problem (trip locations (now (legs .entry)) (now (latest .entry)) depot)) allowance (now (route .entry)) r (now (route .exit)) ⌝ }
 {
     let mut so_far = PairLoop {
         finished: true,

@@ -10,7 +10,7 @@ ghost use mathlib.Core.List.{_∷_, _++_};
 ghost use Prim.Native.Nat.{_≤_};
 ghost use lib.ListN.{length, drop};
 ghost use Rattle.theory.specs.Moves.{patterns};
-ghost use Rattle.theory.specs.Tables.{problem, pattern-rows};
+ghost use Rattle.theory.specs.Tables.{problem, pattern-rows, trip};
 ghost use Rattle.theory.specs.Answers.{Polishes, polish-values};
 ghost use Rattle.polishing.specs.Loop.{PolishableRows, Polishable};
 
@@ -26,8 +26,8 @@ pub fn polish_rows(
     masks: &[u8],
     route: &mut [u32],
 ) -> Polished
-    requires { ⌜ PolishableRows k locations (now legs) (now latest) depot (now orders) (now masks) (now route) ⌝ }
-    ensures { λ r. ⌜ Polishes (problem locations (now (legs .entry)) (now (latest .entry)) depot) (pattern-rows k (now (orders .entry)) (now (masks .entry))) k allowance (now (route .entry)) r (now (route .exit)) ⌝ }
+    requires { ⌜ PolishableRows k (trip locations (now legs) (now latest) depot) (now orders) (now masks) (now route) ⌝ }
+    ensures { λ r. ⌜ Polishes (problem (trip locations (now (legs .entry)) (now (latest .entry)) depot)) (pattern-rows k (now (orders .entry)) (now (masks .entry))) k allowance (now (route .entry)) r (now (route .exit)) ⌝ }
 {
     let before = costs::route_length(locations, legs, depot, &route[..]);
     if route.len() + 1 < k {
@@ -81,8 +81,8 @@ pub fn polish_route(
     depot: u32,
     route: &mut [u32],
 ) -> Polished
-    requires { ⌜ Polishable k locations (now legs) (now latest) depot (now route) ⌝ }
-    ensures { λ r. ⌜ Polishes (problem locations (now (legs .entry)) (now (latest .entry)) depot) (patterns k) k allowance (now (route .entry)) r (now (route .exit)) ⌝ }
+    requires { ⌜ Polishable k (trip locations (now legs) (now latest) depot) (now route) ⌝ }
+    ensures { λ r. ⌜ Polishes (problem (trip locations (now (legs .entry)) (now (latest .entry)) depot)) (patterns k) k allowance (now (route .entry)) r (now (route .exit)) ⌝ }
 {
     let mut orders = [0u8; ORDER_BYTES];
     let mut masks = [0u8; PATTERNS];

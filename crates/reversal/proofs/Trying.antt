@@ -6,18 +6,18 @@ use Prim.Native.Nat.{ℕ, _≤_}
 use lib.ListN.{length, getD}
 use Rattle.theory.specs.Moves.{total}
 use Rattle.theory.specs.Route.{Problem, clock-of, timely}
-use Rattle.theory.specs.Tables.{Timed}
+use Rattle.theory.specs.Tables.{Timed, Trip}
 use Rattle.theory.proofs.Stops.{as-many, stops-rearranged}
 use Rattle.reversal.specs.Reversal.{stop-after, turned, shortens, accepts, Tried}
 use Rattle.reversal.proofs.Turning.{total-turned}
 
 -- A rearranged route has its deadlines in reach, and as many stops.
-pub timed-rearranged : {locations : ℕ} {legs latest : List ℕ} {depot : ℕ} {r r′ : List ℕ} → ((g : ℕ → ℕ) → total g r′ ≡ total g r) →
-    Timed locations legs latest depot r → Timed locations legs latest depot r′ × (length r′ ≡ length r)
-timed-rearranged {locations} {r = r} {r′ = r′} same t =
+pub timed-rearranged : {T : Trip} {r r′ : List ℕ} → ((g : ℕ → ℕ) → total g r′ ≡ total g r) →
+    Timed T r → Timed T r′ × (length r′ ≡ length r)
+timed-rearranged {T} {r = r} {r′ = r′} same t =
     let m = t .measurable in (
       record {
-        measurable = record { table = m .table; depot-known = m .depot-known; stops = stops-rearranged r r′ same locations (m .stops) };
+        measurable = record { table = m .table; depot-known = m .depot-known; stops = stops-rearranged r r′ same (T .tables .locations) (m .stops) };
         deadlines = t .deadlines;
       },
       as-many r r′ same,
@@ -48,14 +48,14 @@ module _ (P : Problem) (a b i j : ℕ) (r : List ℕ) where
       tried-late f t = let d = judged false f in record { is = sym d; route-is = rw d t }
 
   -- The route after a pair has the same stops.
-  pub tried-timed : {locations : ℕ} {legs latest : List ℕ} {depot : ℕ} {answer : Bool} {r′ : List ℕ} → i ≤ j → Tried P a b i j r answer r′ →
-      Timed locations legs latest depot r → Timed locations legs latest depot r′ × (length r′ ≡ length r)
+  pub tried-timed : {T : Trip} {answer : Bool} {r′ : List ℕ} → i ≤ j → Tried P a b i j r answer r′ →
+      Timed T r → Timed T r′ × (length r′ ≡ length r)
   tried-timed h t timed = timed-rearranged (λ g. ap (total g) (t .route-is) ∙ by g (accepts P a b i r j)) timed
     where
       by : (g : ℕ → ℕ) (x : Bool) → total g (cond x (turned i j r) r) ≡ total g r
       by g true = total-turned g i j r h
       by g false = refl
 
-pub turned-timed : (i j : ℕ) (r : List ℕ) {locations : ℕ} {legs latest : List ℕ} {depot : ℕ} {r′ : List ℕ} → i ≤ j → r′ ≡ turned i j r →
-    Timed locations legs latest depot r → Timed locations legs latest depot r′
+pub turned-timed : (i j : ℕ) (r : List ℕ) {T : Trip} {r′ : List ℕ} → i ≤ j → r′ ≡ turned i j r →
+    Timed T r → Timed T r′
 turned-timed i j r h e timed = timed-rearranged (λ g. ap (total g) e ∙ total-turned g i j r h) timed .0

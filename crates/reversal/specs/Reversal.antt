@@ -7,7 +7,7 @@ use lib.Dec.{ltb}
 use lib.ListN.{length, getD, take, drop}
 use lib.Seq.{slice}
 use Rattle.theory.specs.Route.{Problem, clock-of, timely}
-use Rattle.theory.specs.Tables.{Timed, LegTable}
+use Rattle.theory.specs.Tables.{Timed, LegTable, Trip}
 
 -- "The one after, or the depot."
 abbrev pub stop-after : (depot : ℕ) → List ℕ → ℕ → ℕ
@@ -35,10 +35,10 @@ pub record KnownLegs (locations : ℕ) (legs : List ℕ) (a b c e : ℕ) : Type 
   pub e-known : e < locations
 
 -- A pair of positions, and the stops read for the first of them.
-pub record Pair (locations : ℕ) (legs latest : List ℕ) (depot a b i j : ℕ) (route : List ℕ) : Type 0 where
-  pub timed : Timed locations legs latest depot route
-  pub a-known : a < locations
-  pub b-known : b < locations
+pub record Pair (T : Trip) (a b i j : ℕ) (route : List ℕ) : Type 0 where
+  pub timed : Timed T route
+  pub a-known : a < (T .tables .locations)
+  pub b-known : b < (T .tables .locations)
   pub rising : i < j
   pub inside : j < length route
 

@@ -4,7 +4,7 @@ ghost use mathlib.Core.Path.{_≡_};
 ghost use mathlib.Core.List.{reverse};
 ghost use Prim.Native.Nat.{_<_};
 ghost use lib.ListN.{length};
-ghost use Rattle.theory.specs.Tables.{problem};
+ghost use Rattle.theory.specs.Tables.{problem, trip};
 ghost use Rattle.costs.specs.RouteCosts.{leg};
 ghost use Rattle.reversal.specs.Reversal.{stop-after, shortens, KnownLegs, Pair, Tried};
 
@@ -58,8 +58,8 @@ pub fn try_pair(
     j: usize,
     route: &mut [u32],
 ) -> bool
-    requires { ⌜ Pair locations (now legs) (now latest) depot a b i j (now route) ⌝ }
-    ensures { λ r. ⌜ Tried (problem locations (now (legs .entry)) (now (latest .entry)) depot) a b i j (now (route .entry)) r (now (route .exit)) ⌝ }
+    requires { ⌜ Pair (trip locations (now legs) (now latest) depot) a b i j (now route) ⌝ }
+    ensures { λ r. ⌜ Tried (problem (trip locations (now (legs .entry)) (now (latest .entry)) depot)) a b i j (now (route .entry)) r (now (route .exit)) ⌝ }
 {
     let c = route[j];
     let e = stop_after(depot, &route[..], j);

@@ -7,7 +7,7 @@ use borrow.Author.Tests.{lt-ltb}
 use lib.ListN.{length, getD, replicate, length-append}
 use Rattle.theory.specs.Moves.{upfrom}
 use Rattle.theory.specs.Costs.{first-of, inner}
-use Rattle.theory.specs.Tables.{problem, legs-only, CutSet, ForK}
+use Rattle.theory.specs.Tables.{legs-only, CutSet, ForK}
 use Rattle.costs.specs.RouteCosts.{leg, head-end, tail-start}
 use Rattle.costs.proofs.Orders.{middle-is}
 use Rattle.joints.specs.States.{state-of, states, standing-row, row, placed-in}
@@ -53,8 +53,8 @@ module _ {locations : ℕ} {legs : List ℕ} {depot : ℕ} {r pre rows : List �
       (λ b. leg locations legs (getD r (c - 1) 0) (first-of (placed-in (opened pre) r b) 0) + inner (leg locations legs) (placed-in (opened pre) r b))
       (λ a. leg locations legs (exit-of (placed-in (opened pre) r) (head-end (legs-only locations legs depot) r (opened pre)) a) (getD r (c - 1) 0) + inner (leg locations legs) (placed-in (pre ++ (c ∷ [])) r (suc (last-state pre)))) →
       NoGain locations legs depot r pre rows count c
-  no-gain tail least n latest order mask i h f e =
-      let m = moving (problem locations legs latest depot) r pre some c cut-set tail least in
+  no-gain tail least n order mask i h f e =
+      let m = moving (legs-only locations legs depot) r pre some c cut-set tail least in
       let same : suc (length pre) - 1 - 1 ≡ length pre - 1 = omega arith in
       let bs : List ℕ = map (state-of mask) (f .middle) in
       let once : Once (last-state pre) bs = rw same at (once-row (suc (length pre)) mask (f .middle) (omega arith) (f .once)) in
@@ -65,4 +65,4 @@ module _ {locations : ℕ} {legs : List ℕ} {depot : ℕ} {r pre rows : List �
       let low-is : getD low (class p 9 bs) 0 ≤ chain-by (shared locations legs depot r pre) 9 bs = rw (class-is, chain-is) at (kept .least i h) in
       let costs = row-costs m n bs once low-is in
       let stands = standing-costs m (suc (length pre)) (omega arith) (omega arith) in
-      no-shorter (problem locations legs latest depot) (pre ++ (c ∷ [])) r cut-set (suc (length pre)) long order mask f (omega (arith, costs, stands, standing-is))
+      no-shorter (legs-only locations legs depot) (pre ++ (c ∷ [])) r cut-set (suc (length pre)) long order mask f (omega (arith, costs, stands, standing-is))

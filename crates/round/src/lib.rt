@@ -5,7 +5,7 @@ use theory::STOPS;
 ghost use mathlib.Core.Path.{_≡_};
 ghost use mathlib.Core.Bool.{cond};
 ghost use lib.ListN.{length};
-ghost use Rattle.theory.specs.Tables.{problem};
+ghost use Rattle.theory.specs.Tables.{problem, trip};
 ghost use Rattle.polishing.specs.Loop.{Polishable};
 ghost use Rattle.round.specs.Round.{Replies, outcome, polish-round, Ends, RoundRan};
 
@@ -26,8 +26,8 @@ fn polish_round(
     depot: u32,
     route: &mut [u32],
 ) -> Replied
-    requires { ⌜ Polishable k locations (now legs) (now latest) depot (now route) ⌝ }
-    ensures { λ r. ⌜ Replies (problem locations (now (legs .entry)) (now (latest .entry)) depot) k left (now (route .entry)) r (now (route .exit)) ⌝ }
+    requires { ⌜ Polishable k (trip locations (now legs) (now latest) depot) (now route) ⌝ }
+    ensures { λ r. ⌜ Replies (problem (trip locations (now (legs .entry)) (now (latest .entry)) depot)) k left (now (route .entry)) r (now (route .exit)) ⌝ }
 {
     if k == 2 {
         let pairs = pair_loop::pair_loop(left, locations, legs, latest, depot, route);
@@ -71,8 +71,8 @@ fn polish_or_put_back(
     depot: u32,
     route: &mut [u32],
 ) -> RoundState
-    requires { ⌜ Polishable k locations (now legs) (now latest) depot (now route) ⌝ }
-    ensures { λ r. ⌜ Ends (outcome (now (route .entry)) (polish-round (problem locations (now (legs .entry)) (now (latest .entry)) depot) k left (now (route .entry)))) r (now (route .exit)) ⌝ }
+    requires { ⌜ Polishable k (trip locations (now legs) (now latest) depot) (now route) ⌝ }
+    ensures { λ r. ⌜ Ends (outcome (now (route .entry)) (polish-round (problem (trip locations (now (legs .entry)) (now (latest .entry)) depot)) k left (now (route .entry)))) r (now (route .exit)) ⌝ }
 {
     let n = route.len();
     let mut old = [0u32; STOPS];
@@ -93,8 +93,8 @@ pub fn run_round(
     pin: u8,
     route: &mut [u32],
 ) -> RoundState
-    requires { ⌜ Polishable k locations (now legs) (now latest) depot (now route) ⌝ }
-    ensures { λ r. ⌜ RoundRan (problem locations (now (legs .entry)) (now (latest .entry)) depot) k left pin (now (route .entry)) r (now (route .exit)) ⌝ }
+    requires { ⌜ Polishable k (trip locations (now legs) (now latest) depot) (now route) ⌝ }
+    ensures { λ r. ⌜ RoundRan (problem (trip locations (now (legs .entry)) (now (latest .entry)) depot)) k left pin (now (route .entry)) r (now (route .exit)) ⌝ }
 {
     if left == 0 {
         return RoundState::NotReached;

@@ -1,4 +1,5 @@
 // The run over rounds that lie end to end. No entry: crate mittenschist calls it.
+ghost use Rattle.theory.specs.Tables.{tables, fleet};
 ghost use Rattle.run.specs.Run.{Runnable, Ran};
 
 // Every round of a run. A spent round leaves nothing of the allowance, so the rounds after it are written as not reached: the run has stopped.
@@ -14,8 +15,8 @@ pub fn run_list_k_opt_in_phase(
     pins: &[u8],
     result: &mut [u64],
 )
-    requires { ⌜ Runnable k locations (now legs) (now latest) (now stops) (now lengths) (now depots) (now pins) (now result) ⌝ }
-    ensures { λ _. ⌜ Ran k allowance locations (now (legs .entry)) (now (latest .entry)) (now (stops .entry)) (now (lengths .entry)) (now (depots .entry)) (now (pins .entry)) (now (result .entry)) (now (stops .exit)) (now (result .exit)) ⌝ }
+    requires { ⌜ Runnable k (tables locations (now legs) (now latest)) (fleet (now stops) (now lengths) (now depots) (now pins)) (now result) ⌝ }
+    ensures { λ _. ⌜ Ran k allowance (tables locations (now (legs .entry)) (now (latest .entry))) (fleet (now (stops .entry)) (now (lengths .entry)) (now (depots .entry)) (now (pins .entry))) (now (result .entry)) (now (stops .exit)) (now (result .exit)) ⌝ }
 {
     let mut left = allowance;
     let mut at = 0;

@@ -6,7 +6,7 @@ use native.Mathlib.Omega.{arith}
 use lib.ListN.{length, take}
 use Rattle.theory.specs.Moves.{upfrom}
 use Rattle.theory.specs.Polish.{ForCuts}
-use Rattle.theory.specs.Tables.{problem, Timed, CutSet, PatternRows, pattern-rows}
+use Rattle.theory.specs.Tables.{problem, Timed, CutSet, PatternRows, pattern-rows, Trip}
 use Rattle.theory.proofs.Rows.{length-rows, listed-for-k}
 use Rattle.theory.proofs.ForK.{rows-for-cuts}
 use Rattle.theory.proofs.Stops.{stops-rearranged}
@@ -25,10 +25,10 @@ first-set (suc (suc (suc (suc zero)))) h = refl
 first-set (suc (suc (suc (suc (suc zero))))) h = refl
 first-set (suc (suc (suc (suc (suc (suc k)))))) h = absurd (omega arith)
 
-module _ (k locations : ℕ) (legs latest : List ℕ) (depot : ℕ) (orders masks rows route₀ : List ℕ) (A : ℕ) (ok : Scannable k locations legs latest depot orders masks rows route₀) where
+module _ (k : ℕ) (T : Trip) (orders masks rows route₀ : List ℕ) (A : ℕ) (ok : Scannable k T orders masks rows route₀) where
   -- At cuts, with e examined and c accepted.
   abbrev pub At : List ℕ → ℕ → ℕ → List ℕ → Type 0
-  At cuts e c r = Polishing (problem locations legs latest depot) (pattern-rows k orders masks) k A route₀ cuts e c r
+  At cuts e c r = Polishing (problem T) (pattern-rows k orders masks) k A route₀ cuts e c r
 
   pub many : length (pattern-rows k orders masks) ≡ length masks
   many = length-rows k orders masks
@@ -39,23 +39,23 @@ module _ (k locations : ℕ) (legs latest : List ℕ) (depot : ℕ) (orders mask
   pub starts : At (take k (0 ∷ 1 ∷ 2 ∷ 3 ∷ 4 ∷ [])) 0 0 route₀
   starts =
       rw (first-set k (ok .most))
-      (begins (problem locations legs latest depot) (pattern-rows k orders masks) k A route₀ (ok .least) (ok .most) (ok .timed .measurable .stops .short) (ok .enough))
+      (begins (problem T) (pattern-rows k orders masks) k A route₀ (ok .least) (ok .most) (ok .timed .measurable .stops .short) (ok .enough))
 
   module _ (cuts : List ℕ) (e c : ℕ) (r : List ℕ) (now : At cuts e c r) where
     pub below : e ≤ A
-    below = within (problem locations legs latest depot) (pattern-rows k orders masks) k A route₀ cuts e c r now
+    below = within (problem T) (pattern-rows k orders masks) k A route₀ cuts e c r now
 
     pub same-size : length r ≡ length route₀
-    same-size = as-long (problem locations legs latest depot) (pattern-rows k orders masks) k A route₀ cuts e c r now
+    same-size = as-long (problem T) (pattern-rows k orders masks) k A route₀ cuts e c r now
 
     -- The tables serve the route at hand, and the cuts are cuts of it.
-    pub timed : Timed locations legs latest depot r
+    pub timed : Timed T r
     timed =
         record {
           measurable = record {
             table = ok .timed .measurable .table;
             depot-known = ok .timed .measurable .depot-known;
-            stops = stops-rearranged route₀ r (now .same) locations (ok .timed .measurable .stops);
+            stops = stops-rearranged route₀ r (now .same) (T .tables .locations) (ok .timed .measurable .stops);
           };
           deadlines = ok .timed .deadlines;
         }

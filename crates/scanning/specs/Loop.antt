@@ -6,16 +6,16 @@ use lib.ListN.{length}
 use Rattle.theory.specs.Moves.{Pattern}
 use Rattle.theory.specs.Route.{Problem}
 use Rattle.theory.specs.Polish.{polish-with}
-use Rattle.theory.specs.Tables.{Timed, PatternRows}
+use Rattle.theory.specs.Tables.{Timed, PatternRows, Trip}
 use Rattle.joints.specs.States.{StateRows}
 use Rattle.scanning.specs.declared.Scanned.{Scanned}
 
 -- A route that has a cut set of k cuts, and rows of patterns.
-pub record Scannable (k locations : ℕ) (legs latest : List ℕ) (depot : ℕ) (orders masks rows route : List ℕ) : Type 0 where
+pub record Scannable (k : ℕ) (T : Trip) (orders masks rows route : List ℕ) : Type 0 where
   pub least : 2 ≤ k
   pub most : k ≤ 5
   pub enough : k ≤ length route + 1
-  pub timed : Timed locations legs latest depot route
+  pub timed : Timed T route
   pub patterns : PatternRows k orders masks
   pub some : 0 < length masks
   pub state-rows : StateRows k orders masks (length masks) rows

@@ -3,7 +3,7 @@ use joints::CELLS;
 use joints::ROW_BYTES;
 use theory::CUT_PLACES;
 use theory::STOPS;
-ghost use Rattle.theory.specs.Tables.{problem, pattern-rows};
+ghost use Rattle.theory.specs.Tables.{problem, pattern-rows, trip};
 ghost use Rattle.scanning.specs.Loop.{Scannable, Scans};
 
 // What the scan counted when it ended.
@@ -26,8 +26,8 @@ pub fn scan_cut_sets(
     rows: &[u8; ROW_BYTES],
     route: &mut [u32],
 ) -> Scanned
-    requires { ⌜ Scannable k locations (now legs) (now latest) depot (now orders) (now masks) (now rows) (now route) ⌝ }
-    ensures { λ r. ⌜ Scans (problem locations (now (legs .entry)) (now (latest .entry)) depot) (pattern-rows k (now (orders .entry)) (now (masks .entry))) k allowance (now (route .entry)) r (now (route .exit)) ⌝ }
+    requires { ⌜ Scannable k (trip locations (now legs) (now latest) depot) (now orders) (now masks) (now rows) (now route) ⌝ }
+    ensures { λ r. ⌜ Scans (problem (trip locations (now (legs .entry)) (now (latest .entry)) depot)) (pattern-rows k (now (orders .entry)) (now (masks .entry))) k allowance (now (route .entry)) r (now (route .exit)) ⌝ }
 {
     let mut forward = [0u64; STOPS];
     let mut backward = [0u64; STOPS];

@@ -14,7 +14,7 @@ use Rattle.theory.specs.Route.{Problem, Clock, path, tour-length, reconnected, 
 use Rattle.theory.specs.Costs.{last-of}
 use Rattle.theory.specs.Scan.{improves}
 use Rattle.theory.specs.Polish.{search-of, move-at}
-use Rattle.theory.specs.Tables.{problem, clock-by}
+use Rattle.theory.specs.Tables.{problem, clock-by, Trip}
 use Rattle.costs.proofs.Segments.{last-cut}
 use Rattle.deadlines.specs.Lateness.{lateness}
 use Rattle.joints.specs.States.{row, standing-row, Patterned}
@@ -34,13 +34,13 @@ enough cost standing late h = by (decLt (standing - cost) late)
     by (yes l) = lt-leb late (standing - cost) l ∙ sym (le-ltb cost (below standing late) (omega arith))
     by (no n) = le-leb late (standing - cost) (omega arith) ∙ sym (lt-ltb cost (below standing late) (omega arith))
 
-module _ {locations : ℕ} {legs latest : List ℕ} {depot : ℕ} {r cs rows J : List ℕ} {ps : List Pattern} {limit : ℕ}
-    (given : Tabled locations legs latest depot r cs ps rows J limit) where
+module _ {T : Trip} {r cs rows J : List ℕ} {ps : List Pattern} {limit : ℕ}
+    (given : Tabled T r cs ps rows J limit) where
   abbrev P : Problem
-  P = problem locations legs latest depot
+  P = problem T
 
   abbrev C : Clock
-  C = clock-by locations legs latest
+  C = clock-by (T .tables)
 
   abbrev pattern : ℕ → Pattern
   pattern i = move-at ps cs i .pattern
@@ -56,10 +56,10 @@ module _ {locations : ℕ} {legs latest : List ℕ} {depot : ℕ} {r cs rows J :
 
   -- When the head is left.
   abbrev clock : ℕ
-  clock = path (P .leg) depot (head r cs)
+  clock = path (P .leg) (T .depot) (head r cs)
 
   abbrev middle-on-time : ℕ → Bool
-  middle-on-time i = on-time C (last-of depot (head r cs)) clock (middle r cs (pattern i .order) (pattern i .mask))
+  middle-on-time i = on-time C (last-of (T .depot) (head r cs)) clock (middle r cs (pattern i .order) (pattern i .mask))
 
   pub chains : (from : ℕ) → from ≤ limit → Chains J rows from limit
   chains from h =
@@ -71,7 +71,7 @@ module _ {locations : ℕ} {legs latest : List ℕ} {depot : ℕ} {r cs rows J :
         known = λ c l. given .patterned .small c (omega (arith, given .allowed));
       }
 
-  module _ {late : ℕ} (late-is : late ≡ lateness C depot r (getD cs (length cs - 1) 0)) (early : on-time C depot 0 (head r cs) ≡ true) where
+  module _ {late : ℕ} (late-is : late ≡ lateness C (T .depot) r (getD cs (length cs - 1) 0)) (early : on-time C (T .depot) 0 (head r cs) ≡ true) where
     gain-is : (i : ℕ) → i < length ps → gain i ≡ (middle-on-time i && ltb (cost i) (below standing late))
     gain-is i h = by (decLt (cost i) standing)
       where
@@ -143,12 +143,12 @@ module _ {locations : ℕ} {legs latest : List ℕ} {depot : ℕ} {r cs rows J :
       }
 
 -- Once the joint table is filled.
-pub tabled : {locations : ℕ} {legs latest : List ℕ} {depot : ℕ} {r forwards backwards cs rows J : List ℕ} {ps : List Pattern} {limit : ℕ} →
-    Searchable locations legs latest depot r forwards backwards cs → Patterned (length cs) ps rows → limit ≤ length ps → JointOf locations legs depot r cs J → Tabled locations legs latest depot r cs ps rows J limit
+pub tabled : {T : Trip} {r forwards backwards cs rows J : List ℕ} {ps : List Pattern} {limit : ℕ} →
+    Searchable T r forwards backwards cs → Patterned (length cs) ps rows → limit ≤ length ps → JointOf (T .tables .locations) (T .tables .legs) (T .depot) r cs J → Tabled T r cs ps rows J limit
 tabled s w l j = record { timed = s .timed; cut-set = s .cut-set; patterned = w; allowed = l; joined = j }
 
 -- What is read of the lateness is that of the tail.
-pub told-late : {locations : ℕ} {legs latest : List ℕ} {depot : ℕ} {r forwards backwards cs rows late J D : List ℕ} {limit : ℕ} →
-    Findable locations legs latest depot r forwards backwards cs rows late J D limit → {v : ℕ} → v ≡ getD late (getD cs (length cs - 1) 0) 0 →
-    v ≡ lateness (clock-by locations legs latest) depot r (getD cs (length cs - 1) 0)
+pub told-late : {T : Trip} {r forwards backwards cs rows late J D : List ℕ} {limit : ℕ} →
+    Findable T r forwards backwards cs rows late J D limit → {v : ℕ} → v ≡ getD late (getD cs (length cs - 1) 0) 0 →
+    v ≡ lateness (clock-by (T .tables)) (T .depot) r (getD cs (length cs - 1) 0)
 told-late {r = r} {cs = cs} given e = e ∙ given .latenesses .each _ (last-cut cs r (given .searchable .cut-set))

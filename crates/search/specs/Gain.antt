@@ -11,7 +11,7 @@ use Rattle.theory.specs.Scan.{improves}
 use Rattle.theory.specs.Polish.{search-of, move-at}
 use Rattle.theory.specs.Route.{Problem, on-time}
 use Rattle.theory.specs.Costs.{forward, backward}
-use Rattle.theory.specs.Tables.{problem, clock-by, Timed, CutSet}
+use Rattle.theory.specs.Tables.{problem, clock-by, Timed, CutSet, Trip}
 use Rattle.costs.specs.RouteCosts.{leg, Sums}
 use Rattle.deadlines.specs.Lateness.{Latenesses}
 use Rattle.joints.specs.States.{row, Patterned}
@@ -20,10 +20,10 @@ use Rattle.dues.specs.Due.{in-time, DuesHeld}
 use Rattle.joints.specs.JointTable.{chain, Padded, JointOf}
 
 -- What the step reads: tables, the route with its running sums, and k cuts of it.
-pub record Searchable (locations : ℕ) (legs latest : List ℕ) (depot : ℕ) (route forward-sums backward-sums cuts : List ℕ) : Type 0 where
-  pub timed : Timed locations legs latest depot route
-  pub forwards : Sums route (forward (leg locations legs) route) forward-sums
-  pub backwards : Sums route (backward (leg locations legs) route) backward-sums
+pub record Searchable (T : Trip) (route forward-sums backward-sums cuts : List ℕ) : Type 0 where
+  pub timed : Timed T route
+  pub forwards : Sums route (forward (leg (T .tables .locations) (T .tables .legs)) route) forward-sums
+  pub backwards : Sums route (backward (leg (T .tables .locations) (T .tables .legs)) route) backward-sums
   pub cut-set : CutSet (length cuts) (length route) cuts
 
 -- The first of the first `limit` patterns on the cut set that improves the route, or `limit` where none does.
@@ -40,23 +40,23 @@ pub record LateBehind (late cuts : List ℕ) : Type 0 where
 
 -- With what is known of the deadlines: the head is on time, by how much the stops behind are late, and what is held of the dues for the first cuts; rows of
 -- patterns of which the first `limit` are still allowed; and places for the joint table.
-pub record Findable (locations : ℕ) (legs latest : List ℕ) (depot : ℕ) (route forward-sums backward-sums cuts rows late table dues : List ℕ) (limit : ℕ) : Type 0 where
-  pub searchable : Searchable locations legs latest depot route forward-sums backward-sums cuts
+pub record Findable (T : Trip) (route forward-sums backward-sums cuts rows late table dues : List ℕ) (limit : ℕ) : Type 0 where
+  pub searchable : Searchable T route forward-sums backward-sums cuts
   pub patterns : List Pattern
   pub patterned : Patterned (length cuts) patterns rows
   pub allowed : limit ≤ length patterns
-  pub early : on-time (clock-by locations legs latest) depot 0 (head route cuts) ≡ true
-  pub latenesses : Latenesses (clock-by locations legs latest) depot route late
-  pub held : DuesHeld (clock-by locations legs latest) route (take (length cuts - 1) cuts) dues
+  pub early : on-time (clock-by (T .tables)) (T .depot) 0 (head route cuts) ≡ true
+  pub latenesses : Latenesses (clock-by (T .tables)) (T .depot) route late
+  pub held : DuesHeld (clock-by (T .tables)) route (take (length cuts - 1) cuts) dues
   pub behind : getD dues 8 0 ≤ getD cuts (length cuts - 1) 0
   pub padded : Padded table
 
 -- The answer, of whichever patterns the rows are, with what is then held.
-pub record Found (locations : ℕ) (legs latest : List ℕ) (depot : ℕ) (route cuts rows : List ℕ) (limit i : ℕ) (table dues : List ℕ) : Type 0 where
+pub record Found (T : Trip) (route cuts rows : List ℕ) (limit i : ℕ) (table dues : List ℕ) : Type 0 where
   pub within : i ≤ limit
-  pub first : (ps : List Pattern) → Patterned (length cuts) ps rows → limit ≤ length ps → FirstGain (problem locations legs latest depot) ps (length cuts) route cuts limit i
+  pub first : (ps : List Pattern) → Patterned (length cuts) ps rows → limit ≤ length ps → FirstGain (problem T) ps (length cuts) route cuts limit i
   pub padded : Padded table
-  pub held : DuesHeld (clock-by locations legs latest) route (take (length cuts - 1) cuts) dues
+  pub held : DuesHeld (clock-by (T .tables)) route (take (length cuts - 1) cuts) dues
   pub behind : getD dues 8 0 ≤ getD cuts (length cuts - 1) 0
 
 -- ---- the parts of the step
@@ -77,12 +77,12 @@ pub record NextShorter (table rows : List ℕ) (standing from limit i : ℕ) : T
   pub shorter : i < limit → chain table 9 (row rows i) < standing
 
 -- The step once the joint table is filled, for patterns that are rows of states.
-pub record Tabled (locations : ℕ) (legs latest : List ℕ) (depot : ℕ) (route cuts : List ℕ) (ps : List Pattern) (rows table : List ℕ) (limit : ℕ) : Type 0 where
-  pub timed : Timed locations legs latest depot route
+pub record Tabled (T : Trip) (route cuts : List ℕ) (ps : List Pattern) (rows table : List ℕ) (limit : ℕ) : Type 0 where
+  pub timed : Timed T route
   pub cut-set : CutSet (length cuts) (length route) cuts
   pub patterned : Patterned (length cuts) ps rows
   pub allowed : limit ≤ length ps
-  pub joined : JointOf locations legs depot route cuts table
+  pub joined : JointOf (T .tables .locations) (T .tables .legs) (T .depot) route cuts table
 
 -- What a pattern must cost less than: what stands, and so much less that the tail, late by at most `late`, is on time.
 abbrev pub below : ℕ → ℕ → ℕ

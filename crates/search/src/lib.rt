@@ -8,6 +8,7 @@ use theory::STOPS;
 ghost use mathlib.Core.Path.{_≡_};
 ghost use Prim.Native.Nat.{_-_};
 ghost use lib.ListN.{length, getD};
+ghost use Rattle.theory.specs.Tables.{trip};
 ghost use Rattle.search.specs.Gain.{below, LateBehind, Findable, Found, Chains, NextShorter, DueRows, FirstDue};
 
 // The first pattern from `from` on that costs less than `standing`, or `limit`.
@@ -95,8 +96,8 @@ pub fn first_gain(
     dues: &mut [u64; DUE_PLACES],
     limit: usize,
 ) -> usize
-    requires { ⌜ Findable locations (now legs) (now latest) depot (now route) (now forward) (now backward) (now cuts) (now rows) (now lateness) (now joint) (now dues) limit ⌝ }
-    ensures { λ r. ⌜ Found locations (now (legs .entry)) (now (latest .entry)) depot (now (route .entry)) (now (cuts .entry)) (now (rows .entry)) limit r (now (joint .exit)) (now (dues .exit)) ⌝ }
+    requires { ⌜ Findable (trip locations (now legs) (now latest) depot) (now route) (now forward) (now backward) (now cuts) (now rows) (now lateness) (now joint) (now dues) limit ⌝ }
+    ensures { λ r. ⌜ Found (trip locations (now (legs .entry)) (now (latest .entry)) depot) (now (route .entry)) (now (cuts .entry)) (now (rows .entry)) limit r (now (joint .exit)) (now (dues .exit)) ⌝ }
 {
     joint_table::fill_joint(
         locations,

@@ -10,7 +10,7 @@ use lib.Seq.{getD-take}
 use Rattle.theory.specs.Moves.{Pattern}
 use Rattle.theory.specs.Route.{reconnected, tour-length}
 use Rattle.theory.specs.Polish.{move-at}
-use Rattle.theory.specs.Tables.{problem, clock-by, CutSet}
+use Rattle.theory.specs.Tables.{problem, clock-by, CutSet, Trip}
 use Rattle.deadlines.proofs.Lateness.{head-on-time}
 use Rattle.shared.specs.Kept.{first-cuts, last-cut}
 use Rattle.shared.proofs.Keeping.{first-many}
@@ -29,8 +29,8 @@ pub passed-spent : (stops patterns : ℕ) (cuts : List ℕ) (left over : ℕ) �
     Passed stops patterns cuts left (record { examined = left; gains = false; through = false; pattern = 0 }) cuts
 passed-spent stops patterns cuts left over e h = record { no-gain = refl; over = λ b. absurd (true≢false (sym b)); spent = λ _. (refl, omega (arith, e)) }
 
-module _ {locations : ℕ} {legs latest : List ℕ} {depot : ℕ} {rows : List ℕ} {patterns : ℕ} {r forwards backwards : List ℕ} {longest : ℕ} {late cuts table : List ℕ}
-    (given : Stretchable locations legs latest depot rows patterns r forwards backwards longest late cuts table) where
+module _ {T : Trip} {rows : List ℕ} {patterns : ℕ} {r forwards backwards : List ℕ} {longest : ℕ} {late cuts table : List ℕ}
+    (given : Stretchable T rows patterns r forwards backwards longest late cuts table) where
   abbrev own : CutSet (length cuts) (length r) cuts
   own = given .searchable .cut-set
 
@@ -38,7 +38,7 @@ module _ {locations : ℕ} {legs latest : List ℕ} {depot : ℕ} {rows : List �
   passable =
       record { some = omega (arith, own .least); most = own .most; within = first-below r cuts own .1; short = own .short; few = omega (arith, given .listed .patterned .few, given .listed .many) }
 
-  pub hopeful : getD cuts 0 0 ≤ longest → Hopeful locations legs latest depot rows patterns r forwards backwards late cuts table
+  pub hopeful : getD cuts 0 0 ≤ longest → Hopeful T rows patterns r forwards backwards late cuts table
   hopeful h =
       record {
         searchable = given .searchable;
@@ -46,22 +46,22 @@ module _ {locations : ℕ} {legs latest : List ℕ} {depot : ℕ} {rows : List �
         listed = given .listed;
         padded = given .padded;
         first = given .first;
-        early = head-on-time (clock-by locations legs latest) depot r longest (given .head) (getD cuts 0 0) h;
+        early = head-on-time (clock-by (T .tables)) (T .depot) r longest (given .head) (getD cuts 0 0) h;
         latenesses = given .latenesses;
       }
 
   module _ (l : longest < getD cuts 0 0) where
-    none : (ps : List Pattern) → Listed (length cuts) patterns rows ps → (t x : ℕ) → last-cut cuts ≤ t → t ≤ length r → x < length ps → improves-at (problem locations legs latest depot) ps r cuts t x ≡ false
+    none : (ps : List Pattern) → Listed (length cuts) patterns rows ps → (t x : ℕ) → last-cut cuts ≤ t → t ≤ length r → x < length ps → improves-at (problem T) ps r cuts t x ≡ false
     none ps w t x h k i =
-        let P = problem locations legs latest depot in
+        let P = problem T in
         let cs = first-cuts cuts ++ (t ∷ []) in
         let p = move-at ps cs x .pattern in
         let first : getD cs 0 0 ≡ getD cuts 0 0 = List·getD-append (first-cuts cuts) (t ∷ []) 0 0 (some r cuts own) ∙ getD-take (length cuts - 1) cuts 0 0 (omega (arith, own .least)) in
         ap (λ b. b && ltb (tour-length P (reconnected (record { cuts = cs; pattern = p }) r)) (tour-length P r))
-        (candidate-too-late cs r (at-cut r cuts own t h k) (clock-by locations legs latest) depot longest (given .head) (omega (arith, first)) p (rw (long r cuts own t) (w .patterned .for-k x i)))
+        (candidate-too-late cs r (at-cut r cuts own t h k) (clock-by (T .tables)) (T .depot) longest (given .head) (omega (arith, first)) p (rw (long r cuts own t) (w .patterned .for-k x i)))
 
     pub passed-over : {left : ℕ} {answer : Stretch} {cuts′ : List ℕ} → Passed (length r) patterns cuts left answer cuts′ →
-        Stretched (problem locations legs latest depot) patterns rows r cuts left answer cuts′ table
+        Stretched (problem T) patterns rows r cuts left answer cuts′ table
     passed-over {left} {answer} {cuts′} w =
         record {
           ended = λ ps u.

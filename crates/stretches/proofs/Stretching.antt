@@ -10,10 +10,10 @@ use native.Mathlib.Decide.{decLt}
 use lib.ListN.{length, getD, set, take, replicate, length-append}
 use lib.Seq.{set-at, getD-take}
 use Rattle.theory.specs.Moves.{Pattern}
-use Rattle.theory.specs.Route.{reconnected, feasible}
+use Rattle.theory.specs.Route.{reconnected, feasible, tour-length}
 use Rattle.theory.specs.Scan.{improves}
 use Rattle.theory.specs.Polish.{search-of, move-at}
-use Rattle.theory.specs.Tables.{problem, clock-by, CutSet, ForK}
+use Rattle.theory.specs.Tables.{problem, clock-by, CutSet, ForK, Trip}
 use Rattle.costs.proofs.Segments.{head-at}
 use Rattle.joints.specs.JointTable.{Padded}
 use Rattle.joints.specs.States.{row, states, no-pattern}
@@ -29,16 +29,16 @@ use Rattle.stretches.proofs.LastCut.{two, some, long, at-cut}
 use Rattle.stretches.proofs.Counting.{count-to, count-next, count-least, up-to}
 
 -- At the last cut of `cuts`: the candidates before it are examined, and none improves the route.
-pub record Going (locations : ℕ) (legs latest : List ℕ) (depot : ℕ) (ps : List Pattern) (r cuts₀ : List ℕ) (left : ℕ) (cuts table dues : List ℕ) (examined : ℕ) : Type 0 where
+pub record Going (T : Trip) (ps : List Pattern) (r cuts₀ : List ℕ) (left : ℕ) (cuts table dues : List ℕ) (examined : ℕ) : Type 0 where
   pub cut-set : CutSet (length cuts) (length r) cuts
   pub many : length cuts ≡ length cuts₀
   pub first : first-cuts cuts ≡ first-cuts cuts₀
   pub from : last-cut cuts₀ ≤ last-cut cuts
   pub count : examined ≡ (last-cut cuts - last-cut cuts₀) * length ps
   pub within : examined ≤ left
-  pub idle : (t x : ℕ) → last-cut cuts₀ ≤ t → t < last-cut cuts → x < length ps → improves-at (problem locations legs latest depot) ps r cuts₀ t x ≡ false
+  pub idle : (t x : ℕ) → last-cut cuts₀ ≤ t → t < last-cut cuts → x < length ps → improves-at (problem T) ps r cuts₀ t x ≡ false
   pub padded : Padded table
-  pub held : DuesHeld (clock-by locations legs latest) r (first-cuts cuts₀) dues
+  pub held : DuesHeld (clock-by (T .tables)) r (first-cuts cuts₀) dues
   pub behind : getD dues 8 0 ≤ last-cut cuts
 
 -- ---- the last cut as the array has it
@@ -46,25 +46,25 @@ pub record Going (locations : ℕ) (legs latest : List ℕ) (depot : ℕ) (ps : 
 pub last-stored : (l : List ℕ) (v : ℕ) → 1 ≤ length l → set l (length l - 1) v ≡ first-cuts l ++ (v ∷ [])
 last-stored l v h = ap (λ z. set z (length l - 1) v) (cuts-parted l h) ∙ set-at (first-cuts l) (last-cut l) [] v (length l - 1) (first-many l)
 
-module _ {locations : ℕ} {legs latest : List ℕ} {depot : ℕ} {rows : List ℕ} {patterns : ℕ} {r forwards backwards late cuts₀ table₀ : List ℕ}
-    (given : Hopeful locations legs latest depot rows patterns r forwards backwards late cuts₀ table₀) (ps : List Pattern) (list : Listed (length cuts₀) patterns rows ps) where
+module _ {T : Trip} {rows : List ℕ} {patterns : ℕ} {r forwards backwards late cuts₀ table₀ : List ℕ}
+    (given : Hopeful T rows patterns r forwards backwards late cuts₀ table₀) (ps : List Pattern) (list : Listed (length cuts₀) patterns rows ps) where
   abbrev cut₀ : CutSet (length cuts₀) (length r) cuts₀
   cut₀ = given .searchable .cut-set
 
-  cut-of : (cuts : List ℕ) → CutSet (length cuts) (length r) cuts → Cut locations legs depot r forwards backwards cuts
+  cut-of : (cuts : List ℕ) → CutSet (length cuts) (length r) cuts → Cut (T .tables .locations) (T .tables .legs) (T .depot) r forwards backwards cuts
   cut-of cuts s = let g = given .searchable in record { measurable = g .timed .measurable; forwards = g .forwards; backwards = g .backwards; cut-set = s }
 
   answered : {left e x : ℕ} {g w : Bool} {cuts′ : List ℕ} →
-      ((t y : ℕ) → last-cut cuts₀ ≤ t → y < length ps → (t - last-cut cuts₀) * length ps + y < e → improves-at (problem locations legs latest depot) ps r cuts₀ t y ≡ false) → e ≤ left →
-      (g ≡ true → (e < left) × GainAt (problem locations legs latest depot) ps r cuts₀ e x cuts′) →
+      ((t y : ℕ) → last-cut cuts₀ ≤ t → y < length ps → (t - last-cut cuts₀) * length ps + y < e → improves-at (problem T) ps r cuts₀ t y ≡ false) → e ≤ left →
+      (g ≡ true → (e < left) × GainAt (problem T) ps r cuts₀ e x cuts′) →
       (w ≡ true → (e ≡ (length r + 1 - last-cut cuts₀) * length ps) × (cuts′ ≡ first-cuts cuts₀ ++ (length r ∷ []))) →
       (g ≡ false → w ≡ false → (e ≡ left) × (left < (length r + 1 - last-cut cuts₀) * length ps)) →
-      Ended (problem locations legs latest depot) ps r cuts₀ left (record { examined = e; gains = g; through = w; pattern = x }) cuts′
+      Ended (problem T) ps r cuts₀ left (record { examined = e; gains = g; through = w; pattern = x }) cuts′
   answered idle allowed gain over spent = record { idle = λ t y h l i n. idle t y h i n; allowed = allowed; gain = gain; over = over; spent = spent }
 
   -- ---- the start
 
-  pub keepable : Keepable locations legs depot r forwards backwards cuts₀ rows patterns (replicate 8 0) (replicate 8 0) (replicate 8 0) (replicate 21 0)
+  pub keepable : Keepable (T .tables .locations) (T .tables .legs) (T .depot) r forwards backwards cuts₀ rows patterns (replicate 8 0) (replicate 8 0) (replicate 8 0) (replicate 21 0)
   keepable =
       let w = list .patterned in
       record {
@@ -74,7 +74,7 @@ module _ {locations : ℕ} {legs latest : List ℕ} {depot : ℕ} {rows : List �
         first = given .first;
       }
 
-  pub starts : (left : ℕ) → Going locations legs latest depot ps r cuts₀ left cuts₀ table₀ (replicate 9 0) 0
+  pub starts : (left : ℕ) → Going T ps r cuts₀ left cuts₀ table₀ (replicate 9 0) 0
   starts left =
       let z : last-cut cuts₀ - last-cut cuts₀ ≡ 0 = omega arith in
       record {
@@ -92,7 +92,7 @@ module _ {locations : ℕ} {legs latest : List ℕ} {depot : ℕ} {rows : List �
 
   -- ---- the last cut at hand
 
-  module _ {left : ℕ} {cuts table dues : List ℕ} {examined : ℕ} (going : Going locations legs latest depot ps r cuts₀ left cuts table dues examined) where
+  module _ {left : ℕ} {cuts table dues : List ℕ} {examined : ℕ} (going : Going T ps r cuts₀ left cuts table dues examined) where
     stored : (v : ℕ) → set cuts (length cuts₀ - 1) v ≡ first-cuts cuts₀ ++ (v ∷ [])
     stored v =
         ap (λ n. set cuts (n - 1) v) (sym (going .many))
@@ -115,9 +115,9 @@ module _ {locations : ℕ} {legs latest : List ℕ} {depot : ℕ} {rows : List �
         last-two (length r) 0 (first-cuts cuts) (last-cut cuts) (rw (going .first) (some r cuts₀ cut₀)) (s .rising) .1
 
   module _ {left : ℕ} {cuts table dues : List ℕ} {examined : ℕ} {entries exits inside low : List ℕ}
-      (going : Going locations legs latest depot ps r cuts₀ left cuts table dues examined)
-      (now-kept : KeptNow locations legs depot r cuts₀ rows patterns entries exits inside low) where
-    pub nextable : Nextable locations legs depot r forwards backwards cuts entries exits inside low (replicate 21 0)
+      (going : Going T ps r cuts₀ left cuts table dues examined)
+      (now-kept : KeptNow (T .tables .locations) (T .tables .legs) (T .depot) r cuts₀ rows patterns entries exits inside low) where
+    pub nextable : Nextable (T .tables .locations) (T .tables .legs) (T .depot) r forwards backwards cuts entries exits inside low (replicate 21 0)
     nextable =
         let k = now-kept .kept in
         record {
@@ -130,25 +130,26 @@ module _ {locations : ℕ} {legs latest : List ℕ} {depot : ℕ} {rows : List �
 
     -- ---- up to the first last cut that has room
 
-    module _ {hit : ℕ} (next : NextRoom locations legs depot r cuts entries exits inside low hit) where
+    module _ {hit : ℕ} (next : NextRoom (T .tables .locations) (T .tables .legs) (T .depot) r cuts entries exits inside low hit) where
       behind-hit : last-cut cuts₀ ≤ hit
       behind-hit = omega (arith, going .from, next .least)
 
-      no-gain : (t x : ℕ) → last-cut cuts ≤ t → t < hit → x < length ps → improves-at (problem locations legs latest depot) ps r cuts₀ t x ≡ false
+      no-gain : (t x : ℕ) → last-cut cuts ≤ t → t < hit → x < length ps → improves-at (problem T) ps r cuts₀ t x ≡ false
+      unfolding tour-length
       no-gain t x h l i =
           let p = getD ps x no-pattern in
           let n : suc (length (first-cuts cuts₀)) ≡ length cuts₀ = omega (arith, first-many cuts₀, (two r cuts₀ cut₀)) in
           let f : ForK (suc (length (first-cuts cuts₀))) (p .order) (p .mask) = rw n (list .patterned .for-k x i) in
           let w : row rows x ≡ states (suc (length (first-cuts cuts₀))) (p .order) (p .mask) = rw n (list .patterned .each x i) in
           let q = rw (going .first) at (next .idle t h l) in
-          ap (λ b. feasible (problem locations legs latest depot) (reconnected (move-at ps (first-cuts cuts₀ ++ (t ∷ [])) x) r) && b)
-          (q rows patterns (now-kept .kept) latest (p .order) (p .mask) x (omega arith) f w)
-          ∙ and-false (feasible (problem locations legs latest depot) (reconnected (move-at ps (first-cuts cuts₀ ++ (t ∷ [])) x) r))
+          ap (λ b. feasible (problem T) (reconnected (move-at ps (first-cuts cuts₀ ++ (t ∷ [])) x) r) && b)
+          (q rows patterns (now-kept .kept) (p .order) (p .mask) x (omega arith) f w)
+          ∙ and-false (feasible (problem T) (reconnected (move-at ps (first-cuts cuts₀ ++ (t ∷ [])) x) r))
 
-      passed : (t x : ℕ) → last-cut cuts₀ ≤ t → t < hit → x < length ps → improves-at (problem locations legs latest depot) ps r cuts₀ t x ≡ false
+      passed : (t x : ℕ) → last-cut cuts₀ ≤ t → t < hit → x < length ps → improves-at (problem T) ps r cuts₀ t x ≡ false
       passed t x h l i = by (decLt t (last-cut cuts))
         where
-          by : Dec (t < last-cut cuts) → improves-at (problem locations legs latest depot) ps r cuts₀ t x ≡ false
+          by : Dec (t < last-cut cuts) → improves-at (problem T) ps r cuts₀ t x ≡ false
           by (yes p) = going .idle t x h p i
           by (no p) = no-gain t x (omega arith) l i
 
@@ -163,14 +164,14 @@ module _ {locations : ℕ} {legs latest : List ℕ} {depot : ℕ} {rows : List �
         reaches = ap (λ n. examined + n) over-is ∙ ap (λ n. n + (hit - last-cut cuts) * length ps) (going .count) ∙ count-to (last-cut cuts₀) (last-cut cuts) hit (length ps) (going .from) (next .least)
 
         idle-below : (t x : ℕ) → last-cut cuts₀ ≤ t → x < length ps → (t - last-cut cuts₀) * length ps + x < examined + over →
-            improves-at (problem locations legs latest depot) ps r cuts₀ t x ≡ false
+            improves-at (problem T) ps r cuts₀ t x ≡ false
         idle-below t x h i n =
-            up-to (last-cut cuts₀) hit (length ps) 0 behind-hit (omega arith) (improves-at (problem locations legs latest depot) ps r cuts₀) passed
+            up-to (last-cut cuts₀) hit (length ps) 0 behind-hit (omega arith) (improves-at (problem T) ps r cuts₀) passed
             (λ y l. absurd (omega arith)) t x h i (omega (arith, n, reaches))
 
         -- The allowance ends among them.
         pub spent-over : left - examined < over →
-            Ended (problem locations legs latest depot) ps r cuts₀ left (record { examined = left; gains = false; through = false; pattern = 0 }) cuts
+            Ended (problem T) ps r cuts₀ left (record { examined = left; gains = false; through = false; pattern = 0 }) cuts
         spent-over b =
             answered
             (λ t x h i n. idle-below t x h i (omega (arith, n, b, going .within)))
@@ -182,7 +183,7 @@ module _ {locations : ℕ} {legs latest : List ℕ} {depot : ℕ} {rows : List �
         module _ (room : over ≤ left - examined) where
           -- No last cut is left.
           pub through-over : length r < hit →
-              Ended (problem locations legs latest depot) ps r cuts₀ left (record { examined = examined + over; gains = false; through = true; pattern = 0 }) (set cuts (length cuts₀ - 1) (length r))
+              Ended (problem T) ps r cuts₀ left (record { examined = examined + over; gains = false; through = true; pattern = 0 }) (set cuts (length cuts₀ - 1) (length r))
           through-over b =
               let e : hit ≡ length r + 1 = omega (arith, next .most) in
               answered
@@ -193,7 +194,7 @@ module _ {locations : ℕ} {legs latest : List ℕ} {depot : ℕ} {rows : List �
               (λ _ e. absurd (true≢false e))
 
           -- At a last cut that has room.
-          pub at-hit : hit ≤ length r → Going locations legs latest depot ps r cuts₀ left (set cuts (length cuts₀ - 1) hit) table dues (examined + over)
+          pub at-hit : hit ≤ length r → Going T ps r cuts₀ left (set cuts (length cuts₀ - 1) hit) table dues (examined + over)
           at-hit l =
               let f = first-of-cuts (first-cuts cuts₀) hit in
               let e = last-of-cuts (first-cuts cuts₀) hit in
@@ -213,7 +214,7 @@ module _ {locations : ℕ} {legs latest : List ℕ} {depot : ℕ} {rows : List �
 
   -- ---- at a last cut that has room
 
-  module _ {left : ℕ} {cuts table dues : List ℕ} {examined : ℕ} (going : Going locations legs latest depot ps r cuts₀ left cuts table dues examined) where
+  module _ {left : ℕ} {cuts table dues : List ℕ} {examined : ℕ} (going : Going T ps r cuts₀ left cuts table dues examined) where
     cuts-are : cuts ≡ first-cuts cuts₀ ++ (last-cut cuts ∷ [])
     cuts-are = cuts-parted cuts (omega (arith, going .many, (two r cuts₀ cut₀))) ∙ ap (λ l. l ++ (last-cut cuts ∷ [])) (going .first)
 
@@ -223,7 +224,7 @@ module _ {locations : ℕ} {legs latest : List ℕ} {depot : ℕ} {rows : List �
         ∙ ap (λ l. getD l 0 0) (going .first)
         ∙ getD-take (length cuts₀ - 1) cuts₀ 0 0 (omega (arith, (two r cuts₀ cut₀)))
 
-    pub findable : {limit : ℕ} → limit ≡ min patterns (left - examined) → Findable locations legs latest depot r forwards backwards cuts rows late table dues limit
+    pub findable : {limit : ℕ} → limit ≡ min patterns (left - examined) → Findable T r forwards backwards cuts rows late table dues limit
     findable e =
         let g = given .searchable in
         record {
@@ -239,30 +240,30 @@ module _ {locations : ℕ} {legs latest : List ℕ} {depot : ℕ} {rows : List �
         }
 
     module _ {limit i : ℕ} {table′ dues′ : List ℕ} (limit-is : limit ≡ min patterns (left - examined))
-        (found : Found locations legs latest depot r cuts rows limit i table′ dues′) where
-      first : FirstGain (problem locations legs latest depot) ps (length cuts) r cuts limit i
+        (found : Found T r cuts rows limit i table′ dues′) where
+      first : FirstGain (problem T) ps (length cuts) r cuts limit i
       first = found .first ps (rw (going .many) (list .patterned)) (omega arith)
 
       few : i ≤ limit
       few = first .within
 
-      same-there : (x : ℕ) → improves-at (problem locations legs latest depot) ps r cuts₀ (last-cut cuts) x ≡ improves (search-of (problem locations legs latest depot) ps (length cuts) (length r)) r (move-at ps cuts x)
-      same-there x = ap (λ cs. improves (search-of (problem locations legs latest depot) ps (length cuts₀) (length r)) r (move-at ps cs x)) (sym cuts-are)
+      same-there : (x : ℕ) → improves-at (problem T) ps r cuts₀ (last-cut cuts) x ≡ improves (search-of (problem T) ps (length cuts) (length r)) r (move-at ps cuts x)
+      same-there x = ap (λ cs. improves (search-of (problem T) ps (length cuts₀) (length r)) r (move-at ps cs x)) (sym cuts-are)
 
-      here : (x : ℕ) → x < i → improves-at (problem locations legs latest depot) ps r cuts₀ (last-cut cuts) x ≡ false
+      here : (x : ℕ) → x < i → improves-at (problem T) ps r cuts₀ (last-cut cuts) x ≡ false
       here x h = same-there x ∙ first .passed x h
 
       idle-now : (t x : ℕ) → last-cut cuts₀ ≤ t → x < length ps → (t - last-cut cuts₀) * length ps + x < examined + i →
-          improves-at (problem locations legs latest depot) ps r cuts₀ t x ≡ false
+          improves-at (problem T) ps r cuts₀ t x ≡ false
       idle-now t x h l n =
-          up-to (last-cut cuts₀) (last-cut cuts) (length ps) i (going .from) (omega (arith, few)) (improves-at (problem locations legs latest depot) ps r cuts₀)
+          up-to (last-cut cuts₀) (last-cut cuts) (length ps) i (going .from) (omega (arith, few)) (improves-at (problem T) ps r cuts₀)
           (going .idle) here t x h l (omega (arith, n, going .count))
 
       pub room-left : examined + i ≤ left
       room-left = omega (arith, few, going .within)
 
       pub gains : i < limit →
-          Ended (problem locations legs latest depot) ps r cuts₀ left (record { examined = examined + i; gains = true; through = false; pattern = i }) cuts
+          Ended (problem T) ps r cuts₀ left (record { examined = examined + i; gains = true; through = false; pattern = i }) cuts
       gains h =
           answered idle-now room-left
           (λ _. (
@@ -286,7 +287,7 @@ module _ {locations : ℕ} {legs latest : List ℕ} {depot : ℕ} {rows : List �
 
         -- The allowance ends on this cut set.
         pub spent-here : limit < patterns →
-            Ended (problem locations legs latest depot) ps r cuts₀ left (record { examined = examined + i; gains = false; through = false; pattern = 0 }) cuts
+            Ended (problem T) ps r cuts₀ left (record { examined = examined + i; gains = false; through = false; pattern = 0 }) cuts
         spent-here h =
             answered idle-now room-left
             (λ e. absurd (true≢false (sym e)))
@@ -302,14 +303,14 @@ module _ {locations : ℕ} {legs latest : List ℕ} {depot : ℕ} {rows : List �
 
           -- It was the last one.
           pub ends : v ≡ length r →
-              Ended (problem locations legs latest depot) ps r cuts₀ left (record { examined = examined + i; gains = false; through = true; pattern = 0 }) cuts
+              Ended (problem T) ps r cuts₀ left (record { examined = examined + i; gains = false; through = true; pattern = 0 }) cuts
           ends e =
               answered idle-now room-left
               (λ e. absurd (true≢false (sym e)))
               (λ _. (counted ∙ ap (λ c. (c + 1 - last-cut cuts₀) * length ps) (is-last ∙ e), cuts-are ∙ ap (λ c. first-cuts cuts₀ ++ (c ∷ [])) (is-last ∙ e)))
               (λ _ e. absurd (true≢false e))
 
-          pub goes-on : (v ≡ length r → ⊥) → Going locations legs latest depot ps r cuts₀ left (set cuts (length cuts₀ - 1) (v + 1)) table′ dues′ (examined + i)
+          pub goes-on : (v ≡ length r → ⊥) → Going T ps r cuts₀ left (set cuts (length cuts₀ - 1) (v + 1)) table′ dues′ (examined + i)
           goes-on n =
               let f = first-of-cuts (first-cuts cuts₀) (v + 1) in
               let e = last-of-cuts (first-cuts cuts₀) (v + 1) in
@@ -328,6 +329,6 @@ module _ {locations : ℕ} {legs latest : List ℕ} {depot : ℕ} {rows : List �
               })
             where
               by : (t x : ℕ) → last-cut cuts₀ ≤ t → t < last-cut cuts + 1 → x < length ps → Dec (t < last-cut cuts) →
-                  improves-at (problem locations legs latest depot) ps r cuts₀ t x ≡ false
+                  improves-at (problem T) ps r cuts₀ t x ≡ false
               by t x h b y (yes l) = going .idle t x h l y
               by t x h b y (no l) = let q : t ≡ last-cut cuts = omega arith in rw q (here x (omega (arith, reached)))

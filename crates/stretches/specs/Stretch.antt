@@ -8,7 +8,7 @@ use Rattle.theory.specs.Moves.{Pattern}
 use Rattle.theory.specs.Scan.{improves}
 use Rattle.theory.specs.Route.{Problem, on-time}
 use Rattle.theory.specs.Polish.{search-of, move-at}
-use Rattle.theory.specs.Tables.{clock-by}
+use Rattle.theory.specs.Tables.{clock-by, Trip}
 use Rattle.deadlines.specs.Lateness.{LongestHead, Latenesses}
 use Rattle.joints.specs.States.{Patterned}
 use Rattle.joints.specs.JointTable.{Padded}
@@ -22,24 +22,24 @@ pub record Listed (k patterns : ℕ) (rows : List ℕ) (ps : List Pattern) : Typ
   pub many : length ps ≡ patterns
 
 -- What a stretch is scanned from, behind a head that is on time: its first cut set, and what the inner step reads.
-pub record Hopeful (locations : ℕ) (legs latest : List ℕ) (depot : ℕ) (rows : List ℕ) (patterns : ℕ) (route forward-sums backward-sums late cuts table : List ℕ) : Type 0 where
-  pub searchable : Searchable locations legs latest depot route forward-sums backward-sums cuts
+pub record Hopeful (T : Trip) (rows : List ℕ) (patterns : ℕ) (route forward-sums backward-sums late cuts table : List ℕ) : Type 0 where
+  pub searchable : Searchable T route forward-sums backward-sums cuts
   pub list : List Pattern
   pub listed : Listed (length cuts) patterns rows list
   pub padded : Padded table
   pub first : Opened cuts
-  pub early : on-time (clock-by locations legs latest) depot 0 (take (getD cuts 0 0) route) ≡ true
-  pub latenesses : Latenesses (clock-by locations legs latest) depot route late
+  pub early : on-time (clock-by (T .tables)) (T .depot) 0 (take (getD cuts 0 0) route) ≡ true
+  pub latenesses : Latenesses (clock-by (T .tables)) (T .depot) route late
 
 -- The same behind any head, with the longest that a candidate may have.
-pub record Stretchable (locations : ℕ) (legs latest : List ℕ) (depot : ℕ) (rows : List ℕ) (patterns : ℕ) (route forward-sums backward-sums : List ℕ) (longest : ℕ) (late cuts table : List ℕ) : Type 0 where
-  pub searchable : Searchable locations legs latest depot route forward-sums backward-sums cuts
+pub record Stretchable (T : Trip) (rows : List ℕ) (patterns : ℕ) (route forward-sums backward-sums : List ℕ) (longest : ℕ) (late cuts table : List ℕ) : Type 0 where
+  pub searchable : Searchable T route forward-sums backward-sums cuts
   pub list : List Pattern
   pub listed : Listed (length cuts) patterns rows list
   pub padded : Padded table
   pub first : Opened cuts
-  pub head : LongestHead (clock-by locations legs latest) depot route longest
-  pub latenesses : Latenesses (clock-by locations legs latest) depot route late
+  pub head : LongestHead (clock-by (T .tables)) (T .depot) route longest
+  pub latenesses : Latenesses (clock-by (T .tables)) (T .depot) route late
 
 -- The last cut of a route of so many stops, to be passed over with the last cuts behind it.
 pub record Passable (stops patterns : ℕ) (cuts : List ℕ) : Type 0 where

@@ -8,7 +8,7 @@ use theory::CUT_PLACES;
 use theory::STOPS;
 ghost use mathlib.Core.Path.{_≡_};
 ghost use Prim.Native.Nat.{min, _*_, _≤_};
-ghost use Rattle.theory.specs.Tables.{problem};
+ghost use Rattle.theory.specs.Tables.{problem, trip};
 ghost use Rattle.stretches.specs.Stretch.{Passable, Passed, Hopeful, Stretchable, Stretched};
 
 // How a stretch ended: at an improving candidate, whose pattern is told and whose cuts are at hand; or through it; or else with the candidates allowed. Those before were examined.
@@ -77,8 +77,8 @@ fn scan_last_cuts(
     joint: &mut [u64; CELLS],
     left: u64,
 ) -> Stretch
-    requires { ⌜ Hopeful locations (now legs) (now latest) depot (now rows) patterns (now route) (now forward) (now backward) (now lateness) (now cuts) (now joint) ⌝ }
-    ensures { λ r. ⌜ Stretched (problem locations (now (legs .entry)) (now (latest .entry)) depot) patterns (now (rows .entry)) (now (route .entry)) (now (cuts .entry)) left r (now (cuts .exit)) (now (joint .exit)) ⌝ }
+    requires { ⌜ Hopeful (trip locations (now legs) (now latest) depot) (now rows) patterns (now route) (now forward) (now backward) (now lateness) (now cuts) (now joint) ⌝ }
+    ensures { λ r. ⌜ Stretched (problem (trip locations (now (legs .entry)) (now (latest .entry)) depot)) patterns (now (rows .entry)) (now (route .entry)) (now (cuts .entry)) left r (now (cuts .exit)) (now (joint .exit)) ⌝ }
 {
     let mut entries = [0u32; STATES];
     let mut exits = [0u32; STATES];
@@ -201,8 +201,8 @@ pub fn scan_stretch(
     joint: &mut [u64; CELLS],
     left: u64,
 ) -> Stretch
-    requires { ⌜ Stretchable locations (now legs) (now latest) depot (now rows) patterns (now route) (now forward) (now backward) longest (now lateness) (now cuts) (now joint) ⌝ }
-    ensures { λ r. ⌜ Stretched (problem locations (now (legs .entry)) (now (latest .entry)) depot) patterns (now (rows .entry)) (now (route .entry)) (now (cuts .entry)) left r (now (cuts .exit)) (now (joint .exit)) ⌝ }
+    requires { ⌜ Stretchable (trip locations (now legs) (now latest) depot) (now rows) patterns (now route) (now forward) (now backward) longest (now lateness) (now cuts) (now joint) ⌝ }
+    ensures { λ r. ⌜ Stretched (problem (trip locations (now (legs .entry)) (now (latest .entry)) depot)) patterns (now (rows .entry)) (now (route .entry)) (now (cuts .entry)) left r (now (cuts .exit)) (now (joint .exit)) ⌝ }
 {
     if longest < cuts[0] {
         return pass_stretch(route.len(), patterns, cuts, left);

@@ -4,24 +4,24 @@ use mathlib.Core.List.{List}
 use Prim.Native.Nat.{ℕ, _≤_}
 use lib.ListN.{length, getD}
 use Rattle.theory.specs.Costs.{forward, backward}
-use Rattle.theory.specs.Tables.{clock-by, LegTable, Stops, Timed}
+use Rattle.theory.specs.Tables.{clock-by, LegTable, Stops, Timed, Trip}
 use Rattle.costs.specs.RouteCosts.{leg, Sums}
 use Rattle.deadlines.specs.Lateness.{LongestHead, Latenesses}
 use Rattle.taking.specs.Candidate.{candidate, Candidate}
 
 -- A route, and places for its sums and for its lateness.
-pub record MeasureAsked (locations : ℕ) (legs latest : List ℕ) (depot : ℕ) (route forward-sums backward-sums late : List ℕ) : Type 0 where
-  pub timed : Timed locations legs latest depot route
+pub record MeasureAsked (T : Trip) (route forward-sums backward-sums late : List ℕ) : Type 0 where
+  pub timed : Timed T route
   pub forward-places : length forward-sums ≡ 512
   pub backward-places : length backward-sums ≡ 512
   pub late-places : length late ≡ 513
 
 -- Its sums, the longest head, and the lateness from each position on.
-pub record Measured (locations : ℕ) (legs latest : List ℕ) (depot : ℕ) (route forward-sums backward-sums : List ℕ) (longest : ℕ) (late : List ℕ) : Type 0 where
-  pub forwards : Sums route (forward (leg locations legs) route) forward-sums
-  pub backwards : Sums route (backward (leg locations legs) route) backward-sums
-  pub head : LongestHead (clock-by locations legs latest) depot route longest
-  pub latenesses : Latenesses (clock-by locations legs latest) depot route late
+pub record Measured (T : Trip) (route forward-sums backward-sums : List ℕ) (longest : ℕ) (late : List ℕ) : Type 0 where
+  pub forwards : Sums route (forward (leg (T .tables .locations) (T .tables .legs)) route) forward-sums
+  pub backwards : Sums route (backward (leg (T .tables .locations) (T .tables .legs)) route) backward-sums
+  pub head : LongestHead (clock-by (T .tables)) (T .depot) route longest
+  pub latenesses : Latenesses (clock-by (T .tables)) (T .depot) route late
 
 -- Places for the lateness of a route of so many stops.
 pub record Clearable (stops : ℕ) (late : List ℕ) : Type 0 where

@@ -2,6 +2,7 @@
 use theory::CUT_PLACES;
 use theory::STOPS;
 ghost use mathlib.Core.Path.{_≡_};
+ghost use Rattle.theory.specs.Tables.{trip};
 ghost use Rattle.taking.specs.Candidate.{candidate, Buildable, BuildableFront, BuiltFront};
 ghost use Rattle.taking.specs.Measure.{MeasureAsked, Measured, Clearable, Cleared, Takeable, Taken};
 
@@ -16,8 +17,8 @@ pub fn measure(
     backward: &mut [u64; STOPS],
     lateness: &mut [u64; CUT_PLACES],
 ) -> usize
-    requires { ⌜ MeasureAsked locations (now legs) (now latest) depot (now route) (now forward) (now backward) (now lateness) ⌝ }
-    ensures { λ r. ⌜ Measured locations (now (legs .entry)) (now (latest .entry)) depot (now (route .entry)) (now (forward .exit)) (now (backward .exit)) r (now (lateness .exit)) ⌝ }
+    requires { ⌜ MeasureAsked (trip locations (now legs) (now latest) depot) (now route) (now forward) (now backward) (now lateness) ⌝ }
+    ensures { λ r. ⌜ Measured (trip locations (now (legs .entry)) (now (latest .entry)) depot) (now (route .entry)) (now (forward .exit)) (now (backward .exit)) r (now (lateness .exit)) ⌝ }
 {
     costs::forward_sums(locations, legs, route, forward);
     costs::backward_sums(locations, legs, route, backward);

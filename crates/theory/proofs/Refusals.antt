@@ -8,7 +8,7 @@ use native.Mathlib.Omega.{arith}
 use lib.Dec.{eqb, leb}
 use lib.ListN.{length}
 use borrow.Author.Tests.{eqb-true, eqb-false, leb-true}
-use Rattle.theory.specs.Refusals.{Rule, number, some, order, either, rules-of, first-in, refusal, problem-rules, leg-table, deadline-list, leg-sizes, known-stops, stop-count}
+use Rattle.theory.specs.Refusals.{Rule, number, some, order, either, rules-of, first-in, refusal}
 
 -- No rule applies.
 abbrev pub Passes : List Rule → Type 0
@@ -250,10 +250,6 @@ pub four-then : (a b c d rest : ℕ) → either (either a (either b (either c (e
 unfolding either
 four-then a b c d rest = simp either-assoc
 
-pub five-then : (a b c d e rest : ℕ) → either (either a (either b (either c (either d (either e 0))))) rest ≡ either a (either b (either c (either d (either e rest))))
-unfolding either
-five-then a b c d e rest = simp either-assoc
-
 -- A check that applies is given, and one that does not is passed.
 pub applies-first : (a n rest : ℕ) → a ≡ n → (a ≡ 0 → ⊥) → a ≡ either n rest
 unfolding either
@@ -264,11 +260,3 @@ pub passed-over : (a n rest : ℕ) → a ≡ n → a ≡ 0 → rest ≡ either n
 unfolding either
 passed-over a zero rest e h = refl
 passed-over a (suc n) rest e h = absurd (omega arith)
-
--- The rules of the problem, and then the others.
-pub problem-then : (locations : ℕ) (legs latest : List ℕ) (depot : ℕ) (route : List ℕ) (rest : ℕ) →
-    either (refusal (problem-rules locations legs latest depot route)) rest
-    ≡ either (number (leg-table locations legs)) (either (number (deadline-list locations latest)) (either (number (leg-sizes legs)) (either (number (known-stops locations depot route)) (either (number (stop-count (length route))) rest))))
-unfolding refusal
-problem-then locations legs latest depot route rest =
-    five-then (number (leg-table locations legs)) (number (deadline-list locations latest)) (number (leg-sizes legs)) (number (known-stops locations depot route)) (number (stop-count (length route))) rest

@@ -1,12 +1,13 @@
 -- Document 01, "When it says no": each condition on the raw input with its number. A call takes the rules that speak of what it is handed, and the
 -- first number of the one order whose rule applies is given.
 use mathlib.Core.Bool.{Bool, true, false, cond, not, _&&_, _||_}
-use mathlib.Core.List.{List, [], _∷_}
+use mathlib.Core.List.{List, [], _∷_, _++_}
 use Prim.Native.Nat.{ℕ, zero, suc, _*_}
 use lib.Dec.{leb, ltb, eqb}
 use lib.ListN.{length}
 use lib.Ieee.{Float, nan, inf, fin}
 use Rattle.theory.specs.Moves.{patterns, total}
+use Rattle.theory.specs.Tables.{Tables, Trip}
 
 abbrev pub Rule : Type 0
 Rule = ℕ × Bool
@@ -128,7 +129,9 @@ refusal rs = first-in order rs
 abbrev pub if-taken : {A : Type 0} → List Rule → A → A → A
 if-taken rules a b = cond (eqb (refusal rules) 0) a b
 
--- The rules of the tables, the depot and a route.
-abbrev pub problem-rules : ℕ → List ℕ → List ℕ → ℕ → List ℕ → List Rule
-problem-rules locations legs latest depot route =
-    leg-table locations legs ∷ deadline-list locations latest ∷ leg-sizes legs ∷ known-stops locations depot route ∷ stop-count (length route) ∷ []
+-- The rules of the tables, and with the depot and a route.
+abbrev pub table-rules : Tables → List Rule
+table-rules T = leg-table (T .locations) (T .legs) ∷ deadline-list (T .locations) (T .latest) ∷ leg-sizes (T .legs) ∷ []
+
+abbrev pub problem-rules : Trip → List ℕ → List Rule
+problem-rules T route = table-rules (T .tables) ++ (known-stops (T .tables .locations) (T .depot) route ∷ stop-count (length route) ∷ [])

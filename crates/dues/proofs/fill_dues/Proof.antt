@@ -1,7 +1,7 @@
 -- `dues::fill_dues` meets its contract. The invariant: the segments passed have their dues. Assumes nothing.
 use mathlib.Core.Path.{_≡_}
 use Prim.Native.Nat.{_+_, _-_, _≤_}
-use Rattle.theory.specs.Tables.{clock-by}
+use Rattle.theory.specs.Tables.{clock-by, tables, Tables}
 use Rattle.dues.specs.Due.{SegmentsDue}
 use Rattle.dues.proofs.Filling.{no-dues, more-dues, segment-spanned}
 use native.Mathlib.Omega.{arith}
@@ -11,15 +11,18 @@ use Rattle.dues.proofs.fill_dues.Tie as tie
 
 abbrev Inv-loop : tie.InvT-loop
 Inv-loop locations legs latest route backward cuts count dues₀ i₀ dues i =
-    (1 ≤ i) × (i ≤ count + 1) × SegmentsDue (clock-by locations legs latest) cuts route (i - 1) dues
+    (1 ≤ i) × (i ≤ count + 1) × SegmentsDue (clock-by (tables locations legs latest)) cuts route (i - 1) dues
 
 abbrev μ-loop : tie.MeasureT-loop
 μ-loop locations legs latest route backward cuts count dues₀ i₀ dues i = count + 1 - i
 
+abbrev lent : tie.Start Inv-loop μ-loop → Tables
+lent s = tables (s .args .locations) (s .args .legs .now) (s .args .latest .now)
+
 loop-holds : tie.Need-loop-holds Inv-loop μ-loop
 loop-holds c =
     let s = c .before .before .before .before in
-    (omega arith, omega arith, no-dues (clock-by (s .args .locations) (s .args .legs .now) (s .args .latest .now)) (s .args .cuts .now) (s .args .route .now) (s .args .dues .now) (s .pre .places))
+    (omega arith, omega arith, no-dues (clock-by (lent s)) (s .args .cuts .now) (s .args .route .now) (s .args .dues .now) (s .pre .places))
 
 sub-start : tie.Need-sub-start Inv-loop μ-loop
 sub-start c = c .before .loop .inv .0
@@ -63,7 +66,7 @@ loop-again c =
       omega arith,
       omega (arith, h),
       rw (e, c .put-dues .ensures)
-          (more-dues (clock-by (s .args .locations) (s .args .legs .now) (s .args .latest .now)) (s .args .cuts .now) (s .args .route .now) (l .dues) (l .i) _ _ (l .inv .0) (omega (arith, h, s .pre .fewer, s .pre .cut-set .most)) (l .inv .2) (c .before .before .segment-dues .ensures)),
+          (more-dues (clock-by (lent s)) (s .args .cuts .now) (s .args .route .now) (l .dues) (l .i) _ _ (l .inv .0) (omega (arith, h, s .pre .fewer, s .pre .cut-set .most)) (l .inv .2) (c .before .before .segment-dues .ensures)),
     )
 
 returns : tie.Need-returns Inv-loop μ-loop

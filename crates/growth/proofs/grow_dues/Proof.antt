@@ -2,7 +2,7 @@
 use mathlib.Core.Path.{_≡_}
 use Prim.Native.Nat.{_-_, _≤_}
 use lib.Seq.{slice}
-use Rattle.theory.specs.Tables.{clock-by}
+use Rattle.theory.specs.Tables.{clock-by, tables}
 use Rattle.growth.specs.Due.{SegmentDues}
 use native.Mathlib.Omega.{arith}
 use borrow.Author.Needs.{needs}
@@ -11,7 +11,7 @@ use Rattle.growth.proofs.grow_dues.Tie as tie
 
 abbrev Inv-loop : tie.InvT-loop
 Inv-loop locations legs latest route backward start from to straight reversed dues₀ upto₀ dues upto =
-    (from ≤ upto) × (upto ≤ to) × SegmentDues (clock-by locations legs latest) (slice start upto route) (dues .straight) (dues .reversed)
+    (from ≤ upto) × (upto ≤ to) × SegmentDues (clock-by (tables locations legs latest)) (slice start upto route) (dues .straight) (dues .reversed)
 
 abbrev μ-loop : tie.MeasureT-loop
 μ-loop locations legs latest route backward start from to straight reversed dues₀ upto₀ dues upto = to - upto

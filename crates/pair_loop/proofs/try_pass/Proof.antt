@@ -3,7 +3,7 @@ use mathlib.Core.Path.{_≡_, refl, sym, _∙_}
 use Prim.Native.Nat.{_+_, _-_, _≤_, _<_}
 use lib.ListN.{length}
 use Rattle.theory.specs.Route.{Problem}
-use Rattle.theory.specs.Tables.{problem}
+use Rattle.theory.specs.Tables.{problem, trip}
 use Rattle.pair_loop.specs.PairLoop.{reply-of, pass}
 use Rattle.pair_loop.specs.Parts.{Going}
 use Rattle.pair_loop.proofs.Steps.{pass-left, pass-first, pass-ended, pass-tried, pass-stopped}
@@ -16,17 +16,17 @@ use Rattle.pair_loop.proofs.try_pass.Tie as tie
 
 abbrev Inv-loop : tie.InvT-loop
 Inv-loop allowance locations legs latest depot route₀ passed₀ i₀ route passed i =
-    Going allowance locations legs latest depot passed route
+    Going allowance (trip locations legs latest depot) passed route
     × (length route ≡ length route₀)
     × (i ≤ length route₀)
-    × (pass-left (problem locations legs latest depot) allowance (length route₀) (reply-of passed route) i
-    ≡ pass (problem locations legs latest depot) allowance (length route₀) (reply-of passed₀ route₀))
+    × (pass-left (problem (trip locations legs latest depot)) allowance (length route₀) (reply-of passed route) i
+    ≡ pass (problem (trip locations legs latest depot)) allowance (length route₀) (reply-of passed₀ route₀))
 
 abbrev μ-loop : tie.MeasureT-loop
 μ-loop allowance locations legs latest depot route₀ passed₀ i₀ route passed i = length route₀ - i
 
 abbrev P : tie.Start Inv-loop μ-loop → Problem
-P s = problem (s .args .locations) (s .args .legs .now) (s .args .latest .now) (s .args .depot)
+P s = problem (trip (s .args .locations) (s .args .legs .now) (s .args .latest .now) (s .args .depot))
 
 loop-holds : tie.Need-loop-holds Inv-loop μ-loop
 loop-holds c =

@@ -5,7 +5,7 @@ use mathlib.Core.Logic.{⊎-elim}
 use Prim.Native.Nat.{_+_, _-_, _≤_, _<_}
 use lib.ListN.{length}
 use Rattle.theory.specs.Route.{Problem}
-use Rattle.theory.specs.Tables.{problem, Timed}
+use Rattle.theory.specs.Tables.{problem, Timed, trip}
 use Rattle.pair_loop.specs.PairLoop.{so-far, row, reply-of}
 use Rattle.pair_loop.proofs.Reading.{before-known}
 use Rattle.pair_loop.proofs.Steps.{row-left, row-first, row-spent, row-ended, row-tried, going-is, counted-one, counted-none, at-most-one}
@@ -17,7 +17,7 @@ use Rattle.pair_loop.proofs.try_row.Tie as tie
 
 abbrev Inv-loop : tie.InvT-loop
 Inv-loop allowance locations legs latest depot i route₀ examined₀ accepted₀ a b j₀ route examined accepted j =
-    Timed locations legs latest depot route
+    Timed (trip locations legs latest depot) route
     × (length route ≡ length route₀)
     × (i < j)
     × (j ≤ length route₀)
@@ -25,15 +25,15 @@ Inv-loop allowance locations legs latest depot i route₀ examined₀ accepted�
     × (accepted ≤ examined)
     × (a < locations)
     × (b < locations)
-    × (row-left (problem locations legs latest depot) allowance (length route₀) a b i (so-far examined accepted route) j
-    ≡ row (problem locations legs latest depot) allowance (length route₀) (so-far examined₀ accepted₀ route₀) i)
+    × (row-left (problem (trip locations legs latest depot)) allowance (length route₀) a b i (so-far examined accepted route) j
+    ≡ row (problem (trip locations legs latest depot)) allowance (length route₀) (so-far examined₀ accepted₀ route₀) i)
 
 abbrev μ-loop : tie.MeasureT-loop
 μ-loop allowance locations legs latest depot i route₀ examined₀ accepted₀ a b j₀ route examined accepted j =
     length route₀ - j
 
 abbrev P : tie.Start Inv-loop μ-loop → Problem
-P s = problem (s .args .locations) (s .args .legs .now) (s .args .latest .now) (s .args .depot)
+P s = problem (trip (s .args .locations) (s .args .legs .now) (s .args .latest .now) (s .args .depot))
 
 -- The row from what was handed in.
 from-start : (s : tie.Start Inv-loop μ-loop) →

@@ -4,7 +4,7 @@ use native.Mathlib.Omega.{arith}
 use borrow.Author.Needs.{needs}
 use borrow.Author.Tests.{not-true, not-false}
 use Rattle.theory.specs.Route.{Problem, clock-of}
-use Rattle.theory.specs.Tables.{problem}
+use Rattle.theory.specs.Tables.{problem, trip}
 use Rattle.deadlines.proofs.Answer.{kept-told, late-told}
 use Rattle.reversal.proofs.Reading.{after-known}
 use Rattle.reversal.proofs.Turning.{turned-lent, turned-again}
@@ -13,7 +13,7 @@ use Rattle.reversal.proofs.try_pair.Statement.{statement}
 use Rattle.reversal.proofs.try_pair.Tie as tie
 
 abbrev P : tie.Start → Problem
-P s = problem (s .args .locations) (s .args .legs .now) (s .args .latest .now) (s .args .depot)
+P s = problem (trip (s .args .locations) (s .args .legs .now) (s .args .latest .now) (s .args .depot))
 
 mul-c : tie.Need-mul-c
 mul-c c = search needs

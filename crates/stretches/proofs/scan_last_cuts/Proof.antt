@@ -6,6 +6,7 @@ use Prim.Native.Nat.{_+_, _-_, _*_}
 use lib.ListN.{length, set, length-set}
 use native.Mathlib.Omega.{arith}
 use borrow.Author.Needs.{needs}
+use Rattle.theory.specs.Tables.{trip}
 use Rattle.theory.specs.Moves.{Pattern}
 use Rattle.shared.specs.Kept.{last-cut}
 use Rattle.shared.specs.Filling.{KeptNow}
@@ -16,7 +17,7 @@ use Rattle.stretches.proofs.scan_last_cuts.Tie as tie
 
 abbrev Inv-loop : tie.InvT-loop
 Inv-loop locations legs latest depot rows patterns route forward backward lateness cuts₀ joint₀ left entries exits inside low dues₀ zero last examined₀ cuts joint dues examined =
-    ((ps : List Pattern) → Listed (length cuts₀) patterns rows ps → Going locations legs latest depot ps route cuts₀ left cuts joint dues examined)
+    ((ps : List Pattern) → Listed (length cuts₀) patterns rows ps → Going (trip locations legs latest depot) ps route cuts₀ left cuts joint dues examined)
     × KeptNow locations legs depot route cuts₀ rows patterns entries exits inside low
 
 abbrev μ-loop : tie.MeasureT-loop
@@ -87,7 +88,7 @@ reached : (c : tie.Else2 Inv-loop μ-loop) →
     let s = c .before .before .before .before .before .before .before .before .before .before .before .before .before .before .before .before .before .before .before .before .before .before in
     let l = c .before .before .before .before .before .before .before .before .before .before .before .loop in
     (ps : List Pattern) → Listed (length (s .args .cuts .now)) (s .args .patterns) (s .args .rows .now) ps →
-    Going (s .args .locations) (s .args .legs .now) (s .args .latest .now) (s .args .depot) ps (s .args .route .now) (s .args .cuts .now) (s .args .left)
+    Going (trip (s .args .locations) (s .args .legs .now) (s .args .latest .now) (s .args .depot)) ps (s .args .route .now) (s .args .cuts .now) (s .args .left)
     (set (l .cuts) (length (s .args .cuts .now) - 1) (c .before .before .before .before .next-room .result)) (l .joint) (l .dues) (l .examined + c .before .before .passed-patterns .result)
 reached c ps w = at-hit (c .before .before .before .before .before .before .before .before .before .before .before .before .before .before .before .before .before .before .before .before .before .before .pre) ps w (c .before .before .before .before .before .before .before .before .before .before .before .loop .inv .0 ps w) (c .before .before .before .before .before .before .before .before .before .before .before .loop .inv .1) (c .before .before .before .before .next-room .ensures) (c .before .before .passed-patterns .ensures ∙ ap (λ z. (c .before .before .before .before .next-room .result - z) * c .before .before .before .before .before .before .before .before .before .before .before .before .before .before .before .before .before .before .before .before .before .before .args .patterns) (last-read (c .before .before .before .before .before .before .before .before .before .before .before .before .before .before .before .before .before .before .before .before .before .before .pre) (c .before .before .before .before .before .before .before .before .before .before .before .before .before .before .before .before .before .before .before .before .before .before .pre .list) (c .before .before .before .before .before .before .before .before .before .before .before .before .before .before .before .before .before .before .before .before .before .before .pre .listed) (c .before .before .before .before .before .before .before .before .before .before .before .loop .inv .0 (c .before .before .before .before .before .before .before .before .before .before .before .before .before .before .before .before .before .before .before .before .before .before .pre .list) (c .before .before .before .before .before .before .before .before .before .before .before .before .before .before .before .before .before .before .before .before .before .before .pre .listed)))) (omega (arith, c .before .if1 .left)) (omega (arith, c .if2 .left))
 
