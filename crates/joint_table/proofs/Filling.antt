@@ -12,13 +12,13 @@ use Rattle.theory.specs.Costs.{first-of, inner}
 use Rattle.costs.specs.RouteCosts.{leg}
 use Rattle.joints.specs.States.{state-count, placed-in}
 use Rattle.joints.specs.JointTable.{cell, Padded, JointRow, JointTable, Joinable, StateEnds, Fillable, RowFilled}
-use Rattle.joint_table.specs.Filling.{FilledRow, FilledStates}
+use Rattle.joint_table.specs.Filling.{CellsFilled, StatesFilled}
 use Rattle.joints.proofs.Rows.{padded-set}
 use Rattle.joints.proofs.Ends.{inside-is, inside-small, entry-known, exit-known}
 
 -- The tail's cell behind those of the states.
 pub tail-filled : {locations : ℕ} {legs : List ℕ} {from count : ℕ} {entries inside : List ℕ} {a : ℕ} {before table : List ℕ} → RowFilled locations legs from count entries inside a before table →
-    (v tail : ℕ) → a < 10 → a ≢ 8 → count ≤ 8 → v ≤ 2 ^ 40 → v ≡ leg locations legs from tail → FilledRow locations legs from tail count entries inside a before (set table (16 * a + 8) v)
+    (v tail : ℕ) → a < 10 → a ≢ 8 → count ≤ 8 → v ≤ 2 ^ 40 → v ≡ leg locations legs from tail → CellsFilled locations legs from tail count entries inside a before (set table (16 * a + 8) v)
 tail-filled {count = count} {a = a} {before} {table} w v tail known n few s e =
     record {
       padded = padded-set table a 8 v (w .padded) n (omega arith) s;
@@ -42,7 +42,7 @@ row-kept r h k = record { next = λ b l. k b (omega arith) ∙ r .next b l; last
 
 pub rows-more : (exits : List ℕ) {locations : ℕ} {legs : List ℕ} {tail count : ℕ} {entries inside before after : List ℕ} {a from : ℕ} → count ≤ 8 → from ≡ getD exits a 0 →
     ((x : ℕ) → x < a → JointRow (leg locations legs) (λ s. getD entries s 0) (λ s. getD inside s 0) count tail before x (getD exits x 0)) →
-    FilledRow locations legs from tail count entries inside a before after →
+    CellsFilled locations legs from tail count entries inside a before after →
     (x : ℕ) → x < a + 1 → JointRow (leg locations legs) (λ s. getD entries s 0) (λ s. getD inside s 0) count tail after x (getD exits x 0)
 rows-more exits {locations} {legs} {tail} {count} {entries} {inside} {before} {after} {a} few e h f =
     below-more (λ x. JointRow (leg locations legs) (λ s. getD entries s 0) (λ s. getD inside s 0) count tail after x (getD exits x 0)) a
@@ -83,7 +83,7 @@ module _ {locations : ℕ} {legs : List ℕ} {depot : ℕ} {r forwards backwards
         last = w .last;
       }
 
-  pub whole-table : {before after : List ℕ} {head tail : ℕ} → FilledStates locations legs tail count entries exits inside before → FilledRow locations legs head tail count entries inside 9 before after →
+  pub whole-table : {before after : List ℕ} {head tail : ℕ} → StatesFilled locations legs tail count entries exits inside before → CellsFilled locations legs head tail count entries inside 9 before after →
       JointTable (leg locations legs) (placed-in cs r) count head tail after
   whole-table {after = after} f g =
       record {

@@ -6,7 +6,7 @@ use joints::TAIL;
 use joints::WIDTH;
 use theory::STOPS;
 ghost use Rattle.joints.specs.JointTable.{JointOf, Joinable};
-ghost use Rattle.joint_table.specs.Filling.{FillableRow, FilledRow, FillableStates, FilledStates};
+ghost use Rattle.joint_table.specs.Filling.{CellsFillable, CellsFilled, StatesFillable, StatesFilled};
 
 // Row a of the table, for a state that is left at the stop `from`.
 fn fill_cells(
@@ -20,8 +20,8 @@ fn fill_cells(
     a: usize,
     joint: &mut [u64; CELLS],
 )
-    requires { ⌜ FillableRow locations (now legs) from tail count (now entries) (now inside) a (now joint) ⌝ }
-    ensures { λ _. ⌜ FilledRow locations (now (legs .entry)) from tail count (now (entries .entry)) (now (inside .entry)) a (now (joint .entry)) (now (joint .exit)) ⌝ }
+    requires { ⌜ CellsFillable locations (now legs) from tail count (now entries) (now inside) a (now joint) ⌝ }
+    ensures { λ _. ⌜ CellsFilled locations (now (legs .entry)) from tail count (now (entries .entry)) (now (inside .entry)) a (now (joint .entry)) (now (joint .exit)) ⌝ }
 {
     joints::fill_row(locations, legs, from, count, entries, inside, a, joint);
     joint[WIDTH * a + TAIL] = costs::route_distance(locations, legs, from, tail);
@@ -38,8 +38,8 @@ fn fill_states(
     inside: &[u64; STATES],
     joint: &mut [u64; CELLS],
 )
-    requires { ⌜ FillableStates locations (now legs) tail count (now entries) (now exits) (now inside) (now joint) ⌝ }
-    ensures { λ _. ⌜ FilledStates locations (now (legs .entry)) tail count (now (entries .entry)) (now (exits .entry)) (now (inside .entry)) (now (joint .exit)) ⌝ }
+    requires { ⌜ StatesFillable locations (now legs) tail count (now entries) (now exits) (now inside) (now joint) ⌝ }
+    ensures { λ _. ⌜ StatesFilled locations (now (legs .entry)) tail count (now (entries .entry)) (now (exits .entry)) (now (inside .entry)) (now (joint .exit)) ⌝ }
 {
     let mut a = 0;
     while a < count {

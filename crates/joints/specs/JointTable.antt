@@ -92,7 +92,7 @@ pub record EndPlaces (entries exits inside : List ℕ) : Type 0 where
   pub inside-places : length inside ≡ 8
 
 -- A segment route[start..end], and places for its two states s and s + 1.
-pub record SegmentFits (route forward-sums backward-sums : List ℕ) (start end s : ℕ) (entries exits inside : List ℕ) : Type 0 where
+pub record EndsPuttable (route forward-sums backward-sums : List ℕ) (start end s : ℕ) (entries exits inside : List ℕ) : Type 0 where
   pub within : end ≤ length route
   pub forwards : Spanned forward-sums start end
   pub backwards : Spanned backward-sums start end
@@ -100,7 +100,7 @@ pub record SegmentFits (route forward-sums backward-sums : List ℕ) (start end 
   pub places : EndPlaces entries exits inside
 
 -- Reversed, a segment is entered at its last stop, left at its first, and its inner legs are the backward ones.
-pub record SegmentEnds (route forward-sums backward-sums : List ℕ) (start end s : ℕ) (entries exits inside entries′ exits′ inside′ : List ℕ) : Type 0 where
+pub record EndsPut (route forward-sums backward-sums : List ℕ) (start end s : ℕ) (entries exits inside entries′ exits′ inside′ : List ℕ) : Type 0 where
   pub entered : entries′ ≡ set (set entries s (getD route start 0)) (s + 1) (getD route (end - 1) 0)
   pub left : exits′ ≡ set (set exits s (getD route (end - 1) 0)) (s + 1) (getD route start 0)
   pub legs : inside′ ≡ set (set inside s (span forward-sums start end)) (s + 1) (span backward-sums start end)

@@ -7,7 +7,7 @@ ghost use mathlib.Core.List.{[], _∷_};
 ghost use Prim.Native.Nat.{_+_, _<_};
 ghost use lib.ListN.{length, set};
 ghost use Rattle.joints.specs.States.{state-count, standing-row, row};
-ghost use Rattle.joints.specs.JointTable.{chain, Chainable, SegmentFits, SegmentEnds, EndsFillable, StateEnds, Standing, FourStates, CellAt, Cell, RowFillable, RowFilled};
+ghost use Rattle.joints.specs.JointTable.{chain, Chainable, EndsPuttable, EndsPut, EndsFillable, StateEnds, Standing, FourStates, CellAt, Cell, RowFillable, RowFilled};
 
 // The states in which a segment is placed: the head as it stands, the tail too, a middle segment, at most four, as it stands or reversed.
 //
@@ -52,8 +52,8 @@ fn put_ends(
     exits: &mut [u32; STATES],
     inside: &mut [u64; STATES],
 )
-    requires { ⌜ SegmentFits (now route) (now forward) (now backward) start end s (now entries) (now exits) (now inside) ⌝ }
-    ensures { λ _. ⌜ SegmentEnds (now (route .entry)) (now (forward .entry)) (now (backward .entry)) start end s (now (entries .entry)) (now (exits .entry)) (now (inside .entry)) (now (entries .exit)) (now (exits .exit)) (now (inside .exit)) ⌝ }
+    requires { ⌜ EndsPuttable (now route) (now forward) (now backward) start end s (now entries) (now exits) (now inside) ⌝ }
+    ensures { λ _. ⌜ EndsPut (now (route .entry)) (now (forward .entry)) (now (backward .entry)) start end s (now (entries .entry)) (now (exits .entry)) (now (inside .entry)) (now (entries .exit)) (now (exits .exit)) (now (inside .exit)) ⌝ }
 {
     let front = route[start];
     let back = route[end - 1];

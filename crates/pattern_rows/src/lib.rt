@@ -8,7 +8,7 @@ ghost use Prim.Native.Nat.{_+_, _<_, _≤_};
 ghost use lib.Dec.{ltb};
 ghost use lib.ListN.{length, getD};
 ghost use Rattle.joints.specs.States.{state-of, StateRows};
-ghost use Rattle.pattern_rows.specs.Rows.{MiddleOrder, StateAt, Rowable, RowPut};
+ghost use Rattle.pattern_rows.specs.Rows.{MiddleOrder, StateAt, RowsFillable, RowPut};
 
 // The state in which the mask places a middle segment.
 fn state(mask: u8, segment: u8) -> u8
@@ -48,7 +48,7 @@ fn put_row(k: usize, order: &[u8], mask: u8, i: usize, rows: &mut [u8; ROW_BYTES
 
 // The rows of a list of patterns for k cuts.
 pub fn fill_rows(k: usize, orders: &[u8], masks: &[u8], rows: &mut [u8; ROW_BYTES])
-    requires { ⌜ Rowable k (now orders) (now masks) (now rows) ⌝ }
+    requires { ⌜ RowsFillable k (now orders) (now masks) (now rows) ⌝ }
     ensures { λ _. ⌜ StateRows k (now (orders .entry)) (now (masks .entry)) (length (now (masks .entry))) (now (rows .exit)) ⌝ }
 {
     let width = k + 1;

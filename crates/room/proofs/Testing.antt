@@ -21,7 +21,7 @@ use Rattle.joints.proofs.Ends.{inside-is, inside-small, entry-known, exit-known
 use Rattle.shared.specs.Bound.{exit-of, opened, last-state}
 use Rattle.shared.specs.Kept.{Cut, Kept, first-cuts, last-cut}
 use Rattle.room.specs.Room.{NoGain}
-use Rattle.room.specs.Tests.{LeastInto, LeastOut, IntoFits, OutFits, Testable, Tested, Nextable, NextRoom}
+use Rattle.room.specs.Tests.{LeastInto, LeastOut, IntoFits, OutFits, RoomTestable, RoomTested, Nextable, NextRoom}
 use Rattle.room.proofs.Bound.{Before, After, NoRoom}
 use Rattle.room.proofs.Shared.{other-cut, last-two, same-head, P-is, back-exit, first-set}
 use Rattle.room.proofs.NoGain.{no-gain}
@@ -128,7 +128,7 @@ module _ {locations : ℕ} {legs : List ℕ} {depot : ℕ} {r forwards backwards
 -- ---- what the minima ask
 
 module _ {locations : ℕ} {legs : List ℕ} {depot : ℕ} {r forwards backwards cuts : List ℕ} {head : ℕ} {entries exits inside low zeros : List ℕ} {c : ℕ}
-    (given : Testable locations legs depot r forwards backwards cuts head entries exits inside low zeros c) where
+    (given : RoomTestable locations legs depot r forwards backwards cuts head entries exits inside low zeros c) where
   abbrev cut : Cut locations legs depot r forwards backwards cuts
   cut = given .cut
 
@@ -222,7 +222,7 @@ module _ {locations : ℕ} {legs : List ℕ} {depot : ℕ} {r forwards backwards
   pub none-passed : NextRoom locations legs depot r cuts entries exits inside low (last-cut cuts)
   none-passed = record { least = omega arith; most = omega (arith, two-last (given .cut) .1); idle = λ c h k. absurd (omega arith) }
 
-  pub one-passed : {c : ℕ} {b : Bool} → c ≤ length r → NextRoom locations legs depot r cuts entries exits inside low c → Tested locations legs depot r cuts entries exits inside low c b → b ≡ false →
+  pub one-passed : {c : ℕ} {b : Bool} → c ≤ length r → NextRoom locations legs depot r cuts entries exits inside low c → RoomTested locations legs depot r cuts entries exits inside low c b → b ≡ false →
       NextRoom locations legs depot r cuts entries exits inside low (c + 1)
   one-passed {c} {b} l w t e =
       record {
@@ -238,6 +238,6 @@ module _ {locations : ℕ} {legs : List ℕ} {depot : ℕ} {r forwards backwards
 
 pub testable : {locations : ℕ} {legs : List ℕ} {depot : ℕ} {r forwards backwards cuts entries exits inside low zeros : List ℕ} {head c : ℕ} →
     Nextable locations legs depot r forwards backwards cuts entries exits inside low zeros → head ≡ head-end (legs-only locations legs depot) r cuts → last-cut cuts ≤ c → c ≤ length r →
-    Testable locations legs depot r forwards backwards cuts head entries exits inside low zeros c
+    RoomTestable locations legs depot r forwards backwards cuts head entries exits inside low zeros c
 testable g e h l =
     record { cut = g .cut; head-is = e; places = g .places; kept = g .kept; zero-places = g .zero-places; zero-is = g .zero-is; least = h; most = l }

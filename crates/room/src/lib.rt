@@ -6,7 +6,7 @@ use shared::LOW_PLACES;
 use shared::REVERSED;
 use shared::STANDING;
 use theory::STOPS;
-ghost use Rattle.room.specs.Tests.{IntoFits, LeastInto, OutFits, LeastOut, Testable, Tested, Nextable, NextRoom};
+ghost use Rattle.room.specs.Tests.{IntoFits, LeastInto, OutFits, LeastOut, RoomTestable, RoomTested, Nextable, NextRoom};
 
 // The least of what follows P, as it stands and left at the stop `from`: a state before P, with the least cost of its class.
 fn least_into(
@@ -71,8 +71,8 @@ fn has_room(
     zero: &[u64; LOW_PLACES],
     c: usize,
 ) -> bool
-    requires { ⌜ Testable locations (now legs) depot (now route) (now forward) (now backward) (now cuts) head (now entries) (now exits) (now inside) (now low) (now zero) c ⌝ }
-    ensures { λ r. ⌜ Tested locations (now (legs .entry)) depot (now (route .entry)) (now (cuts .entry)) (now (entries .entry)) (now (exits .entry)) (now (inside .entry)) (now (low .entry)) c r ⌝ }
+    requires { ⌜ RoomTestable locations (now legs) depot (now route) (now forward) (now backward) (now cuts) head (now entries) (now exits) (now inside) (now low) (now zero) c ⌝ }
+    ensures { λ r. ⌜ RoomTested locations (now (legs .entry)) depot (now (route .entry)) (now (cuts .entry)) (now (entries .entry)) (now (exits .entry)) (now (inside .entry)) (now (low .entry)) c r ⌝ }
 {
     if low[TAIL] < low[STANDING] {
         return true;

@@ -22,7 +22,7 @@ pub record Lowered (before : List ℕ) (c cost : ℕ) (after : List ℕ) : Type 
   pub rest : (x : ℕ) → getD after x 0 ≤ getD before x 0
 
 -- Four states of a row.
-pub record FourStates (p a b c d : ℕ) : Type 0 where
+pub record Classable (p a b c d : ℕ) : Type 0 where
   pub last : p ≤ 6
   pub first : a ≤ 8
   pub second : b ≤ 8
@@ -34,14 +34,14 @@ pub record ClassIs (p : ℕ) (states : List ℕ) (r : ℕ) : Type 0 where
   pub small : r < 20
 
 -- Row i of rows of states.
-pub record RowAt (rows : List ℕ) (i p : ℕ) : Type 0 where
+pub record RowClassable (rows : List ℕ) (i p : ℕ) : Type 0 where
   pub last : p ≤ 6
   pub places : length rows ≡ 1532
   pub within : i < 383
   pub known : (c : ℕ) → 4 * i ≤ c → c < 4 * i + 4 → getD rows c 0 ≤ 8
 
 -- A table, rows and places for the least costs.
-pub record Lowable (rows : List ℕ) (count p : ℕ) (table low : List ℕ) : Type 0 where
+pub record LowFillable (rows : List ℕ) (count p : ℕ) (table low : List ℕ) : Type 0 where
   pub last : p ≤ 6
   pub rows-fit : RowsFit rows count
   pub padded : Padded table

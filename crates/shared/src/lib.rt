@@ -12,7 +12,7 @@ ghost use mathlib.Core.List.{[], _∷_};
 ghost use Prim.Native.Nat.{ℕ, _+_, _^_, _<_, _≤_};
 ghost use lib.ListN.{length, getD};
 ghost use Rattle.joints.specs.States.{row};
-ghost use Rattle.shared.specs.Filling.{Lowered, FourStates, ClassIs, RowAt, Lowable, LowOf, Fixable, FixedRows, FixedTable, Keepable, KeptNow};
+ghost use Rattle.shared.specs.Filling.{Lowered, Classable, ClassIs, RowClassable, LowFillable, LowOf, Fixable, FixedRows, FixedTable, Keepable, KeptNow};
 
 // The least costs by class: at a state or the tail where that follows P as it stands, at REVERSED and a state or the head where P reversed follows that. Behind them is
 // the standing cost.
@@ -37,7 +37,7 @@ fn lower(low: &mut [u64; LOW_PLACES], c: usize, cost: u64)
 
 // The class of four states: what follows P as it stands, or 10 + what P reversed follows.
 fn class_of(p: usize, a: usize, b: usize, c: usize, d: usize) -> usize
-    requires { ⌜ FourStates p a b c d ⌝ }
+    requires { ⌜ Classable p a b c d ⌝ }
     ensures { λ r. ⌜ ClassIs p (a ∷ b ∷ c ∷ d ∷ []) r ⌝ }
 {
     if a == p {
@@ -66,7 +66,7 @@ fn class_of(p: usize, a: usize, b: usize, c: usize, d: usize) -> usize
 
 // The class of row i.
 fn row_class(rows: &[u8; ROW_BYTES], i: usize, p: usize) -> usize
-    requires { ⌜ RowAt (now rows) i p ⌝ }
+    requires { ⌜ RowClassable (now rows) i p ⌝ }
     ensures { λ r. ⌜ ClassIs p (row (now (rows .entry)) i) r ⌝ }
 {
     let at = ROW * i;
@@ -97,7 +97,7 @@ fn fill_low(
     table: &[u64; CELLS],
     low: &mut [u64; LOW_PLACES],
 )
-    requires { ⌜ Lowable (now rows) count p (now table) (now low) ⌝ }
+    requires { ⌜ LowFillable (now rows) count p (now table) (now low) ⌝ }
     ensures { λ _. ⌜ LowOf (now (rows .entry)) count p (now (table .entry)) (now (low .exit)) ⌝ }
 {
     let mut i = 0;
