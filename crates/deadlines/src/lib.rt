@@ -1,5 +1,7 @@
 // The deadline rule of document 01, checked along a route. It holds no entry; those are in crate mittenschist.
+use theory::CUT_PLACES;
 use theory::Deadline;
+use theory::STOPS;
 ghost use mathlib.Core.Path.{_≡_};
 ghost use Prim.Native.Nat.{min, max, _-_};
 ghost use Rattle.theory.specs.Tables.{clock-by, Timed, trip, tables};
@@ -34,23 +36,13 @@ pub fn check_deadlines(
     Deadline::Kept
 }
 
-// The lesser of two.
-pub fn least(a: u64, b: u64) -> u64
-    ensures { λ r. ⌜ r ≡ min a b ⌝ }
-{
-    if a < b {
-        return a;
-    }
-    b
-}
-
 // When the stop at position i is reached, from the running sums.
 pub fn arrival(
     locations: usize,
     legs: &[u32],
     depot: u32,
     route: &[u32],
-    forward: &[u64; 512],
+    forward: &[u64; STOPS],
     i: usize,
 ) -> u64
     requires { ⌜ Arriving locations (now legs) depot (now route) (now forward) i ⌝ }
@@ -86,8 +78,8 @@ pub fn fill_lateness(
     latest: &[u32],
     depot: u32,
     route: &[u32],
-    forward: &[u64; 512],
-    lateness: &mut [u64; 513],
+    forward: &[u64; STOPS],
+    lateness: &mut [u64; CUT_PLACES],
 ) -> usize
     requires { ⌜ LatenessFillable (trip locations (now legs) (now latest) depot) (now route) (now forward) (now lateness) ⌝ }
     ensures { λ r. ⌜ LatenessFilled (clock-by (tables locations (now (legs .entry)) (now (latest .entry)))) depot (now (route .entry)) r (now (lateness .exit)) ⌝ }
@@ -101,7 +93,7 @@ pub fn fill_lateness(
         let i = c - 1;
         let reached = arrival(locations, legs, depot, route, forward, i);
         let deadline = latest_of(latest, route[i]);
-        soonest = least(soonest, deadline);
+        soonest = costs::least(soonest, deadline);
         if soonest < reached {
             longest = i;
         }

@@ -1,5 +1,6 @@
 // The due of a segment, the second before which it must be left, as it stands and reversed: grown stop by stop. No entry: crate dues calls it.
-use deadlines::least;
+use costs::least;
+use theory::STOPS;
 ghost use Prim.Native.Nat.{_+_};
 ghost use lib.Seq.{slice};
 ghost use Rattle.theory.specs.Tables.{clock-by, tables};
@@ -26,7 +27,7 @@ fn take_in(
     legs: &[u32],
     latest: &[u32],
     route: &[u32],
-    backward: &[u64; 512],
+    backward: &[u64; STOPS],
     start: usize,
     end: usize,
     straight: u64,
@@ -52,7 +53,7 @@ pub fn grow_dues(
     legs: &[u32],
     latest: &[u32],
     route: &[u32],
-    backward: &[u64; 512],
+    backward: &[u64; STOPS],
     start: usize,
     from: usize,
     to: usize,
@@ -87,7 +88,7 @@ pub fn segment_dues(
     legs: &[u32],
     latest: &[u32],
     route: &[u32],
-    backward: &[u64; 512],
+    backward: &[u64; STOPS],
     start: usize,
     end: usize,
 ) -> Dues
