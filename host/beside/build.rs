@@ -31,7 +31,7 @@ const POLISHING: &str = "polishing";
 /// Where the scan counts cut sets passed over, among those of a stretch and a whole stretch, and what is put before it.
 const PASSED: [(&str, &str); 2] = [
     (
-        "examined += over;",
+        "let reached = examined + over;",
         "crate::share::count(hit - cuts[last], hit <= route.len());",
     ),
     (

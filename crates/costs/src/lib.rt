@@ -1,13 +1,24 @@
 // The costs of a route, after RouteCosts of the Rust: its length, the running sums of its inner legs and what is read off them. It holds no entry; those
 // are in crate mittenschist.
+use theory::STOPS;
 ghost use mathlib.Core.Path.{_≡_};
 ghost use mathlib.Core.List.{[]};
-ghost use Prim.Native.Nat.{_<_, _≤_};
+ghost use Prim.Native.Nat.{min, _<_, _≤_};
 ghost use lib.ListN.{length, getD};
 ghost use Rattle.theory.specs.Route.{segments};
 ghost use Rattle.theory.specs.Costs.{last-of, first-of, forward, backward};
 ghost use Rattle.theory.specs.Tables.{LegTable, Stops, Measurable, CutSet};
-ghost use Rattle.costs.specs.RouteCosts.{leg, running, KnownLeg, Leg, Length, InnerLeg, Summable, Summed, Spanned, span};
+ghost use Rattle.costs.specs.RouteCosts.{leg, running, KnownLeg, Leg, Length, InnerLeg, Summable, Summed, Spanned, span, stop-at};
+
+// The lesser of two.
+pub fn least(a: u64, b: u64) -> u64
+    ensures { λ r. ⌜ r ≡ min a b ⌝ }
+{
+    if a < b {
+        return a;
+    }
+    b
+}
 
 // The leg between two locations.
 pub fn route_distance(locations: usize, legs: &[u32], from: u32, to: u32) -> u64
@@ -57,7 +68,7 @@ fn running_sums(
     legs: &[u32],
     route: &[u32],
     backwards: bool,
-    sums: &mut [u64; 512],
+    sums: &mut [u64; STOPS],
 )
     requires { ⌜ Summable locations (now legs) (now route) (now sums) ⌝ }
     ensures { λ _. ⌜ Summed (now (route .entry)) (running backwards (leg locations (now (legs .entry))) (now (route .entry))) (now (sums .entry)) (now (sums .exit)) ⌝ }
@@ -73,14 +84,14 @@ fn running_sums(
     }
 }
 
-pub fn forward_sums(locations: usize, legs: &[u32], route: &[u32], sums: &mut [u64; 512])
+pub fn forward_sums(locations: usize, legs: &[u32], route: &[u32], sums: &mut [u64; STOPS])
     requires { ⌜ Summable locations (now legs) (now route) (now sums) ⌝ }
     ensures { λ _. ⌜ Summed (now (route .entry)) (forward (leg locations (now (legs .entry))) (now (route .entry))) (now (sums .entry)) (now (sums .exit)) ⌝ }
 {
     running_sums(locations, legs, route, false, sums);
 }
 
-pub fn backward_sums(locations: usize, legs: &[u32], route: &[u32], sums: &mut [u64; 512])
+pub fn backward_sums(locations: usize, legs: &[u32], route: &[u32], sums: &mut [u64; STOPS])
     requires { ⌜ Summable locations (now legs) (now route) (now sums) ⌝ }
     ensures { λ _. ⌜ Summed (now (route .entry)) (backward (leg locations (now (legs .entry))) (now (route .entry))) (now (sums .entry)) (now (sums .exit)) ⌝ }
 {
@@ -99,20 +110,26 @@ pub fn head_end(depot: u32, route: &[u32], cuts: &[usize]) -> u32
     route[first - 1]
 }
 
+// The stop behind a cut at c; the depot where none is.
+pub fn tail_at(depot: u32, route: &[u32], c: usize) -> u32
+    ensures { λ r. ⌜ r ≡ stop-at depot (now (route .entry)) c ⌝ }
+{
+    if c < route.len() {
+        return route[c];
+    }
+    depot
+}
+
 // The stop after the last cut; cut n makes the depot the tail's start.
 pub fn tail_start(depot: u32, route: &[u32], cuts: &[usize]) -> u32
     requires { ⌜ CutSet (length (now cuts)) (length (now route)) (now cuts) ⌝ }
     ensures { λ r. ⌜ r ≡ first-of (getD (segments 0 (now (cuts .entry)) (now (route .entry))) (length (now (cuts .entry))) []) depot ⌝ }
 {
-    let last = cuts[cuts.len() - 1];
-    if last == route.len() {
-        return depot;
-    }
-    route[last]
+    tail_at(depot, route, cuts[cuts.len() - 1])
 }
 
 // The inner legs of route[start..end], not empty, from the running sums of one direction.
-pub fn inner(sums: &[u64; 512], start: usize, end: usize) -> u64
+pub fn inner(sums: &[u64; STOPS], start: usize, end: usize) -> u64
     requires { ⌜ Spanned (now sums) start end ⌝ }
     ensures { λ r. ⌜ r ≡ span (now (sums .entry)) start end ⌝ }
 {

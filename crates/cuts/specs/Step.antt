@@ -21,6 +21,6 @@ pub record Stepped (n : ℕ) (cuts : List ℕ) (answer : Bool) (cuts′ : List �
   pub cuts-after : cuts′ ≡ or-kept (next-cuts n cuts) cuts
 
 -- The places from `from` on can be filled with numbers from `first` on.
-pub record Room (cuts : List ℕ) (from first : ℕ) : Type 0 where
+pub record Followable (cuts : List ℕ) (from first : ℕ) : Type 0 where
   pub within : from ≤ length cuts
   pub fits : first + length cuts < 4096

@@ -5,11 +5,11 @@ ghost use Prim.Native.Nat.{_+_, _-_, _≤_, _<_};
 ghost use lib.ListN.{length, take};
 ghost use Rattle.theory.specs.Moves.{upfrom};
 ghost use Rattle.theory.specs.Tables.{CutSet};
-ghost use Rattle.cuts.specs.Step.{Room, Stepped};
+ghost use Rattle.cuts.specs.Step.{Followable, Stepped};
 
 // The places from `from` on follow on from `first`.
 fn follow_on(cuts: &mut [usize], from: usize, first: usize)
-    requires { ⌜ Room (now cuts) from first ⌝ }
+    requires { ⌜ Followable (now cuts) from first ⌝ }
     ensures { λ _. ⌜ now (cuts .exit) ≡ take from (now (cuts .entry)) ++ upfrom first (length (now (cuts .entry)) - from) ⌝ }
 {
     let mut place = from;

@@ -1,5 +1,7 @@
 // The deadline rule of document 01, checked along a route. It holds no entry; those are in crate mittenschist.
+use theory::CUT_PLACES;
 use theory::Deadline;
+use theory::STOPS;
 ghost use mathlib.Core.Path.{_≡_};
 ghost use Prim.Native.Nat.{min, max, _-_};
 ghost use Rattle.theory.specs.Tables.{timetable-by, clock-by, Timed, trip, tables};
@@ -47,7 +49,7 @@ pub fn service_of(service: &[u32], stop: u32) -> u64
 }
 
 // The service of the stops before each position, up to the end.
-pub fn fill_stays(service: &[u32], route: &[u32], stayed: &mut [u64; 513])
+pub fn fill_stays(service: &[u32], route: &[u32], stayed: &mut [u64; CUT_PLACES])
     requires { ⌜ StaysFillable (now service) (now route) (now stayed) ⌝ }
     ensures { λ _. ⌜ Stays (now (service .entry)) (now (route .entry)) (now (stayed .exit)) ⌝ }
 {
@@ -61,24 +63,14 @@ pub fn fill_stays(service: &[u32], route: &[u32], stayed: &mut [u64; 513])
     }
 }
 
-// The lesser of two.
-pub fn least(a: u64, b: u64) -> u64
-    ensures { λ r. ⌜ r ≡ min a b ⌝ }
-{
-    if a < b {
-        return a;
-    }
-    b
-}
-
 // When the stop at position i is left, from the running sums.
 pub fn left_at(
     locations: usize,
     legs: &[u32],
     depot: u32,
     route: &[u32],
-    forward: &[u64; 512],
-    stayed: &[u64; 513],
+    forward: &[u64; STOPS],
+    stayed: &[u64; CUT_PLACES],
     i: usize,
 ) -> u64
     requires { ⌜ LeftAsked locations (now legs) depot (now route) (now forward) (now stayed) i ⌝ }
@@ -88,7 +80,7 @@ pub fn left_at(
 }
 
 // The last second at which the stop at position i may be left.
-pub fn until_at(latest: &[u32], route: &[u32], stayed: &[u64; 513], i: usize) -> u64
+pub fn until_at(latest: &[u32], route: &[u32], stayed: &[u64; CUT_PLACES], i: usize) -> u64
     requires { ⌜ UntilAsked (now latest) (now route) (now stayed) i ⌝ }
     ensures { λ r. ⌜ UntilAt (now (latest .entry)) (now (route .entry)) (now (stayed .entry)) i r ⌝ }
 {
@@ -115,9 +107,9 @@ pub fn fill_lateness(
     service: &[u32],
     depot: u32,
     route: &[u32],
-    forward: &[u64; 512],
-    stayed: &[u64; 513],
-    lateness: &mut [u64; 513],
+    forward: &[u64; STOPS],
+    stayed: &[u64; CUT_PLACES],
+    lateness: &mut [u64; CUT_PLACES],
 ) -> usize
     requires { ⌜ LatenessFillable (trip locations (now legs) (now latest) (now service) depot) (now route) (now forward) (now stayed) (now lateness) ⌝ }
     ensures { λ r. ⌜ LatenessFilled (clock-by (tables locations (now (legs .entry)) (now (latest .entry)) (now (service .entry)))) depot (now (route .entry)) r (now (lateness .exit)) ⌝ }
@@ -131,7 +123,7 @@ pub fn fill_lateness(
         let i = c - 1;
         let reached = left_at(locations, legs, depot, route, forward, stayed, i);
         let deadline = until_at(latest, route, stayed, i);
-        soonest = least(soonest, deadline);
+        soonest = costs::least(soonest, deadline);
         if soonest < reached {
             longest = i;
         }

@@ -1,4 +1,5 @@
 // A move's delta, after RouteCosts of the Rust: from the running sums, segment by segment. It holds no entry; those are in crate mittenschist.
+use theory::STOPS;
 ghost use mathlib.Core.Path.{_≡_};
 ghost use mathlib.Core.List.{[]};
 ghost use Prim.Native.Nat.{_<_, _≤_};
@@ -20,8 +21,8 @@ fn place(
     locations: usize,
     legs: &[u32],
     route: &[u32],
-    forward: &[u64; 512],
-    backward: &[u64; 512],
+    forward: &[u64; STOPS],
+    backward: &[u64; STOPS],
     start: usize,
     end: usize,
     reversed: bool,
@@ -52,8 +53,8 @@ fn place_segment(
     locations: usize,
     legs: &[u32],
     route: &[u32],
-    forward: &[u64; 512],
-    backward: &[u64; 512],
+    forward: &[u64; STOPS],
+    backward: &[u64; STOPS],
     cuts: &[usize],
     mask: u8,
     segment: usize,
@@ -86,8 +87,8 @@ fn cost(
     legs: &[u32],
     depot: u32,
     route: &[u32],
-    forward: &[u64; 512],
-    backward: &[u64; 512],
+    forward: &[u64; STOPS],
+    backward: &[u64; STOPS],
     cuts: &[usize],
     order: &[u8],
     mask: u8,
@@ -125,8 +126,8 @@ pub fn delta(
     legs: &[u32],
     depot: u32,
     route: &[u32],
-    forward: &[u64; 512],
-    backward: &[u64; 512],
+    forward: &[u64; STOPS],
+    backward: &[u64; STOPS],
     cuts: &[usize],
     order: &[u8],
     mask: u8,

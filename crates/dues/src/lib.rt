@@ -1,6 +1,13 @@
 // Deadlines of placed segments, shared by the candidates that have them: the second before which a segment must be left. No entry: for the inner search.
 use growth::grow_dues;
 use growth::segment_dues;
+use joints::CELLS;
+use joints::HEAD;
+use joints::ROW;
+use joints::ROW_BYTES;
+use joints::STATES;
+use joints::WIDTH;
+use theory::STOPS;
 ghost use mathlib.Core.Path.{_≡_};
 ghost use Prim.Native.Nat.{_+_, _-_, _*_, _<_};
 ghost use lib.ListN.{length, getD, set};
@@ -9,8 +16,13 @@ ghost use Rattle.theory.specs.Tables.{clock-by, tables};
 ghost use Rattle.dues.specs.Parts.{HeadTimed, HeadClock};
 ghost use Rattle.dues.specs.Due.{in-time, is-in-time, Puttable, DuesFillable, SegmentsDue, DuesReachable, DuesReached, RowTimed};
 
+// The dues by state, and behind them the last cut that those of the last segment reach up to, 0 before any is found.
+pub const REACH: usize = STATES;
+
+pub const DUE_PLACES: usize = REACH + 1;
+
 // The dues of a middle segment into the places of its two states.
-fn put_dues(dues: &mut [u64; 9], segment: usize, straight: u64, reversed: u64)
+fn put_dues(dues: &mut [u64; DUE_PLACES], segment: usize, straight: u64, reversed: u64)
     requires { ⌜ Puttable (now dues) segment ⌝ }
     ensures { λ _. ⌜ now (dues .exit) ≡ set (set (now (dues .entry)) (2 * segment - 2) straight) (2 * segment - 2 + 1) reversed ⌝ }
 {
@@ -25,10 +37,10 @@ fn fill_dues(
     legs: &[u32],
     latest: &[u32],
     route: &[u32],
-    backward: &[u64; 512],
+    backward: &[u64; STOPS],
     cuts: &[usize],
     count: usize,
-    dues: &mut [u64; 9],
+    dues: &mut [u64; DUE_PLACES],
 )
     requires { ⌜ DuesFillable (tables locations (now legs) (now latest)) (now route) (now backward) (now cuts) count (now dues) ⌝ }
     ensures { λ _. ⌜ SegmentsDue (clock-by (tables locations (now (legs .entry)) (now (latest .entry)))) (now (cuts .entry)) (now (route .entry)) count (now (dues .exit)) ⌝ }
@@ -49,9 +61,9 @@ fn stretch_dues(
     legs: &[u32],
     latest: &[u32],
     route: &[u32],
-    backward: &[u64; 512],
+    backward: &[u64; STOPS],
     cuts: &[usize],
-    dues: &mut [u64; 9],
+    dues: &mut [u64; DUE_PLACES],
 )
     requires { ⌜ DuesReachable (tables locations (now legs) (now latest)) (now route) (now backward) (now cuts) (now dues) × (0 < getD (now dues) 8 0) ⌝ }
     ensures { λ _. ⌜ SegmentsDue (clock-by (tables locations (now (legs .entry)) (now (latest .entry)))) (now (cuts .entry)) (now (route .entry)) (length (now (cuts .entry)) - 1) (now (dues .exit)) ⌝ }
@@ -59,7 +71,7 @@ fn stretch_dues(
     let segment = cuts.len() - 1;
     let start = cuts[segment - 1];
     let end = cuts[segment];
-    let from = dues[8] as usize;
+    let from = dues[REACH] as usize;
     let s = 2 * segment - 2;
     let more = grow_dues(
         locations,
@@ -82,28 +94,22 @@ pub fn reach_dues(
     legs: &[u32],
     latest: &[u32],
     route: &[u32],
-    backward: &[u64; 512],
+    backward: &[u64; STOPS],
     cuts: &[usize],
-    dues: &mut [u64; 9],
+    dues: &mut [u64; DUE_PLACES],
 )
     requires { ⌜ DuesReachable (tables locations (now legs) (now latest)) (now route) (now backward) (now cuts) (now dues) ⌝ }
     ensures { λ _. ⌜ DuesReached (clock-by (tables locations (now (legs .entry)) (now (latest .entry)))) (now (route .entry)) (now (cuts .entry)) (now (dues .exit)) ⌝ }
 {
     let last = cuts.len() - 1;
     let reach = cuts[last] as u64;
-    let held = dues[8];
+    let held = dues[REACH];
     if held == 0 {
         fill_dues(locations, legs, latest, route, backward, cuts, last, dues);
     } else {
         stretch_dues(locations, legs, latest, route, backward, cuts, dues);
     }
-    dues[8] = reach;
-}
-
-fn wide(x: u8) -> usize
-    ensures { λ r. ⌜ r ≡ x ⌝ }
-{
-    x as usize
+    dues[REACH] = reach;
 }
 
 // Whether the middle of a candidate is left in time.
@@ -114,9 +120,9 @@ pub enum Timing {
 
 // In time where each of the first `m` states of row i is left before its due, when the head is left at second `clock`.
 pub fn judge_row(
-    joint: &[u64; 160],
-    rows: &[u8; 1532],
-    dues: &[u64; 9],
+    joint: &[u64; CELLS],
+    rows: &[u8; ROW_BYTES],
+    dues: &[u64; DUE_PLACES],
     i: usize,
     m: usize,
     clock: u64,
@@ -124,13 +130,13 @@ pub fn judge_row(
     requires { ⌜ RowTimed (now joint) (now rows) (now dues) i m clock ⌝ }
     ensures { λ r. ⌜ is-in-time r ≡ in-time (now (joint .entry)) (now (dues .entry)) 9 clock (slice (4 * i) (4 * i + m) (now (rows .entry))) ⌝ }
 {
-    let mut from = 9;
+    let mut from = HEAD;
     let mut now = clock;
-    let mut at = 4 * i;
-    let end = 4 * i + m;
+    let mut at = ROW * i;
+    let end = ROW * i + m;
     while at < end {
-        let state = wide(rows[at]);
-        now += joint[16 * from + state];
+        let state = joints::wide(rows[at]);
+        now += joint[WIDTH * from + state];
         if dues[state] <= now {
             return Timing::Late;
         }
@@ -146,7 +152,7 @@ pub fn head_clock(
     legs: &[u32],
     depot: u32,
     route: &[u32],
-    forward: &[u64; 512],
+    forward: &[u64; STOPS],
     cuts: &[usize],
 ) -> u64
     requires { ⌜ HeadTimed locations (now legs) depot (now route) (now forward) (now cuts) ⌝ }

@@ -1,5 +1,6 @@
 // The due of a segment, the second before which it must be left, as it stands and reversed: grown stop by stop. No entry: crate dues calls it.
-use deadlines::least;
+use costs::least;
+use theory::STOPS;
 ghost use Prim.Native.Nat.{_+_};
 ghost use lib.Seq.{slice};
 ghost use Rattle.theory.specs.Tables.{clock-by, tables};
@@ -21,7 +22,7 @@ fn own_due(latest: &[u32], stop: u32, served: u64) -> u64
 }
 
 // The seconds from leaving the stop at `end` to leaving the one at `start`, back along the route.
-fn way_back(backward: &[u64; 512], stayed: &[u64; 513], start: usize, end: usize) -> u64
+fn way_back(backward: &[u64; STOPS], stayed: &[u64; CUT_PLACES], start: usize, end: usize) -> u64
     requires { ⌜ WayBackAsked (now backward) (now stayed) start end ⌝ }
     ensures { λ r. ⌜ WayBack (now (backward .entry)) (now (stayed .entry)) start end r ⌝ }
 {
@@ -35,8 +36,8 @@ fn take_in(
     latest: &[u32],
     service: &[u32],
     route: &[u32],
-    backward: &[u64; 512],
-    stayed: &[u64; 513],
+    backward: &[u64; STOPS],
+    stayed: &[u64; CUT_PLACES],
     start: usize,
     end: usize,
     straight: u64,
@@ -64,8 +65,8 @@ pub fn grow_dues(
     latest: &[u32],
     service: &[u32],
     route: &[u32],
-    backward: &[u64; 512],
-    stayed: &[u64; 513],
+    backward: &[u64; STOPS],
+    stayed: &[u64; CUT_PLACES],
     start: usize,
     from: usize,
     to: usize,
@@ -103,8 +104,8 @@ pub fn segment_dues(
     latest: &[u32],
     service: &[u32],
     route: &[u32],
-    backward: &[u64; 512],
-    stayed: &[u64; 513],
+    backward: &[u64; STOPS],
+    stayed: &[u64; CUT_PLACES],
     start: usize,
     end: usize,
 ) -> Dues

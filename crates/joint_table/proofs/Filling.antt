@@ -1,56 +1,37 @@
--- The joint table, filled cell by cell and row by row. Assumes nothing.
-use mathlib.Core.Path.{_≡_, refl, _∙_}
-use mathlib.Core.Logic.{_≢_}
+-- The joint table, filled row by row. Assumes nothing.
+use mathlib.Core.Path.{_≡_, _∙_}
+use mathlib.Core.Logic.{_≢_, _⊎_, inl, inr}
 use mathlib.Core.List.{List}
 use Prim.Native.Nat.{ℕ, _+_, _*_, _^_, _≤_, _<_}
 use native.Mathlib.Omega.{arith}
+use native.Mathlib.Decide.{decLt}
 use borrow.Author.Count.{below-more}
 use lib.ListN.{length, getD, set, length-set}
 use lib.Seq.{getD-set-same, getD-set-other}
 use Rattle.theory.specs.Costs.{first-of, inner}
 use Rattle.costs.specs.RouteCosts.{leg}
 use Rattle.joints.specs.States.{state-count, placed-in}
-use Rattle.joints.specs.JointTable.{cell, Padded, JointRow, JointTable, Joinable, StateEnds, Fillable}
-use Rattle.joint_table.specs.Filling.{FilledRow, FilledStates}
-use Rattle.joints.proofs.Rows.{set-small, padded-set}
+use Rattle.joints.specs.JointTable.{cell, Padded, JointRow, JointTable, Joinable, StateEnds, Fillable, RowFilled}
+use Rattle.joint_table.specs.Filling.{CellsFilled, StatesFilled}
+use Rattle.joints.proofs.Rows.{padded-set}
 use Rattle.joints.proofs.Ends.{inside-is, inside-small, entry-known, exit-known}
 
--- The first b cells of row a are filled, and the other rows are as they were.
-pub record Cells (d : ℕ → ℕ → ℕ) (entry inside : ℕ → ℕ) (from a : ℕ) (before table : List ℕ) (b : ℕ) : Type 0 where
-  pub padded : Padded table
-  pub next : (x : ℕ) → x < b → cell table a x ≡ d from (entry x) + inside x
-  pub others : (x y : ℕ) → y < 16 → x ≢ a → cell table x y ≡ cell before x y
-
-pub cells-none : (d : ℕ → ℕ → ℕ) (entry inside : ℕ → ℕ) (from a : ℕ) (before : List ℕ) → Padded before → Cells d entry inside from a before before 0
-cells-none d entry inside from a before p = record { padded = p; next = λ x h. absurd (omega arith); others = λ x y h n. refl }
-
-module _ {d : ℕ → ℕ → ℕ} {entry inside : ℕ → ℕ} {from a : ℕ} {before table : List ℕ} {b : ℕ} (w : Cells d entry inside from a before table b)
-    (v : ℕ) (known : a < 10) (n : a ≢ 8) (s : v ≤ 2 ^ 40) where
-  kept : (x y c : ℕ) → y < 16 → c < 16 → x ≢ a → cell (set table (16 * a + c) v) x y ≡ cell before x y
-  kept x y c h k q = getD-set-other table (16 * a + c) (16 * x + y) v 0 (λ e. q (omega arith)) ∙ w .others x y h q
-
-  pub cells-more : b < 8 → v ≡ d from (entry b) + inside b → Cells d entry inside from a before (set table (16 * a + b) v) (b + 1)
-  cells-more h e =
-      record {
-        padded = padded-set table a b v (w .padded) n (omega arith) s;
-        next = below-more (λ x. cell (set table (16 * a + b) v) a x ≡ d from (entry x) + inside x) b
-            (λ x l. getD-set-other table (16 * a + b) (16 * a + x) v 0 (λ q. omega arith) ∙ w .next x l)
-            (getD-set-same table (16 * a + b) v 0 (omega (arith, w .padded .places)) ∙ e);
-        others = λ x y k q. kept x y b k (omega arith) q;
-      }
-
-  pub cells-all : (count tail : ℕ) → count ≤ b → b ≤ 8 → v ≡ d from tail → JointRow d entry inside count tail (set table (16 * a + 8) v) a from
-  cells-all count tail h k e =
-      record {
-        next = λ x l. getD-set-other table (16 * a + 8) (16 * a + x) v 0 (λ q. omega arith) ∙ w .next x (omega arith);
+-- The tail's cell behind those of the states.
+pub tail-filled : {locations : ℕ} {legs : List ℕ} {from count : ℕ} {entries inside : List ℕ} {a : ℕ} {before table : List ℕ} → RowFilled locations legs from count entries inside a before table →
+    (v tail : ℕ) → a < 10 → a ≢ 8 → count ≤ 8 → v ≤ 2 ^ 40 → v ≡ leg locations legs from tail → CellsFilled locations legs from tail count entries inside a before (set table (16 * a + 8) v)
+tail-filled {count = count} {a = a} {before} {table} w v tail known n few s e =
+    record {
+      padded = padded-set table a 8 v (w .padded) n (omega arith) s;
+      filled = record {
+        next = λ b l. getD-set-other table (16 * a + 8) (16 * a + b) v 0 (λ q. omega arith) ∙ w .next b l;
         last = getD-set-same table (16 * a + 8) v 0 (omega (arith, w .padded .places)) ∙ e;
-      }
-
-  pub tail-padded : Padded (set table (16 * a + 8) v)
-  tail-padded = padded-set table a 8 v (w .padded) n (omega arith) s
-
-  pub tail-others : (x y : ℕ) → y < 16 → x ≢ a → cell (set table (16 * a + 8) v) x y ≡ cell before x y
-  tail-others x y h q = kept x y 8 h (omega arith) q
+      };
+      others = λ x y h q. getD-set-other table (16 * a + 8) (16 * x + y) v 0 (λ z. q (omega arith)) ∙ w .others (16 * x + y) (apart x y h q (decLt x a));
+    }
+  where
+    apart : (x y : ℕ) → y < 16 → x ≢ a → Dec (x < a) → (16 * x + y < 16 * a) ⊎ (16 * a + count ≤ 16 * x + y)
+    apart x y h q (yes l) = inl (omega arith)
+    apart x y h q (no l) = let m : a < x = omega (arith, q) in inr (omega arith)
 
 -- ---- row by row
 
@@ -61,7 +42,7 @@ row-kept r h k = record { next = λ b l. k b (omega arith) ∙ r .next b l; last
 
 pub rows-more : (exits : List ℕ) {locations : ℕ} {legs : List ℕ} {tail count : ℕ} {entries inside before after : List ℕ} {a from : ℕ} → count ≤ 8 → from ≡ getD exits a 0 →
     ((x : ℕ) → x < a → JointRow (leg locations legs) (λ s. getD entries s 0) (λ s. getD inside s 0) count tail before x (getD exits x 0)) →
-    FilledRow locations legs from tail count entries inside a before after →
+    CellsFilled locations legs from tail count entries inside a before after →
     (x : ℕ) → x < a + 1 → JointRow (leg locations legs) (λ s. getD entries s 0) (λ s. getD inside s 0) count tail after x (getD exits x 0)
 rows-more exits {locations} {legs} {tail} {count} {entries} {inside} {before} {after} {a} few e h f =
     below-more (λ x. JointRow (leg locations legs) (λ s. getD entries s 0) (λ s. getD inside s 0) count tail after x (getD exits x 0)) a
@@ -78,11 +59,10 @@ module _ {locations : ℕ} {legs : List ℕ} {depot : ℕ} {r forwards backwards
   pub few-states : count ≤ 8
   few-states = omega (arith, given .cut-set .most)
 
-  pub fillable : (tail : ℕ) → tail < locations → Fillable locations legs tail count entries inside
-  fillable tail h =
+  pub fillable : Fillable locations legs count entries inside
+  fillable =
       record {
         leg-table = given .measurable .table;
-        tail-known = h;
         few = few-states;
         entry-places = ends .places .entry-places;
         inside-places = ends .places .inside-places;
@@ -103,7 +83,7 @@ module _ {locations : ℕ} {legs : List ℕ} {depot : ℕ} {r forwards backwards
         last = w .last;
       }
 
-  pub whole-table : {before after : List ℕ} {head tail : ℕ} → FilledStates locations legs tail count entries exits inside before → FilledRow locations legs head tail count entries inside 9 before after →
+  pub whole-table : {before after : List ℕ} {head tail : ℕ} → StatesFilled locations legs tail count entries exits inside before → CellsFilled locations legs head tail count entries inside 9 before after →
       JointTable (leg locations legs) (placed-in cs r) count head tail after
   whole-table {after = after} f g =
       record {

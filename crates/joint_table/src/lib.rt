@@ -1,6 +1,12 @@
 // The joint table of a cut set, filled from the ends of its states. It holds no entry: crate search calls it.
+use joints::CELLS;
+use joints::HEAD;
+use joints::STATES;
+use joints::TAIL;
+use joints::WIDTH;
+use theory::STOPS;
 ghost use Rattle.joints.specs.JointTable.{JointOf, Joinable};
-ghost use Rattle.joint_table.specs.Filling.{FillableRow, FilledRow, FillableStates, FilledStates};
+ghost use Rattle.joint_table.specs.Filling.{CellsFillable, CellsFilled, StatesFillable, StatesFilled};
 
 // Row a of the table, for a state that is left at the stop `from`.
 fn fill_cells(
@@ -9,21 +15,16 @@ fn fill_cells(
     from: u32,
     tail: u32,
     count: usize,
-    entries: &[u32; 8],
-    inside: &[u64; 8],
+    entries: &[u32; STATES],
+    inside: &[u64; STATES],
     a: usize,
-    joint: &mut [u64; 160],
+    joint: &mut [u64; CELLS],
 )
-    requires { ⌜ FillableRow locations (now legs) from tail count (now entries) (now inside) a (now joint) ⌝ }
-    ensures { λ _. ⌜ FilledRow locations (now (legs .entry)) from tail count (now (entries .entry)) (now (inside .entry)) a (now (joint .entry)) (now (joint .exit)) ⌝ }
+    requires { ⌜ CellsFillable locations (now legs) from tail count (now entries) (now inside) a (now joint) ⌝ }
+    ensures { λ _. ⌜ CellsFilled locations (now (legs .entry)) from tail count (now (entries .entry)) (now (inside .entry)) a (now (joint .entry)) (now (joint .exit)) ⌝ }
 {
-    let row = 16 * a;
-    let mut b = 0;
-    while b < count {
-        joint[row + b] = costs::route_distance(locations, legs, from, entries[b]) + inside[b];
-        b += 1;
-    }
-    joint[row + 8] = costs::route_distance(locations, legs, from, tail);
+    joints::fill_row(locations, legs, from, count, entries, inside, a, joint);
+    joint[WIDTH * a + TAIL] = costs::route_distance(locations, legs, from, tail);
 }
 
 // The rows of the middle segments' states.
@@ -32,13 +33,13 @@ fn fill_states(
     legs: &[u32],
     tail: u32,
     count: usize,
-    entries: &[u32; 8],
-    exits: &[u32; 8],
-    inside: &[u64; 8],
-    joint: &mut [u64; 160],
+    entries: &[u32; STATES],
+    exits: &[u32; STATES],
+    inside: &[u64; STATES],
+    joint: &mut [u64; CELLS],
 )
-    requires { ⌜ FillableStates locations (now legs) tail count (now entries) (now exits) (now inside) (now joint) ⌝ }
-    ensures { λ _. ⌜ FilledStates locations (now (legs .entry)) tail count (now (entries .entry)) (now (exits .entry)) (now (inside .entry)) (now (joint .exit)) ⌝ }
+    requires { ⌜ StatesFillable locations (now legs) tail count (now entries) (now exits) (now inside) (now joint) ⌝ }
+    ensures { λ _. ⌜ StatesFilled locations (now (legs .entry)) tail count (now (entries .entry)) (now (exits .entry)) (now (inside .entry)) (now (joint .exit)) ⌝ }
 {
     let mut a = 0;
     while a < count {
@@ -63,17 +64,17 @@ pub fn fill_joint(
     legs: &[u32],
     depot: u32,
     route: &[u32],
-    forward: &[u64; 512],
-    backward: &[u64; 512],
+    forward: &[u64; STOPS],
+    backward: &[u64; STOPS],
     cuts: &[usize],
-    joint: &mut [u64; 160],
+    joint: &mut [u64; CELLS],
 )
     requires { ⌜ Joinable locations (now legs) depot (now route) (now forward) (now backward) (now cuts) (now joint) ⌝ }
     ensures { λ _. ⌜ JointOf locations (now (legs .entry)) depot (now (route .entry)) (now (cuts .entry)) (now (joint .exit)) ⌝ }
 {
-    let mut entries = [0u32; 8];
-    let mut exits = [0u32; 8];
-    let mut inside = [0u64; 8];
+    let mut entries = [0u32; STATES];
+    let mut exits = [0u32; STATES];
+    let mut inside = [0u64; STATES];
     joints::fill_ends(
         route,
         forward,
@@ -104,7 +105,7 @@ pub fn fill_joint(
         count,
         &entries,
         &inside,
-        9,
+        HEAD,
         joint,
     );
 }

@@ -16,7 +16,7 @@ use Rattle.costs.specs.RouteCosts.{leg, Spanned, span, RouteCosts, head-end, ta
 use Rattle.costs.proofs.Placing as Placing
 use Rattle.costs.proofs.Segments.{cut-below, segment-is, segment-filled, first-placed, last-placed, head-known, tail-known}
 use Rattle.joints.specs.States.{state-count, placed-in}
-use Rattle.joints.specs.JointTable.{Joinable, EndPlaces, SegmentFits, SegmentEnds, EndsFillable, inner-sum, StateEnds}
+use Rattle.joints.specs.JointTable.{Joinable, EndPlaces, EndsPuttable, EndsPut, EndsFillable, inner-sum, StateEnds}
 use Rattle.joints.proofs.States.{part-at, halves}
 
 -- Two more places of an array that holds f.
@@ -64,7 +64,7 @@ pub no-ends : {r forwards backwards cs entries exits inside : List ℕ} → Ends
 no-ends given = record { places = given .places; entry = λ s h. absurd (omega arith); exit = λ s h. absurd (omega arith); legs = λ s h. absurd (omega arith) }
 
 module _ {r forwards backwards cs entries exits inside : List ℕ} (given : EndsFillable r forwards backwards cs entries exits inside) (i : ℕ) (h : 1 ≤ i) (k : i < length cs) where
-  pub segment-asked : {entries′ exits′ inside′ : List ℕ} → EndPlaces entries′ exits′ inside′ → SegmentFits r forwards backwards (getD cs (i - 1) 0) (getD cs i 0) (2 * i - 2) entries′ exits′ inside′
+  pub segment-asked : {entries′ exits′ inside′ : List ℕ} → EndPlaces entries′ exits′ inside′ → EndsPuttable r forwards backwards (getD cs (i - 1) 0) (getD cs i 0) (2 * i - 2) entries′ exits′ inside′
   segment-asked places =
       record {
         within = cut-below cs r (given .cut-set) i k;
@@ -75,7 +75,7 @@ module _ {r forwards backwards cs entries exits inside : List ℕ} (given : Ends
       }
 
   pub more-ends : {e x n e′ x′ n′ : List ℕ} → StateEnds r forwards backwards cs (2 * (i - 1)) e x n →
-      SegmentEnds r forwards backwards (getD cs (i - 1) 0) (getD cs i 0) (2 * i - 2) e x n e′ x′ n′ → StateEnds r forwards backwards cs (2 * (i + 1 - 1)) e′ x′ n′
+      EndsPut r forwards backwards (getD cs (i - 1) 0) (getD cs i 0) (2 * i - 2) e x n e′ x′ n′ → StateEnds r forwards backwards cs (2 * (i + 1 - 1)) e′ x′ n′
   more-ends {e} {x} {n} w p =
       let s : ℕ = 2 * i - 2 in
       let even : 2 * i - 2 ≡ 2 * (i - 1) + 0 = omega arith in

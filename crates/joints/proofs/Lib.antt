@@ -1,4 +1,5 @@
 pub mod States
 pub mod Chain
 pub mod Rows
+mod Cells
 pub mod Ends

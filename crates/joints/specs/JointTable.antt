@@ -1,6 +1,7 @@
 -- The joint table of a cut set: what it costs to go on from one state to another, shared by all patterns on the cut set.
 use mathlib.Core.Path.{_≡_}
 use mathlib.Core.Bool.{cond}
+use mathlib.Core.Logic.{_≢_, _⊎_}
 use mathlib.Core.List.{List, [], _∷_}
 use Prim.Native.Nat.{ℕ, _+_, _-_, _*_, _/_, _%_, _^_, _≤_, _<_}
 use lib.Dec.{eqb}
@@ -91,7 +92,7 @@ pub record EndPlaces (entries exits inside : List ℕ) : Type 0 where
   pub inside-places : length inside ≡ 8
 
 -- A segment route[start..end], and places for its two states s and s + 1.
-pub record SegmentFits (route forward-sums backward-sums : List ℕ) (start end s : ℕ) (entries exits inside : List ℕ) : Type 0 where
+pub record EndsPuttable (route forward-sums backward-sums : List ℕ) (start end s : ℕ) (entries exits inside : List ℕ) : Type 0 where
   pub within : end ≤ length route
   pub forwards : Spanned forward-sums start end
   pub backwards : Spanned backward-sums start end
@@ -99,7 +100,7 @@ pub record SegmentFits (route forward-sums backward-sums : List ℕ) (start end 
   pub places : EndPlaces entries exits inside
 
 -- Reversed, a segment is entered at its last stop, left at its first, and its inner legs are the backward ones.
-pub record SegmentEnds (route forward-sums backward-sums : List ℕ) (start end s : ℕ) (entries exits inside entries′ exits′ inside′ : List ℕ) : Type 0 where
+pub record EndsPut (route forward-sums backward-sums : List ℕ) (start end s : ℕ) (entries exits inside entries′ exits′ inside′ : List ℕ) : Type 0 where
   pub entered : entries′ ≡ set (set entries s (getD route start 0)) (s + 1) (getD route (end - 1) 0)
   pub left : exits′ ≡ set (set exits s (getD route (end - 1) 0)) (s + 1) (getD route start 0)
   pub legs : inside′ ≡ set (set inside s (span forward-sums start end)) (s + 1) (span backward-sums start end)
@@ -122,12 +123,25 @@ pub record StateEnds (route forward-sums backward-sums cuts : List ℕ) (count :
   pub exit : (s : ℕ) → s < count → getD exits s 0 ≡ last-of 0 (placed-in cuts route s)
   pub legs : (s : ℕ) → s < count → getD inside s 0 ≡ inner-sum forward-sums backward-sums cuts s
 
--- What the cells are read from.
-pub record Fillable (locations : ℕ) (legs : List ℕ) (tail count : ℕ) (entries inside : List ℕ) : Type 0 where
+-- What the cells of a row are read from.
+pub record Fillable (locations : ℕ) (legs : List ℕ) (count : ℕ) (entries inside : List ℕ) : Type 0 where
   pub leg-table : LegTable locations legs
-  pub tail-known : tail < locations
   pub few : count ≤ 8
   pub entry-places : length entries ≡ 8
   pub inside-places : length inside ≡ 8
   pub entries-known : (s : ℕ) → s < count → getD entries s 0 < locations
   pub inside-small : (s : ℕ) → s < count → getD inside s 0 ≤ 1000000 * 512
+
+-- A row of the table but the tail's, for a state that is left at the known stop `from`.
+pub record RowFillable (locations : ℕ) (legs : List ℕ) (from count : ℕ) (entries inside : List ℕ) (a : ℕ) (table : List ℕ) : Type 0 where
+  pub fillable : Fillable locations legs count entries inside
+  pub padded : Padded table
+  pub from-known : from < locations
+  pub within : a < 10
+  pub not-tail : a ≢ 8
+
+-- The first `count` cells of row a are filled, and all other places are as they were.
+pub record RowFilled (locations : ℕ) (legs : List ℕ) (from count : ℕ) (entries inside : List ℕ) (a : ℕ) (before after : List ℕ) : Type 0 where
+  pub padded : Padded after
+  pub next : (b : ℕ) → b < count → cell after a b ≡ leg locations legs from (getD entries b 0) + getD inside b 0
+  pub others : (c : ℕ) → (c < 16 * a) ⊎ (16 * a + count ≤ c) → getD after c 0 ≡ getD before c 0

@@ -16,7 +16,7 @@ use Rattle.costs.specs.RouteCosts.{Middle}
 use Rattle.costs.proofs.Orders.{pattern-middle}
 use Rattle.joints.specs.States.{state-of, states, row, pattern-row, StateRows}
 use Rattle.joints.proofs.Rows.{set-small}
-use Rattle.pattern_rows.specs.Rows.{MiddleOrder, RowPut, Rowable}
+use Rattle.pattern_rows.specs.Rows.{MiddleOrder, RowPut, RowsFillable}
 
 -- ---- a segment's state
 
@@ -82,7 +82,7 @@ row-put {k} {order} {mask} {i} {rows} {v₀} {v₁} {v₂} {v₃} s h n e₀ e�
 
 -- ---- the rows of a list of patterns
 
-module _ {k : ℕ} {orders masks rows₀ : List ℕ} (given : Rowable k orders masks rows₀) (i : ℕ) (h : i < length masks) where
+module _ {k : ℕ} {orders masks rows₀ : List ℕ} (given : RowsFillable k orders masks rows₀) (i : ℕ) (h : i < length masks) where
   abbrev none : Pattern
   none = record { order = []; mask = 0 }
 
@@ -101,5 +101,5 @@ module _ {k : ℕ} {orders masks rows₀ : List ℕ} (given : Rowable k orders m
         small = λ c l. p .small c l (λ b. w .small c b);
       }
 
-pub no-rows : {k : ℕ} {orders masks rows : List ℕ} → Rowable k orders masks rows → StateRows k orders masks 0 rows
+pub no-rows : {k : ℕ} {orders masks rows : List ℕ} → RowsFillable k orders masks rows → StateRows k orders masks 0 rows
 no-rows given = record { places = given .places; each = λ i h. absurd (omega arith); small = λ c h. absurd (omega arith) }

@@ -26,7 +26,7 @@ pub record RowPut (k : ℕ) (order : List ℕ) (mask i : ℕ) (before after : Li
   pub small : (c : ℕ) → c < 4 * (i + 1) → (c < 4 * i → getD before c 0 ≤ 8) → getD after c 0 ≤ 8
 
 -- Room for the rows of a list of patterns.
-pub record Rowable (k : ℕ) (orders masks rows : List ℕ) : Type 0 where
+pub record RowsFillable (k : ℕ) (orders masks rows : List ℕ) : Type 0 where
   pub least : 2 ≤ k
   pub most : k ≤ 5
   pub patterns : PatternRows k orders masks

@@ -1,11 +1,14 @@
 // The patterns as rows of states, for the chains of crate joints. It holds no entry: crate polishing calls it.
+use joints::ROW;
+use joints::ROW_BYTES;
+use joints::TAIL;
 ghost use mathlib.Core.Path.{_≡_};
 ghost use mathlib.Core.Bool.{cond};
 ghost use Prim.Native.Nat.{_+_, _<_, _≤_};
 ghost use lib.Dec.{ltb};
 ghost use lib.ListN.{length, getD};
 ghost use Rattle.joints.specs.States.{state-of, StateRows};
-ghost use Rattle.pattern_rows.specs.Rows.{MiddleOrder, StateAt, Rowable, RowPut};
+ghost use Rattle.pattern_rows.specs.Rows.{MiddleOrder, StateAt, RowsFillable, RowPut};
 
 // The state in which the mask places a middle segment.
 fn state(mask: u8, segment: u8) -> u8
@@ -27,16 +30,16 @@ fn state_at(k: usize, order: &[u8], mask: u8, p: usize) -> u8
     if p + 1 < k {
         return state(mask, order[p + 1]);
     }
-    8
+    TAIL as u8
 }
 
 // The row of one pattern as row i.
-fn put_row(k: usize, order: &[u8], mask: u8, i: usize, rows: &mut [u8; 1532])
+fn put_row(k: usize, order: &[u8], mask: u8, i: usize, rows: &mut [u8; ROW_BYTES])
     requires { ⌜ MiddleOrder k (now order) ⌝ }
     requires { ⌜ (i < 383) × (length (now rows) ≡ 1532) ⌝ }
     ensures { λ _. ⌜ RowPut k (now (order .entry)) mask i (now (rows .entry)) (now (rows .exit)) ⌝ }
 {
-    let at = 4 * i;
+    let at = ROW * i;
     rows[at] = state_at(k, order, mask, 0);
     rows[at + 1] = state_at(k, order, mask, 1);
     rows[at + 2] = state_at(k, order, mask, 2);
@@ -44,8 +47,8 @@ fn put_row(k: usize, order: &[u8], mask: u8, i: usize, rows: &mut [u8; 1532])
 }
 
 // The rows of a list of patterns for k cuts.
-pub fn fill_rows(k: usize, orders: &[u8], masks: &[u8], rows: &mut [u8; 1532])
-    requires { ⌜ Rowable k (now orders) (now masks) (now rows) ⌝ }
+pub fn fill_rows(k: usize, orders: &[u8], masks: &[u8], rows: &mut [u8; ROW_BYTES])
+    requires { ⌜ RowsFillable k (now orders) (now masks) (now rows) ⌝ }
     ensures { λ _. ⌜ StateRows k (now (orders .entry)) (now (masks .entry)) (length (now (masks .entry))) (now (rows .exit)) ⌝ }
 {
     let width = k + 1;

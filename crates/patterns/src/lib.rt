@@ -1,4 +1,6 @@
 // The reconnection patterns for k cuts, after k_opt_reconnection.rs: an order of the k + 1 segments and a reversal mask each. No entry is here.
+use theory::ORDER_BYTES;
+use theory::PATTERNS;
 ghost use mathlib.Core.Path.{_≡_};
 ghost use mathlib.Core.List.{_++_, _∷_, []};
 ghost use Prim.Native.Nat.{_-_, _^_};
@@ -30,7 +32,7 @@ pub fn pattern_count(k: usize) -> usize
         2 => 1,
         3 => 7,
         4 => 47,
-        _ => 383,
+        _ => PATTERNS,
     }
 }
 
@@ -86,8 +88,8 @@ pub fn pattern_at(k: usize, index: usize) -> theory::KOptReconnection
     requires { ⌜ Listed k index ⌝ }
     ensures { λ r. ⌜ Holds k (pattern k index) r ⌝ }
 {
-    let mut orders = [0u8; 2298];
-    let mut masks = [0u8; 383];
+    let mut orders = [0u8; ORDER_BYTES];
+    let mut masks = [0u8; PATTERNS];
     let _ = enumerate_reconnections(k, &mut orders, &mut masks);
     let num_segments = k + 1;
     let from = index * num_segments;

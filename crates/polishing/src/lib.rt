@@ -1,6 +1,9 @@
 // Polishing a route by the scan of document 01, with every pattern for k or with lent rows of patterns, and its five numbers into a lent result. No entry: crates
 // mittenschist, round and text call it.
+use joints::ROW_BYTES;
 use theory::Counts;
+use theory::ORDER_BYTES;
+use theory::PATTERNS;
 use theory::Polished;
 ghost use mathlib.Core.Path.{_≡_};
 ghost use mathlib.Core.List.{_∷_, _++_};
@@ -35,7 +38,7 @@ pub fn polish_rows(
             after: before,
         });
     }
-    let mut rows = [0u8; 1532];
+    let mut rows = [0u8; ROW_BYTES];
     pattern_rows::fill_rows(k, orders, masks, &mut rows);
     let scanned = scanning::scan_cut_sets(
         k,
@@ -81,8 +84,8 @@ pub fn polish_route(
     requires { ⌜ Polishable k (trip locations (now legs) (now latest) depot) (now route) ⌝ }
     ensures { λ r. ⌜ Polishes (problem (trip locations (now (legs .entry)) (now (latest .entry)) depot)) (patterns k) k allowance (now (route .entry)) r (now (route .exit)) ⌝ }
 {
-    let mut orders = [0u8; 2298];
-    let mut masks = [0u8; 383];
+    let mut orders = [0u8; ORDER_BYTES];
+    let mut masks = [0u8; PATTERNS];
     let count = patterns::enumerate_reconnections(k, &mut orders, &mut masks);
     let width = count * (k + 1);
     polish_rows(

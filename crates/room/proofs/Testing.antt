@@ -12,16 +12,16 @@ use lib.ListN.{length, getD, replicate, length-append}
 use lib.Seq.{getD-at}
 use Rattle.theory.specs.Costs.{first-of, inner}
 use Rattle.theory.specs.Tables.{legs-only, CutSet}
-use Rattle.costs.specs.RouteCosts.{leg, Spanned, span, RouteCosts, head-end, tail-start}
+use Rattle.costs.specs.RouteCosts.{leg, Spanned, span, RouteCosts, head-end, tail-start, stop-at}
 use Rattle.costs.proofs.Placing as Placing
-use Rattle.costs.proofs.Segments.{tail-filled, tail-empty}
+use Rattle.costs.proofs.Segments as Segments
 use Rattle.joints.specs.States.{placed-in}
 use Rattle.joints.specs.JointTable.{Joinable}
 use Rattle.joints.proofs.Ends.{inside-is, inside-small, entry-known, exit-known, head-below}
 use Rattle.shared.specs.Bound.{exit-of, opened, last-state}
 use Rattle.shared.specs.Kept.{Cut, Kept, first-cuts, last-cut}
 use Rattle.room.specs.Room.{NoGain}
-use Rattle.room.specs.Tests.{LeastInto, LeastOut, IntoFits, OutFits, Testable, Tested, Nextable, NextRoom}
+use Rattle.room.specs.Tests.{LeastInto, LeastOut, IntoFits, OutFits, RoomTestable, RoomTested, Nextable, NextRoom}
 use Rattle.room.proofs.Bound.{Before, After, NoRoom}
 use Rattle.room.proofs.Shared.{other-cut, last-two, same-head, P-is, back-exit, first-set}
 use Rattle.room.proofs.NoGain.{no-gain}
@@ -79,31 +79,22 @@ module _ {locations : ℕ} {legs : List ℕ} {depot : ℕ} {r forwards backwards
       ∙ same-head (legs-only locations legs depot) r (first-cuts cuts) (last-cut cuts) (suc (getD (first-cuts cuts) (length (first-cuts cuts) - 1) 0)) some
 
   -- A stop, or the depot.
-  pub stop-known : (c y : ℕ) → y ≡ cond (ltb c (length r)) (getD r c 0) depot → y < locations
+  pub stop-known : (c y : ℕ) → y ≡ stop-at depot r c → y < locations
   stop-known c y e = rw e (by (decLt c (length r)))
     where
-      by : Dec (c < length r) → cond (ltb c (length r)) (getD r c 0) depot < locations
+      by : Dec (c < length r) → stop-at depot r c < locations
       by (yes h) = rw (lt-ltb c (length r) h) (cut .measurable .stops .known c h)
       by (no h) = rw (le-ltb c (length r) (omega arith)) (cut .measurable .depot-known)
 
   module _ (c : ℕ) (h : last-cut cuts ≤ c) (l : c ≤ length r) where
-    tail-is : cond (ltb c (length r)) (getD r c 0) depot ≡ tail-start (legs-only locations legs depot) r (first-cuts cuts ++ (c ∷ []))
-    tail-is = by (decLt c (length r))
+    tail-is : stop-at depot r c ≡ tail-start (legs-only locations legs depot) r (first-cuts cuts ++ (c ∷ []))
+    tail-is = ap (stop-at depot r) (sym at) ∙ Segments.tail-is (first-cuts cuts ++ (c ∷ [])) r (other c h l) depot
       where
-        cs : List ℕ
-        cs = first-cuts cuts ++ (c ∷ [])
-
         size : length (first-cuts cuts ++ (c ∷ [])) - 1 ≡ length (first-cuts cuts)
         size = simp length-append (omega arith)
 
         at : getD (first-cuts cuts ++ (c ∷ [])) (length (first-cuts cuts ++ (c ∷ [])) - 1) 0 ≡ c
         at = ap (λ i. getD (first-cuts cuts ++ (c ∷ [])) i 0) size ∙ getD-at (first-cuts cuts) c [] 0 (length (first-cuts cuts)) refl
-
-        by : Dec (c < length r) → cond (ltb c (length r)) (getD r c 0) depot ≡ tail-start (legs-only locations legs depot) r (first-cuts cuts ++ (c ∷ []))
-        by (yes m) = rw (lt-ltb c (length r) m) (ap (λ i. getD r i 0) (sym at) ∙ tail-filled (first-cuts cuts ++ (c ∷ [])) r (other c h l) depot (rw at m))
-        by (no m) =
-            let e : c ≡ length r = omega arith in
-            rw (le-ltb c (length r) (omega arith)) (tail-empty (first-cuts cuts ++ (c ∷ [])) r (other c h l) depot (at ∙ e))
 
     -- The legs inside P, from the running sums.
     inside-P : (b : Bool) → getD (cond b backwards forwards) (getD cuts (length cuts - 2) 0) 0 + inner (leg locations legs) (placed-in (first-cuts cuts ++ (c ∷ [])) r (last-state (first-cuts cuts) + cond b 1 0))
@@ -137,7 +128,7 @@ module _ {locations : ℕ} {legs : List ℕ} {depot : ℕ} {r forwards backwards
 -- ---- what the minima ask
 
 module _ {locations : ℕ} {legs : List ℕ} {depot : ℕ} {r forwards backwards cuts : List ℕ} {head : ℕ} {entries exits inside low zeros : List ℕ} {c : ℕ}
-    (given : Testable locations legs depot r forwards backwards cuts head entries exits inside low zeros c) where
+    (given : RoomTestable locations legs depot r forwards backwards cuts head entries exits inside low zeros c) where
   abbrev cut : Cut locations legs depot r forwards backwards cuts
   cut = given .cut
 
@@ -178,7 +169,7 @@ module _ {locations : ℕ} {legs : List ℕ} {depot : ℕ} {r forwards backwards
 
   -- ---- the tests fail
 
-  module _ (x y here back tail straight after-head turned : ℕ) (x-is : x ≡ getD r (c - 1) 0) (y-is : y ≡ cond (ltb c (length r)) (getD r c 0) depot)
+  module _ (x y here back tail straight after-head turned : ℕ) (x-is : x ≡ getD r (c - 1) 0) (y-is : y ≡ stop-at depot r c)
       (here-is : here ≡ getD low 20 0 + leg locations legs x y) (back-is : back ≡ leg locations legs (getD r (getD cuts (length cuts - 2) 0) 0) y)
       (tail-least : LeastOut locations legs exits y zeros back (2 * (length cuts - 2)) tail) (straight-least : LeastInto locations legs x entries inside low (2 * (length cuts - 2)) straight)
       (after-is : after-head ≡ getD low 19 0 + leg locations legs head x) (turned-least : LeastOut locations legs exits x low after-head (2 * (length cuts - 2)) turned)
@@ -231,7 +222,7 @@ module _ {locations : ℕ} {legs : List ℕ} {depot : ℕ} {r forwards backwards
   pub none-passed : NextRoom locations legs depot r cuts entries exits inside low (last-cut cuts)
   none-passed = record { least = omega arith; most = omega (arith, two-last (given .cut) .1); idle = λ c h k. absurd (omega arith) }
 
-  pub one-passed : {c : ℕ} {b : Bool} → c ≤ length r → NextRoom locations legs depot r cuts entries exits inside low c → Tested locations legs depot r cuts entries exits inside low c b → b ≡ false →
+  pub one-passed : {c : ℕ} {b : Bool} → c ≤ length r → NextRoom locations legs depot r cuts entries exits inside low c → RoomTested locations legs depot r cuts entries exits inside low c b → b ≡ false →
       NextRoom locations legs depot r cuts entries exits inside low (c + 1)
   one-passed {c} {b} l w t e =
       record {
@@ -247,6 +238,6 @@ module _ {locations : ℕ} {legs : List ℕ} {depot : ℕ} {r forwards backwards
 
 pub testable : {locations : ℕ} {legs : List ℕ} {depot : ℕ} {r forwards backwards cuts entries exits inside low zeros : List ℕ} {head c : ℕ} →
     Nextable locations legs depot r forwards backwards cuts entries exits inside low zeros → head ≡ head-end (legs-only locations legs depot) r cuts → last-cut cuts ≤ c → c ≤ length r →
-    Testable locations legs depot r forwards backwards cuts head entries exits inside low zeros c
+    RoomTestable locations legs depot r forwards backwards cuts head entries exits inside low zeros c
 testable g e h l =
     record { cut = g .cut; head-is = e; places = g .places; kept = g .kept; zero-places = g .zero-places; zero-is = g .zero-is; least = h; most = l }

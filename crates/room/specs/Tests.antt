@@ -42,7 +42,7 @@ pub record LeastOut (locations : ℕ) (legs exits : List ℕ) (to : ℕ) (add : 
   pub below : (u : ℕ) → u < p → r ≤ getD add (10 + u) 0 + leg locations legs (getD exits u 0) to
 
 -- What the test of last cut c reads. `zero` holds nothing.
-pub record Testable (locations : ℕ) (legs : List ℕ) (depot : ℕ) (route forward-sums backward-sums cuts : List ℕ) (head : ℕ) (entries exits inside low zero : List ℕ) (c : ℕ) : Type 0 where
+pub record RoomTestable (locations : ℕ) (legs : List ℕ) (depot : ℕ) (route forward-sums backward-sums cuts : List ℕ) (head : ℕ) (entries exits inside low zero : List ℕ) (c : ℕ) : Type 0 where
   pub cut : Cut locations legs depot route forward-sums backward-sums cuts
   pub head-is : head ≡ head-end (legs-only locations legs depot) route cuts
   pub places : Places entries exits inside low
@@ -53,8 +53,8 @@ pub record Testable (locations : ℕ) (legs : List ℕ) (depot : ℕ) (route for
   pub most : c ≤ length route
 
 -- Without room no pattern gains, whichever rows the least costs are of.
-abbrev pub Tested : ℕ → List ℕ → ℕ → List ℕ → List ℕ → List ℕ → List ℕ → List ℕ → List ℕ → ℕ → Bool → Type 0
-Tested locations legs depot route cuts entries exits inside low c r =
+abbrev pub RoomTested : ℕ → List ℕ → ℕ → List ℕ → List ℕ → List ℕ → List ℕ → List ℕ → List ℕ → ℕ → Bool → Type 0
+RoomTested locations legs depot route cuts entries exits inside low c r =
     r ≡ false → (rows : List ℕ) (count : ℕ) → Kept locations legs depot route (first-cuts cuts) rows count entries exits inside low → NoGain locations legs depot route (first-cuts cuts) rows count c
 
 -- What is read to pass over last cuts.

@@ -1,29 +1,21 @@
 // The cut sets that leave no room for a gain, passed over without a look at their patterns. No entry: crate stretches calls it.
-ghost use mathlib.Core.Path.{_≡_};
-ghost use mathlib.Core.Bool.{cond};
-ghost use Prim.Native.Nat.{_≤_};
-ghost use lib.Dec.{ltb};
-ghost use lib.ListN.{length, getD};
-ghost use Rattle.room.specs.Tests.{IntoFits, LeastInto, OutFits, LeastOut, Testable, Tested, Nextable, NextRoom};
-
-// The lesser of two.
-fn least(a: u64, b: u64) -> u64
-    ensures { λ r. ⌜ (r ≤ a) × (r ≤ b) ⌝ }
-{
-    if a < b {
-        return a;
-    }
-    b
-}
+use joints::STATES;
+use joints::TAIL;
+use shared::AFTER_HEAD;
+use shared::LOW_PLACES;
+use shared::REVERSED;
+use shared::STANDING;
+use theory::STOPS;
+ghost use Rattle.room.specs.Tests.{IntoFits, LeastInto, OutFits, LeastOut, RoomTestable, RoomTested, Nextable, NextRoom};
 
 // The least of what follows P, as it stands and left at the stop `from`: a state before P, with the least cost of its class.
 fn least_into(
     locations: usize,
     legs: &[u32],
     from: u32,
-    entries: &[u32; 8],
-    inside: &[u64; 8],
-    low: &[u64; 21],
+    entries: &[u32; STATES],
+    inside: &[u64; STATES],
+    low: &[u64; LOW_PLACES],
     p: usize,
 ) -> u64
     requires { ⌜ IntoFits locations (now legs) from (now entries) (now inside) (now low) p ⌝ }
@@ -33,7 +25,7 @@ fn least_into(
     let mut w = 0;
     while w < p {
         let way = costs::route_distance(locations, legs, from, entries[w]) + inside[w];
-        best = least(best, low[w] + way);
+        best = costs::least(best, low[w] + way);
         w += 1;
     }
     best
@@ -43,9 +35,9 @@ fn least_into(
 fn least_out(
     locations: usize,
     legs: &[u32],
-    exits: &[u32; 8],
+    exits: &[u32; STATES],
     to: u32,
-    add: &[u64; 21],
+    add: &[u64; LOW_PLACES],
     start: u64,
     p: usize,
 ) -> u64
@@ -56,20 +48,10 @@ fn least_out(
     let mut u = 0;
     while u < p {
         let way = costs::route_distance(locations, legs, exits[u], to);
-        best = least(best, add[10 + u] + way);
+        best = costs::least(best, add[REVERSED + u] + way);
         u += 1;
     }
     best
-}
-
-// Where the tail starts after last cut c.
-fn tail_at(depot: u32, route: &[u32], c: usize) -> u32
-    ensures { λ r. ⌜ r ≡ cond (ltb c (length (now (route .entry)))) (getD (now (route .entry)) c 0) depot ⌝ }
-{
-    if c < route.len() {
-        return route[c];
-    }
-    depot
 }
 
 // Whether a pattern may gain at last cut c: the tests bound from below what every pattern costs, by its class.
@@ -78,35 +60,35 @@ fn has_room(
     legs: &[u32],
     depot: u32,
     route: &[u32],
-    forward: &[u64; 512],
-    backward: &[u64; 512],
+    forward: &[u64; STOPS],
+    backward: &[u64; STOPS],
     cuts: &[usize],
     head: u32,
-    entries: &[u32; 8],
-    exits: &[u32; 8],
-    inside: &[u64; 8],
-    low: &[u64; 21],
-    zero: &[u64; 21],
+    entries: &[u32; STATES],
+    exits: &[u32; STATES],
+    inside: &[u64; STATES],
+    low: &[u64; LOW_PLACES],
+    zero: &[u64; LOW_PLACES],
     c: usize,
 ) -> bool
-    requires { ⌜ Testable locations (now legs) depot (now route) (now forward) (now backward) (now cuts) head (now entries) (now exits) (now inside) (now low) (now zero) c ⌝ }
-    ensures { λ r. ⌜ Tested locations (now (legs .entry)) depot (now (route .entry)) (now (cuts .entry)) (now (entries .entry)) (now (exits .entry)) (now (inside .entry)) (now (low .entry)) c r ⌝ }
+    requires { ⌜ RoomTestable locations (now legs) depot (now route) (now forward) (now backward) (now cuts) head (now entries) (now exits) (now inside) (now low) (now zero) c ⌝ }
+    ensures { λ r. ⌜ RoomTested locations (now (legs .entry)) depot (now (route .entry)) (now (cuts .entry)) (now (entries .entry)) (now (exits .entry)) (now (inside .entry)) (now (low .entry)) c r ⌝ }
 {
-    if low[8] < low[20] {
+    if low[TAIL] < low[STANDING] {
         return true;
     }
     let p = 2 * (cuts.len() - 2);
     let start = cuts[cuts.len() - 2];
     let x = route[c - 1];
-    let y = tail_at(depot, route, c);
-    let here = low[20] + costs::route_distance(locations, legs, x, y);
+    let y = costs::tail_at(depot, route, c);
+    let here = low[STANDING] + costs::route_distance(locations, legs, x, y);
     let back = costs::route_distance(locations, legs, route[start], y);
     let tail = least_out(locations, legs, exits, y, zero, back, p);
     let straight = least_into(locations, legs, x, entries, inside, low, p);
     if straight + tail < here {
         return true;
     }
-    let after_head = low[19] + costs::route_distance(locations, legs, head, x);
+    let after_head = low[AFTER_HEAD] + costs::route_distance(locations, legs, head, x);
     let turned = least_out(locations, legs, exits, x, low, after_head, p);
     let on = costs::inner(forward, start, c);
     turned + tail + costs::inner(backward, start, c) < here + on
@@ -118,14 +100,14 @@ pub fn next_room(
     legs: &[u32],
     depot: u32,
     route: &[u32],
-    forward: &[u64; 512],
-    backward: &[u64; 512],
+    forward: &[u64; STOPS],
+    backward: &[u64; STOPS],
     cuts: &[usize],
-    entries: &[u32; 8],
-    exits: &[u32; 8],
-    inside: &[u64; 8],
-    low: &[u64; 21],
-    zero: &[u64; 21],
+    entries: &[u32; STATES],
+    exits: &[u32; STATES],
+    inside: &[u64; STATES],
+    low: &[u64; LOW_PLACES],
+    zero: &[u64; LOW_PLACES],
 ) -> usize
     requires { ⌜ Nextable locations (now legs) depot (now route) (now forward) (now backward) (now cuts) (now entries) (now exits) (now inside) (now low) (now zero) ⌝ }
     ensures { λ r. ⌜ NextRoom locations (now (legs .entry)) depot (now (route .entry)) (now (cuts .entry)) (now (entries .entry)) (now (exits .entry)) (now (inside .entry)) (now (low .entry)) r ⌝ }

@@ -1,6 +1,7 @@
 // One round of a run: passed over, or polished with the allowance that is left. No entry: the crates above call it.
 use theory::Polished;
 use theory::RoundState;
+use theory::STOPS;
 ghost use mathlib.Core.Path.{_≡_};
 ghost use mathlib.Core.Bool.{cond};
 ghost use lib.ListN.{length};
@@ -74,7 +75,7 @@ fn polish_or_put_back(
     ensures { λ r. ⌜ Ends (outcome (now (route .entry)) (polish-round (problem (trip locations (now (legs .entry)) (now (latest .entry)) depot)) k left (now (route .entry)))) r (now (route .exit)) ⌝ }
 {
     let n = route.len();
-    let mut old = [0u32; 512];
+    let mut old = [0u32; STOPS];
     reconnection::copy_in(&route[..], &mut old, 0);
     let reply = polish_round(k, left, locations, legs, latest, depot, route);
     keep_or_put_back(reply.finished, &old[..n], route);

@@ -113,13 +113,13 @@ module _ (T : Tables) (F : Fleet) where
   unfolding rounds
   how-many = length-map (upfrom 0 (length (F .lengths))) (given T F) ∙ length-upfrom 0 (length (F .lengths))
 
-  lengths-are : total (λ n. n) (F .lengths) ≡ length (F .stops) → map (λ (g : Given). length (g .route)) (rounds T F) ≡ (F .lengths)
+  lengths-are : total (λ n. n) (F .lengths) ≡ length (F .stops) → map (λ (g : Given). length (g .route)) (rounds T F) ≡ F .lengths
   lengths-are e =
       let gs = rounds T F in
       let l : length (map (λ (g : Given). length (g .route)) gs) ≡ length (F .lengths) = length-map gs (λ (g : Given). length (g .route)) ∙ how-many in
       ext-getD 0 _ (F .lengths) l
       (λ i h.
-      let j : i < length lengths = omega (arith, h, l) in
+      let j : i < length (F .lengths) = omega (arith, h, l) in
       List·getD-map (λ (g : Given). length (g .route)) gs i unasked ∙ ap (λ (g : Given). length (g .route)) (given-at i j) ∙ size i j)
     where
       size : (i : ℕ) → i < length (F .lengths) → length (round-at (F .lengths) (F .stops) i) ≡ getD (F .lengths) i 0

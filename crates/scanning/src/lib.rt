@@ -1,4 +1,8 @@
 // The scan of document 01, stretch by stretch: the cut sets with the same first cuts are one. No entry: crate polishing calls it.
+use joints::CELLS;
+use joints::ROW_BYTES;
+use theory::CUT_PLACES;
+use theory::STOPS;
 ghost use Rattle.theory.specs.Tables.{problem, pattern-rows, trip};
 ghost use Rattle.scanning.specs.Loop.{Scannable, Scans};
 
@@ -19,16 +23,16 @@ pub fn scan_cut_sets(
     depot: u32,
     orders: &[u8],
     masks: &[u8],
-    rows: &[u8; 1532],
+    rows: &[u8; ROW_BYTES],
     route: &mut [u32],
 ) -> Scanned
     requires { ⌜ Scannable k (trip locations (now legs) (now latest) depot) (now orders) (now masks) (now rows) (now route) ⌝ }
     ensures { λ r. ⌜ Scans (problem (trip locations (now (legs .entry)) (now (latest .entry)) depot)) (pattern-rows k (now (orders .entry)) (now (masks .entry))) k allowance (now (route .entry)) r (now (route .exit)) ⌝ }
 {
-    let mut forward = [0u64; 512];
-    let mut backward = [0u64; 512];
-    let mut joint = [0u64; 160];
-    let mut lateness = [0u64; 513];
+    let mut forward = [0u64; STOPS];
+    let mut backward = [0u64; STOPS];
+    let mut joint = [0u64; CELLS];
+    let mut lateness = [0u64; CUT_PLACES];
     let mut longest = taking::measure(
         locations,
         legs,

@@ -1,5 +1,10 @@
 // The inner step of the scan: the first pattern on a cut set that improves the route and keeps every deadline. No entry: for the scan.
+use dues::DUE_PLACES;
 use dues::Timing;
+use joints::CELLS;
+use joints::ROW_BYTES;
+use theory::CUT_PLACES;
+use theory::STOPS;
 ghost use mathlib.Core.Path.{_≡_};
 ghost use Prim.Native.Nat.{_-_};
 ghost use lib.ListN.{length, getD};
@@ -8,8 +13,8 @@ ghost use Rattle.search.specs.Gain.{below, LateBehind, Findable, Found, 
 
 // The first pattern from `from` on that costs less than `standing`, or `limit`.
 fn next_shorter(
-    joint: &[u64; 160],
-    rows: &[u8; 1532],
+    joint: &[u64; CELLS],
+    rows: &[u8; ROW_BYTES],
     standing: u64,
     from: usize,
     limit: usize,
@@ -29,9 +34,9 @@ fn next_shorter(
 
 // The first row from `shorter` on that costs less than `below` and is left in time, or `limit`.
 fn first_due(
-    joint: &[u64; 160],
-    rows: &[u8; 1532],
-    dues: &[u64; 9],
+    joint: &[u64; CELLS],
+    rows: &[u8; ROW_BYTES],
+    dues: &[u64; DUE_PLACES],
     m: usize,
     clock: u64,
     below: u64,
@@ -67,7 +72,7 @@ fn threshold(standing: u64, late: u64) -> u64
 }
 
 // By how much a stop behind the last cut is late at most.
-fn late_behind(lateness: &[u64; 513], cuts: &[usize]) -> u64
+fn late_behind(lateness: &[u64; CUT_PLACES], cuts: &[usize]) -> u64
     requires { ⌜ LateBehind (now lateness) (now cuts) ⌝ }
     ensures { λ r. ⌜ r ≡ getD (now (lateness .entry)) (getD (now (cuts .entry)) (length (now (cuts .entry)) - 1) 0) 0 ⌝ }
 {
@@ -82,13 +87,13 @@ pub fn first_gain(
     latest: &[u32],
     depot: u32,
     route: &[u32],
-    forward: &[u64; 512],
-    backward: &[u64; 512],
+    forward: &[u64; STOPS],
+    backward: &[u64; STOPS],
     cuts: &[usize],
-    rows: &[u8; 1532],
-    lateness: &[u64; 513],
-    joint: &mut [u64; 160],
-    dues: &mut [u64; 9],
+    rows: &[u8; ROW_BYTES],
+    lateness: &[u64; CUT_PLACES],
+    joint: &mut [u64; CELLS],
+    dues: &mut [u64; DUE_PLACES],
     limit: usize,
 ) -> usize
     requires { ⌜ Findable (trip locations (now legs) (now latest) depot) (now route) (now forward) (now backward) (now cuts) (now rows) (now lateness) (now joint) (now dues) limit ⌝ }

@@ -13,7 +13,7 @@ use Rattle.joints.specs.States.{row}
 use Rattle.joints.specs.JointTable.{chain, Chainable}
 use Rattle.joints.proofs.Rows.{row-read}
 use Rattle.shared.specs.Bound.{next-state, class}
-use Rattle.shared.specs.Filling.{Lowered, FourStates, ClassIs, RowAt, Lowable, LowOf}
+use Rattle.shared.specs.Filling.{Lowered, Classable, ClassIs, RowClassable, LowFillable, LowOf}
 
 class-hit : (p a b : ℕ) (bs : List ℕ) → b ≡ p → class p a (b ∷ bs) ≡ next-state bs
 unfolding class
@@ -27,7 +27,7 @@ class-skip : (p a b : ℕ) (bs : List ℕ) → b ≢ p → b ≢ p + 1 → class
 unfolding class
 class-skip p a b bs n m = rw (ne-eqb b p n, ne-eqb b (suc p) (λ (q : b ≡ suc p). m (omega arith)))
 
-module _ {p a b c d : ℕ} (given : FourStates p a b c d) where
+module _ {p a b c d : ℕ} (given : Classable p a b c d) where
   pub first-hit : a ≡ p → ClassIs p (a ∷ b ∷ c ∷ d ∷ []) b
   first-hit e = record { is = sym (class-hit p 9 a _ e); small = omega (arith, given .second) }
 
@@ -64,7 +64,7 @@ module _ {p a b c d : ℕ} (given : FourStates p a b c d) where
             by (no m) = class-skip p c d [] m n
 
 -- Read from its row.
-pub row-class-is : {p r : ℕ} (rows : List ℕ) (i : ℕ) {a b c d : ℕ} → RowAt rows i p → a ≡ getD rows (4 * i) 0 → b ≡ getD rows (4 * i + 1) 0 → c ≡ getD rows (4 * i + 2) 0 → d ≡ getD rows (4 * i + 3) 0 →
+pub row-class-is : {p r : ℕ} (rows : List ℕ) (i : ℕ) {a b c d : ℕ} → RowClassable rows i p → a ≡ getD rows (4 * i) 0 → b ≡ getD rows (4 * i + 1) 0 → c ≡ getD rows (4 * i + 2) 0 → d ≡ getD rows (4 * i + 3) 0 →
     ClassIs p (a ∷ b ∷ c ∷ d ∷ []) r → ClassIs p (row rows i) r
 row-class-is rows i given ea eb ec ed w =
     record { is = rw (row-read rows (4 * i) (omega (arith, given .places, given .within)), ← ea, ← eb, ← ec, ← ed) (w .is); small = w .small }
@@ -95,14 +95,14 @@ stored-low {low} {c} {cost} n l h =
     by x here (yes e) = rw e (omega arith)
     by x here (no m) = rw (getD-set-other low c x cost 0 m) (omega arith)
 
-pub no-rows-low : {rows : List ℕ} {count p : ℕ} {table low : List ℕ} → Lowable rows count p table low → LowOf rows 0 p table low
+pub no-rows-low : {rows : List ℕ} {count p : ℕ} {table low : List ℕ} → LowFillable rows count p table low → LowOf rows 0 p table low
 no-rows-low g = record { places = g .low-places; small = g .low-small; known = λ i h. absurd (omega arith); below = λ i h. absurd (omega arith) }
 
-pub row-at : {rows : List ℕ} {count p : ℕ} {table low : List ℕ} → Lowable rows count p table low → (i : ℕ) → i < count → RowAt rows i p
+pub row-at : {rows : List ℕ} {count p : ℕ} {table low : List ℕ} → LowFillable rows count p table low → (i : ℕ) → i < count → RowClassable rows i p
 row-at g i h =
     record { last = g .last; places = g .rows-fit .places; within = omega (arith, g .rows-fit .few); known = λ c l m. g .rows-fit .known c (omega arith) }
 
-pub chainable : {rows : List ℕ} {count p : ℕ} {table low : List ℕ} → Lowable rows count p table low → (i : ℕ) → i < count → Chainable table rows i
+pub chainable : {rows : List ℕ} {count p : ℕ} {table low : List ℕ} → LowFillable rows count p table low → (i : ℕ) → i < count → Chainable table rows i
 chainable g i h =
     record { padded = g .padded; places = g .rows-fit .places; within = omega (arith, g .rows-fit .few); known = λ c l m. g .rows-fit .known c (omega arith) }
 

@@ -1,4 +1,4 @@
--- The shared table, filled cell by cell and row by row. Assumes nothing.
+-- The shared table, filled row by row. Assumes nothing.
 use mathlib.Core.Path.{_≡_, refl, _∙_}
 use mathlib.Core.Bool.{cond}
 use mathlib.Core.Logic.{_≢_, _⊎_, inl, inr}
@@ -12,41 +12,15 @@ use lib.Dec.{eqb}
 use lib.ListN.{getD, set, length-set}
 use lib.Seq.{getD-set-same, getD-set-other}
 use Rattle.costs.specs.RouteCosts.{leg}
-use Rattle.joints.specs.JointTable.{cell, Padded}
-use Rattle.joints.proofs.Rows.{set-small, padded-set}
-use Rattle.shared.specs.Filling.{fixed-cell, FixedRowFits, FixedRow, Fixable, FixedRows, FixedTable}
-
-pub none-filled : (locations : ℕ) (legs : List ℕ) (from : ℕ) (entries inside : List ℕ) (a : ℕ) (table : List ℕ) → Padded table → FixedRow locations legs from 0 entries inside a table table
-none-filled locations legs from entries inside a table p = record { padded = p; next = λ b h. absurd (omega arith); others = λ c h. refl }
-
-pub more-filled : {locations : ℕ} {legs : List ℕ} {from : ℕ} {entries inside : List ℕ} {a b : ℕ} {before table : List ℕ} → FixedRow locations legs from b entries inside a before table →
-    (v : ℕ) → a < 10 → a ≢ 8 → b < 8 → v ≤ 2 ^ 40 → v ≡ leg locations legs from (getD entries b 0) + getD inside b 0 → FixedRow locations legs from (b + 1) entries inside a before (set table (16 * a + b) v)
-more-filled {locations} {legs} {from} {entries} {inside} {a} {b} {before} {table} w v l n h s e =
-    record {
-      padded = padded-set table a b v (w .padded) n (omega arith) s;
-      next = below-more (λ x. cell (set table (16 * a + b) v) a x ≡ leg locations legs from (getD entries x 0) + getD inside x 0) b
-          (λ x k. getD-set-other table (16 * a + b) (16 * a + x) v 0 (λ q. omega arith) ∙ w .next x k)
-          (getD-set-same table (16 * a + b) v 0 (omega (arith, w .padded .places)) ∙ e);
-      others = λ c k. getD-set-other table (16 * a + b) c v 0 (λ q. apart c k q) ∙ w .others c (wider c k);
-    }
-  where
-    apart : (c : ℕ) → (c < 16 * a) ⊎ (16 * a + (b + 1) ≤ c) → c ≡ 16 * a + b → ⊥
-    apart c (inl k) q = omega arith
-    apart c (inr k) q = omega arith
-
-    wider : (c : ℕ) → (c < 16 * a) ⊎ (16 * a + (b + 1) ≤ c) → (c < 16 * a) ⊎ (16 * a + b ≤ c)
-    wider c (inl k) = inl k
-    wider c (inr k) = inr (omega arith)
-
--- ---- row by row
+use Rattle.joints.specs.JointTable.{cell, Padded, RowFillable, RowFilled}
+use Rattle.shared.specs.Filling.{fixed-cell, Fixable, FixedRows, FixedTable}
 
 module _ {locations : ℕ} {legs : List ℕ} {p : ℕ} {entries exits inside table₀ : List ℕ} (given : Fixable locations legs p entries exits inside table₀) where
-  pub row-fits : (from a : ℕ) {table : List ℕ} → from < locations → a < 10 → a ≢ 8 → Padded table → FixedRowFits locations legs from (p + 1) entries inside a table
+  pub row-fits : (from a : ℕ) {table : List ℕ} → from < locations → a < 10 → a ≢ 8 → Padded table → RowFillable locations legs from (p + 1) entries inside a table
   row-fits from a f l n t =
       record {
         fillable = record {
           leg-table = given .leg-table;
-          tail-known = f;
           few = omega (arith, given .last);
           entry-places = given .places .entry-places;
           inside-places = given .places .inside-places;
@@ -54,12 +28,13 @@ module _ {locations : ℕ} {legs : List ℕ} {p : ℕ} {entries exits inside tab
           inside-small = λ s h. given .inside-small s (omega arith);
         };
         padded = t;
+        from-known = f;
         within = l;
         not-tail = n;
       }
 
   -- A filled row, cell by cell.
-  row-is : {before after : List ℕ} (head from a b : ℕ) → FixedRow locations legs from (p + 1) entries inside a before after → ((c : ℕ) → 16 * a + (p + 1) ≤ c → c < 16 * a + 16 → getD before c 0 ≡ 0) → a ≢ p →
+  row-is : {before after : List ℕ} (head from a b : ℕ) → RowFilled locations legs from (p + 1) entries inside a before after → ((c : ℕ) → 16 * a + (p + 1) ≤ c → c < 16 * a + 16 → getD before c 0 ≡ 0) → a ≢ p →
       from ≡ cond (eqb a 9) head (getD exits a 0) → b < 16 → cell after a b ≡ fixed-cell locations legs p head entries exits inside a b
   row-is {before} {after} head from a b w blank n e h = by (decLt p b)
     where
@@ -71,7 +46,7 @@ module _ {locations : ℕ} {legs : List ℕ} {p : ℕ} {entries exits inside tab
   no-rows = record { padded = given .padded; filled = λ head x b h. absurd (omega arith); blank = λ c h. given .blank c }
 
   pub more-rows : {before after : List ℕ} (a from : ℕ) → a < p → from ≡ getD exits a 0 → FixedRows locations legs p entries exits inside a before →
-      FixedRow locations legs from (p + 1) entries inside a before after → FixedRows locations legs p entries exits inside (a + 1) after
+      RowFilled locations legs from (p + 1) entries inside a before after → FixedRows locations legs p entries exits inside (a + 1) after
   more-rows {before} {after} a from l e w f =
       let n : a ≢ 9 = λ (q : a ≡ 9). omega (arith, given .last) in
       record {
@@ -85,8 +60,8 @@ module _ {locations : ℕ} {legs : List ℕ} {p : ℕ} {entries exits inside tab
           rw q (row-is head from a b f (λ c m o. w .blank c (omega arith)) (λ z. omega arith) (e ∙ rw (ne-eqb a 9 (λ (z : a ≡ 9). omega (arith, given .last)))) k)
       by head x b k (no q) h = f .others (16 * x + b) (inl (omega arith)) ∙ w .filled head x b (omega arith) k
 
-  pub whole : {head : ℕ} {t₁ t₂ t₃ : List ℕ} (from : ℕ) → from ≡ getD exits (p + 1) 0 → FixedRows locations legs p entries exits inside p t₁ → FixedRow locations legs from (p + 1) entries inside (p + 1) t₁ t₂ →
-      FixedRow locations legs head (p + 1) entries inside 9 t₂ t₃ → FixedTable locations legs head p entries exits inside t₃
+  pub whole : {head : ℕ} {t₁ t₂ t₃ : List ℕ} (from : ℕ) → from ≡ getD exits (p + 1) 0 → FixedRows locations legs p entries exits inside p t₁ → RowFilled locations legs from (p + 1) entries inside (p + 1) t₁ t₂ →
+      RowFilled locations legs head (p + 1) entries inside 9 t₂ t₃ → FixedTable locations legs head p entries exits inside t₃
   whole {head} {t₁} {t₂} {t₃} from e w f g =
       record {
         padded = g .padded;

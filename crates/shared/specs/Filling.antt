@@ -1,7 +1,7 @@
 -- The parts of filling what the cut sets with the same first cuts share.
 use mathlib.Core.Path.{_≡_}
 use mathlib.Core.Bool.{cond}
-use mathlib.Core.Logic.{_≢_, _⊎_}
+use mathlib.Core.Logic.{_⊎_}
 use mathlib.Core.List.{List}
 use Prim.Native.Nat.{ℕ, suc, _+_, _-_, _*_, _^_, _≤_, _<_}
 use lib.Dec.{eqb, ltb}
@@ -9,7 +9,7 @@ use lib.ListN.{length, getD}
 use Rattle.theory.specs.Tables.{LegTable}
 use Rattle.costs.specs.RouteCosts.{leg}
 use Rattle.joints.specs.States.{row}
-use Rattle.joints.specs.JointTable.{cell, chain, Padded, Fillable, EndPlaces}
+use Rattle.joints.specs.JointTable.{cell, chain, Padded, EndPlaces}
 use Rattle.shared.specs.Bound.{class}
 use Rattle.shared.specs.Kept.{Cut, RowsFit, Places, Opened, Kept, first-cuts}
 
@@ -22,7 +22,7 @@ pub record Lowered (before : List ℕ) (c cost : ℕ) (after : List ℕ) : Type 
   pub rest : (x : ℕ) → getD after x 0 ≤ getD before x 0
 
 -- Four states of a row.
-pub record FourStates (p a b c d : ℕ) : Type 0 where
+pub record Classable (p a b c d : ℕ) : Type 0 where
   pub last : p ≤ 6
   pub first : a ≤ 8
   pub second : b ≤ 8
@@ -34,14 +34,14 @@ pub record ClassIs (p : ℕ) (states : List ℕ) (r : ℕ) : Type 0 where
   pub small : r < 20
 
 -- Row i of rows of states.
-pub record RowAt (rows : List ℕ) (i p : ℕ) : Type 0 where
+pub record RowClassable (rows : List ℕ) (i p : ℕ) : Type 0 where
   pub last : p ≤ 6
   pub places : length rows ≡ 1532
   pub within : i < 383
   pub known : (c : ℕ) → 4 * i ≤ c → c < 4 * i + 4 → getD rows c 0 ≤ 8
 
 -- A table, rows and places for the least costs.
-pub record Lowable (rows : List ℕ) (count p : ℕ) (table low : List ℕ) : Type 0 where
+pub record LowFillable (rows : List ℕ) (count p : ℕ) (table low : List ℕ) : Type 0 where
   pub last : p ≤ 6
   pub rows-fit : RowsFit rows count
   pub padded : Padded table
@@ -61,19 +61,6 @@ pub record LowOf (rows : List ℕ) (count p : ℕ) (table low : List ℕ) : Type
 abbrev pub fixed-cell : ℕ → List ℕ → ℕ → ℕ → List ℕ → List ℕ → List ℕ → ℕ → ℕ → ℕ
 fixed-cell locations legs p head entries exits inside a b =
     cond (ltb p b) 0 (cond (eqb a p) 0 (leg locations legs (cond (eqb a 9) head (getD exits a 0)) (getD entries b 0) + getD inside b 0))
-
--- A row of the table, for a state that is left at the known stop `from`.
-pub record FixedRowFits (locations : ℕ) (legs : List ℕ) (from count : ℕ) (entries inside : List ℕ) (a : ℕ) (table : List ℕ) : Type 0 where
-  pub fillable : Fillable locations legs from count entries inside
-  pub padded : Padded table
-  pub within : a < 10
-  pub not-tail : a ≢ 8
-
--- The first `count` cells of row a are filled, and all other places are as they were.
-pub record FixedRow (locations : ℕ) (legs : List ℕ) (from count : ℕ) (entries inside : List ℕ) (a : ℕ) (before after : List ℕ) : Type 0 where
-  pub padded : Padded after
-  pub next : (b : ℕ) → b < count → cell after a b ≡ leg locations legs from (getD entries b 0) + getD inside b 0
-  pub others : (c : ℕ) → (c < 16 * a) ⊎ (16 * a + count ≤ c) → getD after c 0 ≡ getD before c 0
 
 -- What the table is filled from, and an empty table.
 pub record Fixable (locations : ℕ) (legs : List ℕ) (p : ℕ) (entries exits inside table : List ℕ) : Type 0 where

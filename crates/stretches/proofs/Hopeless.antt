@@ -16,17 +16,17 @@ use Rattle.shared.specs.Kept.{first-cuts, last-cut}
 use Rattle.shared.proofs.Keeping.{first-many}
 use Rattle.dues.proofs.Judged.{candidate-too-late}
 use Rattle.stretches.specs.declared.Stretch.{Stretch}
-use Rattle.stretches.specs.Stretch.{Listed, Hopeful, Passable, Passed, Stretchable, Stretched, improves-at}
+use Rattle.stretches.specs.Stretch.{Listed, LastCutsScannable, Passable, Passed, Stretchable, Stretched, idle-end, improves-at}
 use Rattle.stretches.proofs.LastCut.{two, some, first-below, long, at-cut}
 use Rattle.stretches.proofs.Stretching.{last-stored}
 
 pub passed-through : (stops patterns : ℕ) (cuts : List ℕ) (left over : ℕ) → 1 ≤ length cuts → over ≡ (stops + 1 - last-cut cuts) * patterns → over ≤ left →
-    Passed stops patterns cuts left (record { examined = over; gains = false; through = true; pattern = 0 }) (set cuts (length cuts - 1) stops)
+    Passed stops patterns cuts left (idle-end over true) (set cuts (length cuts - 1) stops)
 passed-through stops patterns cuts left over some e h =
     record { no-gain = refl; over = λ _. (e, h, last-stored cuts stops some); spent = λ b. absurd (true≢false b) }
 
 pub passed-spent : (stops patterns : ℕ) (cuts : List ℕ) (left over : ℕ) → over ≡ (stops + 1 - last-cut cuts) * patterns → left < over →
-    Passed stops patterns cuts left (record { examined = left; gains = false; through = false; pattern = 0 }) cuts
+    Passed stops patterns cuts left (idle-end left false) cuts
 passed-spent stops patterns cuts left over e h = record { no-gain = refl; over = λ b. absurd (true≢false (sym b)); spent = λ _. (refl, omega (arith, e)) }
 
 module _ {T : Trip} {rows : List ℕ} {patterns : ℕ} {r forwards backwards : List ℕ} {longest : ℕ} {late cuts table : List ℕ}
@@ -38,16 +38,18 @@ module _ {T : Trip} {rows : List ℕ} {patterns : ℕ} {r forwards backwards : L
   passable =
       record { some = omega (arith, own .least); most = own .most; within = first-below r cuts own .1; short = own .short; few = omega (arith, given .listed .patterned .few, given .listed .many) }
 
-  pub hopeful : getD cuts 0 0 ≤ longest → Hopeful T rows patterns r forwards backwards late cuts table
-  hopeful h =
+  pub scannable : getD cuts 0 0 ≤ longest → LastCutsScannable T rows patterns r forwards backwards late cuts table
+  scannable h =
       record {
-        searchable = given .searchable;
-        list = given .list;
-        listed = given .listed;
-        padded = given .padded;
+        hopeful = record {
+          searchable = given .searchable;
+          list = given .list;
+          listed = given .listed;
+          padded = given .padded;
+          early = head-on-time (clock-by (T .tables)) (T .depot) r longest (given .head) (getD cuts 0 0) h;
+          latenesses = given .latenesses;
+        };
         first = given .first;
-        early = head-on-time (clock-by (T .tables)) (T .depot) r longest (given .head) (getD cuts 0 0) h;
-        latenesses = given .latenesses;
       }
 
   module _ (l : longest < getD cuts 0 0) where

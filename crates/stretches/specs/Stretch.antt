@@ -8,28 +8,40 @@ use Rattle.theory.specs.Moves.{Pattern}
 use Rattle.theory.specs.Scan.{improves}
 use Rattle.theory.specs.Route.{Problem, on-time}
 use Rattle.theory.specs.Polish.{search-of, move-at}
-use Rattle.theory.specs.Tables.{clock-by, Trip}
+use Rattle.theory.specs.Tables.{problem, clock-by, CutSet, Trip}
 use Rattle.deadlines.specs.Lateness.{LongestHead, Latenesses}
 use Rattle.joints.specs.States.{Patterned}
 use Rattle.joints.specs.JointTable.{Padded}
 use Rattle.shared.specs.Kept.{Opened, first-cuts, last-cut}
+use Rattle.shared.specs.Filling.{KeptNow}
+use Rattle.dues.specs.Due.{DuesHeld}
 use Rattle.search.specs.Gain.{Searchable}
 use Rattle.stretches.specs.declared.Stretch.{Stretch}
+use Rattle.stretches.specs.declared.Step.{Step}
+use Rattle.stretches.specs.declared.Step.the-variants.{Done, On}
 
 -- So many patterns, as rows of states.
 pub record Listed (k patterns : ℕ) (rows : List ℕ) (ps : List Pattern) : Type 0 where
   pub patterned : Patterned k ps rows
   pub many : length ps ≡ patterns
 
--- What a stretch is scanned from, behind a head that is on time: its first cut set, and what the inner step reads.
+-- The end of a stretch without a gain.
+abbrev pub idle-end : ℕ → Bool → Stretch
+idle-end examined through = record { examined = examined; gains = false; through = through; pattern = 0 }
+
+-- What the inner step reads, behind a head that is on time.
 pub record Hopeful (T : Trip) (rows : List ℕ) (patterns : ℕ) (route forward-sums backward-sums late cuts table : List ℕ) : Type 0 where
   pub searchable : Searchable T route forward-sums backward-sums cuts
   pub list : List Pattern
   pub listed : Listed (length cuts) patterns rows list
   pub padded : Padded table
-  pub first : Opened cuts
   pub early : on-time (clock-by (T .tables)) (T .depot) 0 (take (getD cuts 0 0) route) ≡ true
   pub latenesses : Latenesses (clock-by (T .tables)) (T .depot) route late
+
+-- What a stretch is scanned from, behind a head that is on time: its first cut set.
+pub record LastCutsScannable (T : Trip) (rows : List ℕ) (patterns : ℕ) (route forward-sums backward-sums late cuts table : List ℕ) : Type 0 where
+  pub hopeful : Hopeful T rows patterns route forward-sums backward-sums late cuts table
+  pub first : Opened cuts
 
 -- The same behind any head, with the longest that a candidate may have.
 pub record Stretchable (T : Trip) (rows : List ℕ) (patterns : ℕ) (route forward-sums backward-sums : List ℕ) (longest : ℕ) (late cuts table : List ℕ) : Type 0 where
@@ -89,3 +101,44 @@ pub record Ended (P : Problem) (ps : List Pattern) (route cuts : List ℕ) (left
 pub record Stretched (P : Problem) (patterns : ℕ) (rows route cuts : List ℕ) (left : ℕ) (answer : Stretch) (cuts′ table : List ℕ) : Type 0 where
   pub ended : (ps : List Pattern) → Listed (length cuts) patterns rows ps → Ended P ps route cuts left answer cuts′
   pub padded : Padded table
+
+-- ---- a step of it
+
+-- A cut set of the stretch with the first cut set `first`: the candidates before it are examined, and none improves the route.
+pub record Going (T : Trip) (ps : List Pattern) (route first : List ℕ) (left : ℕ) (cuts table dues : List ℕ) (examined : ℕ) : Type 0 where
+  pub begin : CutSet (length first) (length route) first
+  pub cut-set : CutSet (length cuts) (length route) cuts
+  pub many : length cuts ≡ length first
+  pub same : first-cuts cuts ≡ first-cuts first
+  pub from : last-cut first ≤ last-cut cuts
+  pub count : examined ≡ (last-cut cuts - last-cut first) * length ps
+  pub within : examined ≤ left
+  pub idle : (t x : ℕ) → last-cut first ≤ t → t < last-cut cuts → x < length ps → improves-at (problem T) ps route first t x ≡ false
+  pub padded : Padded table
+  pub held : DuesHeld (clock-by (T .tables)) route (first-cuts first) dues
+  pub behind : getD dues 8 0 ≤ last-cut cuts
+
+-- Where a step leads, from the last cut `last`: the stretch has ended, or a later one is at hand.
+abbrev pub StepTo : Trip → List Pattern → List ℕ → List ℕ → ℕ → ℕ → Step → List ℕ → List ℕ → List ℕ → Type 0
+StepTo T ps route first left last (Done answer) cuts table dues = Ended (problem T) ps route first left answer cuts × Padded table
+StepTo T ps route first left last (On examined) cuts table dues = Going T ps route first left cuts table dues examined × (last < last-cut cuts)
+
+-- It carries on whichever stretch the cut set is of, with whichever patterns the rows are of.
+abbrev pub Carried : Trip → List ℕ → ℕ → List ℕ → List ℕ → List ℕ → List ℕ → ℕ → ℕ → Step → List ℕ → List ℕ → List ℕ → Type 0
+Carried T rows patterns route cuts table dues examined left answer cuts′ table′ dues′ =
+    (first : List ℕ) (ps : List Pattern) → Listed (length first) patterns rows ps → Going T ps route first left cuts table dues examined →
+    StepTo T ps route first left (last-cut cuts) answer cuts′ table′ dues′
+
+-- A cut set that can be tried, with what is held of the dues.
+pub record Triable (T : Trip) (rows : List ℕ) (patterns : ℕ) (route forward-sums backward-sums late cuts table dues : List ℕ) (examined left : ℕ) : Type 0 where
+  pub hopeful : Hopeful T rows patterns route forward-sums backward-sums late cuts table
+  pub held : DuesHeld (clock-by (T .tables)) route (first-cuts cuts) dues
+  pub behind : getD dues 8 0 ≤ last-cut cuts
+  pub within : examined ≤ left
+
+-- The same with what is kept of the first cuts. `zero` holds nothing.
+pub record Steppable (T : Trip) (rows : List ℕ) (patterns : ℕ) (route forward-sums backward-sums late cuts entries exits inside low zero table dues : List ℕ) (examined left : ℕ) : Type 0 where
+  pub triable : Triable T rows patterns route forward-sums backward-sums late cuts table dues examined left
+  pub kept : KeptNow (T .tables .locations) (T .tables .legs) (T .depot) route cuts rows patterns entries exits inside low
+  pub zero-places : length zero ≡ 21
+  pub zero-is : (x : ℕ) → getD zero x 0 ≡ 0

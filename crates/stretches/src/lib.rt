@@ -1,8 +1,15 @@
 // A stretch of the scan: the cut sets with the same first cuts, in their order. Those that leave no room for a gain are passed over and counted. No entry: crate scanning calls it.
+use dues::DUE_PLACES;
+use joints::CELLS;
+use joints::ROW_BYTES;
+use joints::STATES;
+use shared::LOW_PLACES;
+use theory::CUT_PLACES;
+use theory::STOPS;
 ghost use mathlib.Core.Path.{_≡_};
 ghost use Prim.Native.Nat.{min, _*_, _≤_};
 ghost use Rattle.theory.specs.Tables.{problem, trip};
-ghost use Rattle.stretches.specs.Stretch.{Passable, Passed, Hopeful, Stretchable, Stretched};
+ghost use Rattle.stretches.specs.Stretch.{idle-end, Passable, Passed, Triable, Steppable, Carried, LastCutsScannable, Stretchable, Stretched};
 
 // How a stretch ended: at an improving candidate, whose pattern is told and whose cuts are at hand; or through it; or else with the candidates allowed. Those before were examined.
 pub struct Stretch {
@@ -10,6 +17,23 @@ pub struct Stretch {
     pub gains: bool,
     pub through: bool,
     pub pattern: usize,
+}
+
+// What a step came to: the stretch has ended, or the next last cut is at hand and so many candidates before it are examined.
+enum Step {
+    Done(Stretch),
+    On(u64),
+}
+
+fn without_gain(examined: u64, through: bool) -> Stretch
+    ensures { λ r. ⌜ r ≡ idle-end examined through ⌝ }
+{
+    Stretch {
+        examined,
+        gains: false,
+        through,
+        pattern: 0,
+    }
 }
 
 // The patterns of a cut set that are still allowed.
@@ -38,20 +62,138 @@ fn pass_stretch(stops: usize, patterns: usize, cuts: &mut [usize], left: u64) ->
     let last = cuts.len() - 1;
     let over = passed_patterns(stops + 1 - cuts[last], patterns);
     if left < over {
-        return Stretch {
-            examined: left,
-            gains: false,
-            through: false,
-            pattern: 0,
-        };
+        return without_gain(left, false);
     }
     cuts[last] = stops;
-    Stretch {
-        examined: over,
-        gains: false,
-        through: true,
-        pattern: 0,
+    without_gain(over, true)
+}
+
+// The patterns at the last cut at hand, and with none the last cut behind it.
+fn try_cut_set(
+    locations: usize,
+    legs: &[u32],
+    latest: &[u32],
+    depot: u32,
+    rows: &[u8; ROW_BYTES],
+    patterns: usize,
+    route: &[u32],
+    forward: &[u64; STOPS],
+    backward: &[u64; STOPS],
+    lateness: &[u64; CUT_PLACES],
+    cuts: &mut [usize],
+    joint: &mut [u64; CELLS],
+    dues: &mut [u64; DUE_PLACES],
+    examined: u64,
+    left: u64,
+) -> Step
+    requires { ⌜ Triable (trip locations (now legs) (now latest) depot) (now rows) patterns (now route) (now forward) (now backward) (now lateness) (now cuts) (now joint) (now dues) examined left ⌝ }
+    ensures { λ r. ⌜ Carried (trip locations (now (legs .entry)) (now (latest .entry)) depot) (now (rows .entry)) patterns (now (route .entry)) (now (cuts .entry)) (now (joint .entry)) (now (dues .entry)) examined left r (now (cuts .exit)) (now (joint .exit)) (now (dues .exit)) ⌝ }
+{
+    let limit = still_allowed(patterns, left - examined);
+    let found = search::first_gain(
+        locations,
+        legs,
+        latest,
+        depot,
+        route,
+        forward,
+        backward,
+        &cuts[..],
+        rows,
+        lateness,
+        joint,
+        dues,
+        limit,
+    );
+    let reached = examined + found as u64;
+    if found < limit {
+        return Step::Done(Stretch {
+            examined: reached,
+            gains: true,
+            through: false,
+            pattern: found,
+        });
     }
+    if limit < patterns {
+        return Step::Done(without_gain(reached, false));
+    }
+    let last = cuts.len() - 1;
+    let here = cuts[last];
+    if here == route.len() {
+        return Step::Done(without_gain(reached, true));
+    }
+    cuts[last] = here + 1;
+    Step::On(reached)
+}
+
+// Over the last cuts that leave no room for a gain to the first that has room, which is tried.
+fn take_step(
+    locations: usize,
+    legs: &[u32],
+    latest: &[u32],
+    depot: u32,
+    rows: &[u8; ROW_BYTES],
+    patterns: usize,
+    route: &[u32],
+    forward: &[u64; STOPS],
+    backward: &[u64; STOPS],
+    lateness: &[u64; CUT_PLACES],
+    cuts: &mut [usize],
+    entries: &[u32; STATES],
+    exits: &[u32; STATES],
+    inside: &[u64; STATES],
+    low: &[u64; LOW_PLACES],
+    zero: &[u64; LOW_PLACES],
+    joint: &mut [u64; CELLS],
+    dues: &mut [u64; DUE_PLACES],
+    examined: u64,
+    left: u64,
+) -> Step
+    requires { ⌜ Steppable (trip locations (now legs) (now latest) depot) (now rows) patterns (now route) (now forward) (now backward) (now lateness) (now cuts) (now entries) (now exits) (now inside) (now low) (now zero) (now joint) (now dues) examined left ⌝ }
+    ensures { λ r. ⌜ Carried (trip locations (now (legs .entry)) (now (latest .entry)) depot) (now (rows .entry)) patterns (now (route .entry)) (now (cuts .entry)) (now (joint .entry)) (now (dues .entry)) examined left r (now (cuts .exit)) (now (joint .exit)) (now (dues .exit)) ⌝ }
+{
+    let last = cuts.len() - 1;
+    let hit = room::next_room(
+        locations,
+        legs,
+        depot,
+        route,
+        forward,
+        backward,
+        &cuts[..],
+        entries,
+        exits,
+        inside,
+        low,
+        zero,
+    );
+    let over = passed_patterns(hit - cuts[last], patterns);
+    if left - examined < over {
+        return Step::Done(without_gain(left, false));
+    }
+    let reached = examined + over;
+    if route.len() < hit {
+        cuts[last] = route.len();
+        return Step::Done(without_gain(reached, true));
+    }
+    cuts[last] = hit;
+    try_cut_set(
+        locations,
+        legs,
+        latest,
+        depot,
+        rows,
+        patterns,
+        route,
+        forward,
+        backward,
+        lateness,
+        cuts,
+        joint,
+        dues,
+        reached,
+        left,
+    )
 }
 
 // Last cut by last cut, behind a head that is on time.
@@ -60,25 +202,25 @@ fn scan_last_cuts(
     legs: &[u32],
     latest: &[u32],
     depot: u32,
-    rows: &[u8; 1532],
+    rows: &[u8; ROW_BYTES],
     patterns: usize,
     route: &[u32],
-    forward: &[u64; 512],
-    backward: &[u64; 512],
-    lateness: &[u64; 513],
+    forward: &[u64; STOPS],
+    backward: &[u64; STOPS],
+    lateness: &[u64; CUT_PLACES],
     cuts: &mut [usize],
-    joint: &mut [u64; 160],
+    joint: &mut [u64; CELLS],
     left: u64,
 ) -> Stretch
-    requires { ⌜ Hopeful (trip locations (now legs) (now latest) depot) (now rows) patterns (now route) (now forward) (now backward) (now lateness) (now cuts) (now joint) ⌝ }
+    requires { ⌜ LastCutsScannable (trip locations (now legs) (now latest) depot) (now rows) patterns (now route) (now forward) (now backward) (now lateness) (now cuts) (now joint) ⌝ }
     ensures { λ r. ⌜ Stretched (problem (trip locations (now (legs .entry)) (now (latest .entry)) depot)) patterns (now (rows .entry)) (now (route .entry)) (now (cuts .entry)) left r (now (cuts .exit)) (now (joint .exit)) ⌝ }
 {
-    let mut entries = [0u32; 8];
-    let mut exits = [0u32; 8];
-    let mut inside = [0u64; 8];
-    let mut low = [0u64; 21];
-    let mut dues = [0u64; 9];
-    let zero = [0u64; 21];
+    let mut entries = [0u32; STATES];
+    let mut exits = [0u32; STATES];
+    let mut inside = [0u64; STATES];
+    let mut low = [0u64; LOW_PLACES];
+    let mut dues = [0u64; DUE_PLACES];
+    let zero = [0u64; LOW_PLACES];
     shared::fill_kept(
         locations,
         legs,
@@ -94,85 +236,34 @@ fn scan_last_cuts(
         &mut inside,
         &mut low,
     );
-    let last = cuts.len() - 1;
     let mut examined = 0u64;
     loop {
-        let hit = room::next_room(
+        let step = take_step(
             locations,
             legs,
+            latest,
             depot,
+            rows,
+            patterns,
             route,
             forward,
             backward,
-            &cuts[..],
+            lateness,
+            cuts,
             &entries,
             &exits,
             &inside,
             &low,
             &zero,
-        );
-        let over = passed_patterns(hit - cuts[last], patterns);
-        if left - examined < over {
-            return Stretch {
-                examined: left,
-                gains: false,
-                through: false,
-                pattern: 0,
-            };
-        }
-        examined += over;
-        if route.len() < hit {
-            cuts[last] = route.len();
-            return Stretch {
-                examined,
-                gains: false,
-                through: true,
-                pattern: 0,
-            };
-        }
-        cuts[last] = hit;
-        let limit = still_allowed(patterns, left - examined);
-        let found = search::first_gain(
-            locations,
-            legs,
-            latest,
-            depot,
-            route,
-            forward,
-            backward,
-            &cuts[..],
-            rows,
-            lateness,
             joint,
             &mut dues,
-            limit,
+            examined,
+            left,
         );
-        examined += found as u64;
-        if found < limit {
-            return Stretch {
-                examined,
-                gains: true,
-                through: false,
-                pattern: found,
-            };
+        match step {
+            Step::Done(stretch) => return stretch,
+            Step::On(reached) => examined = reached,
         }
-        if limit < patterns {
-            return Stretch {
-                examined,
-                gains: false,
-                through: false,
-                pattern: 0,
-            };
-        }
-        if hit == route.len() {
-            return Stretch {
-                examined,
-                gains: false,
-                through: true,
-                pattern: 0,
-            };
-        }
-        cuts[last] = hit + 1;
     }
 }
 
@@ -183,15 +274,15 @@ pub fn scan_stretch(
     legs: &[u32],
     latest: &[u32],
     depot: u32,
-    rows: &[u8; 1532],
+    rows: &[u8; ROW_BYTES],
     patterns: usize,
     route: &[u32],
-    forward: &[u64; 512],
-    backward: &[u64; 512],
+    forward: &[u64; STOPS],
+    backward: &[u64; STOPS],
     longest: usize,
-    lateness: &[u64; 513],
+    lateness: &[u64; CUT_PLACES],
     cuts: &mut [usize],
-    joint: &mut [u64; 160],
+    joint: &mut [u64; CELLS],
     left: u64,
 ) -> Stretch
     requires { ⌜ Stretchable (trip locations (now legs) (now latest) depot) (now rows) patterns (now route) (now forward) (now backward) longest (now lateness) (now cuts) (now joint) ⌝ }

@@ -1,4 +1,6 @@
 // A route measured: its sums, and what it leaves to its candidates; and an accepted candidate put in its place. No entry: crate scanning calls it.
+use theory::CUT_PLACES;
+use theory::STOPS;
 ghost use mathlib.Core.Path.{_≡_};
 ghost use Rattle.theory.specs.Tables.{trip};
 ghost use Rattle.taking.specs.Candidate.{candidate, Buildable, BuildableFront, BuiltFront};
@@ -11,9 +13,9 @@ pub fn measure(
     latest: &[u32],
     depot: u32,
     route: &[u32],
-    forward: &mut [u64; 512],
-    backward: &mut [u64; 512],
-    lateness: &mut [u64; 513],
+    forward: &mut [u64; STOPS],
+    backward: &mut [u64; STOPS],
+    lateness: &mut [u64; CUT_PLACES],
 ) -> usize
     requires { ⌜ MeasureAsked (trip locations (now legs) (now latest) depot) (now route) (now forward) (now backward) (now lateness) ⌝ }
     ensures { λ r. ⌜ Measured (trip locations (now (legs .entry)) (now (latest .entry)) depot) (now (route .entry)) (now (forward .exit)) (now (backward .exit)) r (now (lateness .exit)) ⌝ }
@@ -58,7 +60,7 @@ fn build_front(
 }
 
 // No stop of an accepted route is late. Where none was before, the table says so already.
-fn clear_lateness(stops: usize, lateness: &mut [u64; 513])
+fn clear_lateness(stops: usize, lateness: &mut [u64; CUT_PLACES])
     requires { ⌜ Clearable stops (now lateness) ⌝ }
     ensures { λ _. ⌜ Cleared stops (now (lateness .entry)) (now (lateness .exit)) ⌝ }
 {
@@ -81,15 +83,15 @@ pub fn take_gain(
     masks: &[u8],
     i: usize,
     route: &mut [u32],
-    forward: &mut [u64; 512],
-    backward: &mut [u64; 512],
-    lateness: &mut [u64; 513],
+    forward: &mut [u64; STOPS],
+    backward: &mut [u64; STOPS],
+    lateness: &mut [u64; CUT_PLACES],
 )
     requires { ⌜ Takeable locations (now legs) (now cuts) (now orders) (now masks) i (now route) (now forward) (now backward) (now lateness) ⌝ }
     ensures { λ _. ⌜ Taken locations (now (legs .entry)) (now (cuts .entry)) (now (orders .entry)) (now (masks .entry)) i (now (route .entry)) (now (lateness .entry)) (now (route .exit)) (now (forward .exit)) (now (backward .exit)) (now (lateness .exit)) ⌝ }
 {
     let n = route.len();
-    let mut spare = [0u32; 512];
+    let mut spare = [0u32; STOPS];
     build_front(&route[..], cuts, orders, masks, i, &mut spare);
     reconnection::copy_in(&spare[..n], route, 0);
     costs::forward_sums(locations, legs, &route[..], forward);

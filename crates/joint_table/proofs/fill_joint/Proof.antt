@@ -29,8 +29,9 @@ fill-states-requires c κs =
     let s = c .before .before .before .before .before .before .before .before .before .before .before .before .before in
     let e = c .before .before .before .before .before .before .fill-ends .ensures in
     record {
-      fillable = fillable (s .pre) e _ (rw (c .before .before .before .before .tail-start .ensures) (tail-below (s .pre)));
+      fillable = fillable (s .pre) e;
       padded = s .pre .padded;
+      tail-known = rw (c .before .before .before .before .tail-start .ensures) (tail-below (s .pre));
       exit-places = e .places .exit-places;
       exits-known = exits-known (s .pre) e;
     }
@@ -40,9 +41,10 @@ fill-cells-requires c κs =
     let s = c .before .before .before .before .before .before .before .before .before .before .before .before .before .before .before .before .before in
     let e = c .before .before .before .before .before .before .before .before .before .before .fill-ends .ensures in
     record {
-      fillable = fillable (s .pre) e _ (rw (c .before .before .before .before .before .before .before .before .tail-start .ensures) (tail-below (s .pre)));
+      fillable = fillable (s .pre) e;
       padded = c .before .before .before .fill-states .ensures .padded;
       from-known = rw (c .before .before .before .before .before .before .before .before .before .head-end .ensures) (head-below (s .pre));
+      tail-known = rw (c .before .before .before .before .before .before .before .before .tail-start .ensures) (tail-below (s .pre));
       within = omega arith;
       not-tail = λ q. omega arith;
     }

@@ -33,7 +33,7 @@ fill-cells-requires c κs =
     let s = c .before .before .before .before .before in
     let l = c .before .before .before .loop in
     let h = c .before .before .loop-test .taken in
-    record { fillable = s .pre .fillable; padded = l .inv .1; from-known = s .pre .exits-known (l .a) h; within = omega (arith, s .pre .fillable .few, h); not-tail = λ q. omega (arith, s .pre .fillable .few, h) }
+    record { fillable = s .pre .fillable; padded = l .inv .1; tail-known = s .pre .tail-known; from-known = s .pre .exits-known (l .a) h; within = omega (arith, s .pre .fillable .few, h); not-tail = λ q. omega (arith, s .pre .fillable .few, h) }
 
 add-a : tie.Need-add-a Inv-loop μ-loop
 add-a c = search needs

@@ -26,6 +26,9 @@ returns c =
     let s = c .before .before .before .before in
     (rw (lt-ltb (s .args .p + 1) (s .args .k) (c .before .before .if1 .taken)) (c .state .ensures .is), omega (arith, c .state .ensures .small))
 
+cast-result : tie.Need-cast-result
+cast-result c = search needs
+
 returns-2 : tie.Need-returns-2
 returns-2 c =
     let s = c .before .before in
@@ -33,4 +36,4 @@ returns-2 c =
 
 pub state-at-spec : {M : Type 1} → statement M
 state-at-spec =
-    tie.close (tie.spec add-if1 add-state shared-slice-read-state state-requires returns returns-2)
+    tie.close (tie.spec add-if1 add-state shared-slice-read-state state-requires returns cast-result returns-2)

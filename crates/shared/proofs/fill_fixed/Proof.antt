@@ -12,26 +12,26 @@ fill-fixed-rows-requires c κs = search needs
 add-back : tie.Need-add-back
 add-back c = search needs
 
-mul-fill-fixed-row : tie.Need-mul-fill-fixed-row
-mul-fill-fixed-row c = search needs
+mul-fill-row : tie.Need-mul-fill-row
+mul-fill-row c = search needs
 
-element-copy-out-fill-fixed-row : tie.Need-element-copy-out-fill-fixed-row
-element-copy-out-fill-fixed-row c = search needs
+element-copy-out-fill-row : tie.Need-element-copy-out-fill-row
+element-copy-out-fill-row c = search needs
 
-fill-fixed-row-requires : tie.Need-fill-fixed-row-requires
-fill-fixed-row-requires c κs =
+fill-row-requires : tie.Need-fill-row-requires
+fill-row-requires c κs =
     let s = c .before .before .before .before .before in
     row-fits (s .pre .0) _ _ (s .pre .0 .exits-known _ (omega arith)) (omega (arith, s .pre .0 .last)) (λ q. omega (arith, s .pre .0 .last)) (c .before .before .fill-fixed-rows .ensures .padded)
 
-fill-fixed-row-requires-2 : tie.Need-fill-fixed-row-requires-2
-fill-fixed-row-requires-2 c κs =
+fill-row-requires-2 : tie.Need-fill-row-requires-2
+fill-row-requires-2 c κs =
     let s = c .before .before .before .before .before .before .before in
-    row-fits (s .pre .0) _ 9 (s .pre .1) (omega arith) (λ q. omega arith) (c .before .fill-fixed-row .ensures .padded)
+    row-fits (s .pre .0) _ 9 (s .pre .1) (omega arith) (λ q. omega arith) (c .before .fill-row .ensures .padded)
 
 returns : tie.Need-returns
 returns c =
     let s = c .before .before .before .before .before .before .before .before in
-    whole (s .pre .0) _ refl (c .before .before .before .before .before .fill-fixed-rows .ensures) (c .before .before .fill-fixed-row .ensures) (c .fill-fixed-row2 .ensures)
+    whole (s .pre .0) _ refl (c .before .before .before .before .before .fill-fixed-rows .ensures) (c .before .before .fill-row .ensures) (c .fill-row2 .ensures)
 
 pub fill-fixed-spec : {M : Type 1} → statement M
 fill-fixed-spec =
@@ -39,8 +39,8 @@ fill-fixed-spec =
     (tie.spec
     fill-fixed-rows-requires
     add-back
-    mul-fill-fixed-row
-    element-copy-out-fill-fixed-row
-    fill-fixed-row-requires
-    fill-fixed-row-requires-2
+    mul-fill-row
+    element-copy-out-fill-row
+    fill-row-requires
+    fill-row-requires-2
     returns)

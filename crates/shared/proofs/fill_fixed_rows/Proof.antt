@@ -17,17 +17,17 @@ abbrev μ-loop : tie.MeasureT-loop
 loop-holds : tie.Need-loop-holds Inv-loop μ-loop
 loop-holds c = (omega arith, no-rows (c .before .pre))
 
-mul-fill-fixed-row : tie.Need-mul-fill-fixed-row Inv-loop μ-loop
-mul-fill-fixed-row c = search needs
+mul-fill-row : tie.Need-mul-fill-row Inv-loop μ-loop
+mul-fill-row c = search needs
 
-element-copy-out-fill-fixed-row : tie.Need-element-copy-out-fill-fixed-row Inv-loop μ-loop
-element-copy-out-fill-fixed-row c = search needs
+element-copy-out-fill-row : tie.Need-element-copy-out-fill-row Inv-loop μ-loop
+element-copy-out-fill-row c = search needs
 
-add-fill-fixed-row : tie.Need-add-fill-fixed-row Inv-loop μ-loop
-add-fill-fixed-row c = search needs
+add-fill-row : tie.Need-add-fill-row Inv-loop μ-loop
+add-fill-row c = search needs
 
-fill-fixed-row-requires : tie.Need-fill-fixed-row-requires Inv-loop μ-loop
-fill-fixed-row-requires c κs =
+fill-row-requires : tie.Need-fill-row-requires Inv-loop μ-loop
+fill-row-requires c κs =
     let s = c .before .before .before .before .before in
     let l = c .before .before .before .loop in
     let h = c .before .before .loop-test .taken in
@@ -44,7 +44,7 @@ loop-again c =
     let s = c .before .before .before .before .before .before in
     let l = c .before .before .before .before .loop in
     let h = c .before .before .before .loop-test .taken in
-    (omega (arith, h), more-rows (s .pre) (l .a) _ h refl (l .inv .1) (c .fill-fixed-row .ensures))
+    (omega (arith, h), more-rows (s .pre) (l .a) _ h refl (l .inv .1) (c .fill-row .ensures))
 
 returns : tie.Need-returns Inv-loop μ-loop
 returns c =
@@ -60,10 +60,10 @@ fill-fixed-rows-spec =
     Inv-loop
     μ-loop
     loop-holds
-    mul-fill-fixed-row
-    element-copy-out-fill-fixed-row
-    add-fill-fixed-row
-    fill-fixed-row-requires
+    mul-fill-row
+    element-copy-out-fill-row
+    add-fill-row
+    fill-row-requires
     add-a
     loop-less
     loop-again

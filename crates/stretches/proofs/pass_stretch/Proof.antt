@@ -23,8 +23,13 @@ sub-passed-patterns c = search needs
 passed-patterns-requires : tie.Need-passed-patterns-requires
 passed-patterns-requires c κs = search needs
 
+without-gain-requires : tie.Need-without-gain-requires
+without-gain-requires c κs = search needs
+
 returns : tie.Need-returns
-returns c = let s = c .before .before .before .before in passed-spent (s .args .stops) (s .args .patterns) (s .args .cuts .now) (s .args .left) _ (c .before .passed-patterns .ensures) (c .if1 .taken)
+returns c =
+    let s = c .before .before .before .before .before in
+    rw (c .without-gain .ensures) (passed-spent (s .args .stops) (s .args .patterns) (s .args .cuts .now) (s .args .left) _ (c .before .before .passed-patterns .ensures) (c .before .if1 .taken))
 
 mul-cuts : tie.Need-mul-cuts
 mul-cuts c = search needs
@@ -32,11 +37,16 @@ mul-cuts c = search needs
 slice-write-cuts : tie.Need-slice-write-cuts
 slice-write-cuts c = search needs
 
+without-gain-requires-2 : tie.Need-without-gain-requires-2
+without-gain-requires-2 c κs = search needs
+
 same-length : tie.Need-same-length
 same-length c = search needs
 
 returns-2 : tie.Need-returns-2
-returns-2 c = let s = c .before .before .before .before in passed-through (s .args .stops) (s .args .patterns) (s .args .cuts .now) (s .args .left) _ (s .pre .some) (c .before .passed-patterns .ensures) (c .if1 .left)
+returns-2 c =
+    let s = c .before .before .before .before .before in
+    rw (c .without-gain2 .ensures) (passed-through (s .args .stops) (s .args .patterns) (s .args .cuts .now) (s .args .left) _ (s .pre .some) (c .before .before .passed-patterns .ensures) (c .before .if1 .left))
 
 pub pass-stretch-spec : {M : Type 1} → statement M
 pass-stretch-spec =
@@ -48,8 +58,10 @@ pass-stretch-spec =
     slice-read-passed-patterns
     sub-passed-patterns
     passed-patterns-requires
+    without-gain-requires
     returns
     mul-cuts
     slice-write-cuts
+    without-gain-requires-2
     same-length
     returns-2)

@@ -1,16 +1,16 @@
--- `shared::fill_fixed_row` meets its contract. The invariant: the cells below b are filled, and all other places are as they were. Assumes nothing.
+-- `joints::fill_row` meets its contract. The invariant: the cells below b are filled, and all other places are as they were. Assumes nothing.
 use mathlib.Core.Path.{_≡_}
 use Prim.Native.Nat.{_+_, _-_, _≤_}
 use lib.ListN.{getD}
-use Rattle.shared.specs.Filling.{FixedRow}
-use Rattle.shared.proofs.Filling.{none-filled, more-filled}
+use Rattle.joints.specs.JointTable.{RowFilled}
+use Rattle.joints.proofs.Cells.{none-filled, more-filled}
 use native.Mathlib.Omega.{arith}
 use borrow.Author.Needs.{needs}
-use Rattle.shared.proofs.fill_fixed_row.Statement.{statement}
-use Rattle.shared.proofs.fill_fixed_row.Tie as tie
+use Rattle.joints.proofs.fill_row.Statement.{statement}
+use Rattle.joints.proofs.fill_row.Tie as tie
 
 abbrev Inv-loop : tie.InvT-loop
-Inv-loop locations legs from count entries inside a table₀ start b₀ table b = (b ≤ count) × FixedRow locations legs from b entries inside a table₀ table
+Inv-loop locations legs from count entries inside a table₀ start b₀ table b = (b ≤ count) × RowFilled locations legs from b entries inside a table₀ table
 
 abbrev μ-loop : tie.MeasureT-loop
 μ-loop locations legs from count entries inside a table₀ start b₀ table b = count - b
@@ -31,7 +31,7 @@ route-distance-requires : tie.Need-route-distance-requires Inv-loop μ-loop
 route-distance-requires c κs =
     let s = c .before .before .before .before in
     let f = s .pre .fillable in
-    record { table = f .leg-table; from-known = f .tail-known; to-known = f .entries-known (c .before .before .loop .b) (c .before .loop-test .taken) }
+    record { table = f .leg-table; from-known = s .pre .from-known; to-known = f .entries-known (c .before .before .loop .b) (c .before .loop-test .taken) }
 
 mul-table : tie.Need-mul-table Inv-loop μ-loop
 mul-table c = search needs
@@ -74,8 +74,8 @@ returns c =
     let e : l .b ≡ c .before .before .before .args .count = omega (arith, l .inv .0, c .loop-test .left) in
     rw e at (l .inv .1)
 
-pub fill-fixed-row-spec : {M : Type 1} → statement M
-fill-fixed-row-spec =
+pub fill-row-spec : {M : Type 1} → statement M
+fill-row-spec =
     tie.close
     (tie.spec
     Inv-loop

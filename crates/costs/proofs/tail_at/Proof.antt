@@ -1,10 +1,10 @@
--- `room::tail_at` meets its contract. Assumes nothing.
+-- `costs::tail_at` meets its contract. Assumes nothing.
 use borrow.Author.Tests.{lt-ltb, le-ltb}
 use lib.ListN.{length}
 use native.Mathlib.Omega.{arith}
 use borrow.Author.Needs.{needs}
-use Rattle.room.proofs.tail_at.Statement.{statement}
-use Rattle.room.proofs.tail_at.Tie as tie
+use Rattle.costs.proofs.tail_at.Statement.{statement}
+use Rattle.costs.proofs.tail_at.Tie as tie
 
 mul-result : tie.Need-mul-result
 mul-result c = search needs
