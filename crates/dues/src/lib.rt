@@ -7,6 +7,7 @@ use joints::ROW;
 use joints::ROW_BYTES;
 use joints::STATES;
 use joints::WIDTH;
+use theory::CUT_PLACES;
 use theory::STOPS;
 ghost use mathlib.Core.Path.{_≡_};
 ghost use Prim.Native.Nat.{_+_, _-_, _*_, _<_};
@@ -14,7 +15,7 @@ ghost use lib.ListN.{length, getD, set};
 ghost use lib.Seq.{slice};
 ghost use Rattle.theory.specs.Tables.{clock-by, tables};
 ghost use Rattle.dues.specs.Parts.{HeadTimed, HeadClock};
-ghost use Rattle.dues.specs.Due.{in-time, is-in-time, Puttable, DuesFillable, SegmentsDue, DuesReachable, DuesReached, RowTimed};
+ghost use Rattle.dues.specs.Due.{in-time, is-in-time, Puttable, DuesFillable, SegmentsDue, DuesReachable, DuesReached, StaysAsked, StaysTold, RowTimed};
 
 // The dues by state, and behind them the last cut that those of the last segment reach up to, 0 before any is found.
 pub const REACH: usize = STATES;
@@ -36,20 +37,32 @@ fn fill_dues(
     locations: usize,
     legs: &[u32],
     latest: &[u32],
+    service: &[u32],
     route: &[u32],
     backward: &[u64; STOPS],
+    stayed: &[u64; CUT_PLACES],
     cuts: &[usize],
     count: usize,
     dues: &mut [u64; DUE_PLACES],
 )
-    requires { ⌜ DuesFillable (tables locations (now legs) (now latest)) (now route) (now backward) (now cuts) count (now dues) ⌝ }
-    ensures { λ _. ⌜ SegmentsDue (clock-by (tables locations (now (legs .entry)) (now (latest .entry)))) (now (cuts .entry)) (now (route .entry)) count (now (dues .exit)) ⌝ }
+    requires { ⌜ DuesFillable (tables locations (now legs) (now latest) (now service)) (now route) (now backward) (now stayed) (now cuts) count (now dues) ⌝ }
+    ensures { λ _. ⌜ SegmentsDue (clock-by (tables locations (now (legs .entry)) (now (latest .entry)) (now (service .entry)))) (now (cuts .entry)) (now (route .entry)) count (now (dues .exit)) ⌝ }
 {
     let mut i = 1;
     while i <= count {
         let start = cuts[i - 1];
         let end = cuts[i];
-        let found = segment_dues(locations, legs, latest, route, backward, start, end);
+        let found = segment_dues(
+            locations,
+            legs,
+            latest,
+            service,
+            route,
+            backward,
+            stayed,
+            start,
+            end,
+        );
         put_dues(dues, i, found.straight, found.reversed);
         i += 1;
     }
@@ -60,13 +73,15 @@ fn stretch_dues(
     locations: usize,
     legs: &[u32],
     latest: &[u32],
+    service: &[u32],
     route: &[u32],
     backward: &[u64; STOPS],
+    stayed: &[u64; CUT_PLACES],
     cuts: &[usize],
     dues: &mut [u64; DUE_PLACES],
 )
-    requires { ⌜ DuesReachable (tables locations (now legs) (now latest)) (now route) (now backward) (now cuts) (now dues) × (0 < getD (now dues) 8 0) ⌝ }
-    ensures { λ _. ⌜ SegmentsDue (clock-by (tables locations (now (legs .entry)) (now (latest .entry)))) (now (cuts .entry)) (now (route .entry)) (length (now (cuts .entry)) - 1) (now (dues .exit)) ⌝ }
+    requires { ⌜ DuesReachable (tables locations (now legs) (now latest) (now service)) (now route) (now backward) (now stayed) (now cuts) (now dues) × (0 < getD (now dues) 8 0) ⌝ }
+    ensures { λ _. ⌜ SegmentsDue (clock-by (tables locations (now (legs .entry)) (now (latest .entry)) (now (service .entry)))) (now (cuts .entry)) (now (route .entry)) (length (now (cuts .entry)) - 1) (now (dues .exit)) ⌝ }
 {
     let segment = cuts.len() - 1;
     let start = cuts[segment - 1];
@@ -77,8 +92,10 @@ fn stretch_dues(
         locations,
         legs,
         latest,
+        service,
         route,
         backward,
+        stayed,
         start,
         from,
         end,
@@ -93,23 +110,61 @@ pub fn reach_dues(
     locations: usize,
     legs: &[u32],
     latest: &[u32],
+    service: &[u32],
     route: &[u32],
     backward: &[u64; STOPS],
+    stayed: &[u64; CUT_PLACES],
     cuts: &[usize],
     dues: &mut [u64; DUE_PLACES],
 )
-    requires { ⌜ DuesReachable (tables locations (now legs) (now latest)) (now route) (now backward) (now cuts) (now dues) ⌝ }
-    ensures { λ _. ⌜ DuesReached (clock-by (tables locations (now (legs .entry)) (now (latest .entry)))) (now (route .entry)) (now (cuts .entry)) (now (dues .exit)) ⌝ }
+    requires { ⌜ DuesReachable (tables locations (now legs) (now latest) (now service)) (now route) (now backward) (now stayed) (now cuts) (now dues) ⌝ }
+    ensures { λ _. ⌜ DuesReached (clock-by (tables locations (now (legs .entry)) (now (latest .entry)) (now (service .entry)))) (now (route .entry)) (now (cuts .entry)) (now (dues .exit)) ⌝ }
 {
     let last = cuts.len() - 1;
     let reach = cuts[last] as u64;
     let held = dues[REACH];
     if held == 0 {
-        fill_dues(locations, legs, latest, route, backward, cuts, last, dues);
+        fill_dues(
+            locations,
+            legs,
+            latest,
+            service,
+            route,
+            backward,
+            stayed,
+            cuts,
+            last,
+            dues,
+        );
     } else {
-        stretch_dues(locations, legs, latest, route, backward, cuts, dues);
+        stretch_dues(
+            locations,
+            legs,
+            latest,
+            service,
+            route,
+            backward,
+            stayed,
+            cuts,
+            dues,
+        );
     }
     dues[REACH] = reach;
+}
+
+// The service of the stops of each middle segment, for both of its states.
+pub fn state_stays(stayed: &[u64; CUT_PLACES], cuts: &[usize], stays: &mut [u64; DUE_PLACES])
+    requires { ⌜ StaysAsked (now stayed) (now cuts) (now stays) ⌝ }
+    ensures { λ _. ⌜ StaysTold (now (stayed .entry)) (now (cuts .entry)) (now (stays .exit)) ⌝ }
+{
+    let mut i = 1;
+    while i < cuts.len() {
+        let start = cuts[i - 1];
+        let end = cuts[i];
+        let stay = stayed[end] - stayed[start];
+        put_dues(stays, i, stay, stay);
+        i += 1;
+    }
 }
 
 // Whether the middle of a candidate is left in time.
@@ -122,13 +177,14 @@ pub enum Timing {
 pub fn judge_row(
     joint: &[u64; CELLS],
     rows: &[u8; ROW_BYTES],
+    stays: &[u64; DUE_PLACES],
     dues: &[u64; DUE_PLACES],
     i: usize,
     m: usize,
     clock: u64,
 ) -> Timing
-    requires { ⌜ RowTimed (now joint) (now rows) (now dues) i m clock ⌝ }
-    ensures { λ r. ⌜ is-in-time r ≡ in-time (now (joint .entry)) (now (dues .entry)) 9 clock (slice (4 * i) (4 * i + m) (now (rows .entry))) ⌝ }
+    requires { ⌜ RowTimed (now joint) (now rows) (now stays) (now dues) i m clock ⌝ }
+    ensures { λ r. ⌜ is-in-time r ≡ in-time (now (joint .entry)) (now (stays .entry)) (now (dues .entry)) 9 clock (slice (4 * i) (4 * i + m) (now (rows .entry))) ⌝ }
 {
     let mut from = HEAD;
     let mut now = clock;
@@ -136,7 +192,7 @@ pub fn judge_row(
     let end = ROW * i + m;
     while at < end {
         let state = joints::wide(rows[at]);
-        now += joint[WIDTH * from + state];
+        now += joint[WIDTH * from + state] + stays[state];
         if dues[state] <= now {
             return Timing::Late;
         }
@@ -153,14 +209,15 @@ pub fn head_clock(
     depot: u32,
     route: &[u32],
     forward: &[u64; STOPS],
+    stayed: &[u64; CUT_PLACES],
     cuts: &[usize],
 ) -> u64
-    requires { ⌜ HeadTimed locations (now legs) depot (now route) (now forward) (now cuts) ⌝ }
-    ensures { λ r. ⌜ HeadClock locations (now (legs .entry)) depot (now (route .entry)) (now (cuts .entry)) r ⌝ }
+    requires { ⌜ HeadTimed locations (now legs) depot (now route) (now forward) (now stayed) (now cuts) ⌝ }
+    ensures { λ r. ⌜ HeadClock locations (now (legs .entry)) depot (now (route .entry)) (now (stayed .entry)) (now (cuts .entry)) r ⌝ }
 {
     let first = cuts[0];
     if first == 0 {
         return 0;
     }
-    deadlines::arrival(locations, legs, depot, route, forward, first - 1)
+    deadlines::left_at(locations, legs, depot, route, forward, stayed, first - 1)
 }

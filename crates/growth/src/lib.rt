@@ -1,5 +1,6 @@
 // The due of a segment, the second before which it must be left, as it stands and reversed: grown stop by stop. No entry: crate dues calls it.
 use costs::least;
+use theory::CUT_PLACES;
 use theory::STOPS;
 ghost use Prim.Native.Nat.{_+_};
 ghost use lib.Seq.{slice};
