@@ -1,18 +1,20 @@
 -- Lists of rules that are judged in parts, over plain values. Assumes nothing.
-use mathlib.Core.Path.{_≡_, refl, sym, ap, ap₂, _∙_}
+use mathlib.Core.Path.{_≡_, refl, sym, ap₂, _∙_}
 use mathlib.Core.Bool.{Bool, true, false, cond}
-use mathlib.Core.List.{List, [], _∷_}
+use mathlib.Core.List.{List, [], _∷_, _++_}
 use Prim.Native.Nat.{ℕ, _≤_, _*_}
 use native.Mathlib.Omega.{arith}
 use lib.Dec.{ltb}
 use lib.Ieee.{Float}
 use lib.ListN.{length}
 use borrow.Author.Tests.{ltb-false}
-use Rattle.theory.specs.Refusals.{Rule, number, either, refusal, cut-count, leg-table, deadline-list, leg-sizes, known-stops, stop-count, pattern-index, known-rounds, round-lists, nearby-input, room}
-use Rattle.theory.proofs.Refusals.{passed, either-zero, either-assoc, three-then, four-then, applies-first, passed-over}
+use Rattle.theory.specs.Tables.{Tables, Fleet}
+use Rattle.theory.specs.Refusals.{Rule, number, either, refusal, cut-count, leg-table, leg-sizes, known-stops, stop-count, pattern-index, nearby-input, room, table-rules}
+use Rattle.theory.proofs.Refusals.{Passes, passed, either-zero, either-assoc, four-then, applies-first, passed-over}
 use Rattle.theory.proofs.LastRule.{early, room-last}
-use Rattle.theory.proofs.Judged.{cut-count-fine}
-use Rattle.judging.specs.Rules.{pattern-rules, route-length-rules, run-rules, nearby-rules, with-room}
+use Rattle.theory.proofs.Judged.{cut-count-fine, room-fine}
+use Rattle.refusals.proofs.Either.{tables-then}
+use Rattle.judging.specs.Rules.{pattern-rules, route-length-rules, rounds-rules, run-rules, nearby-rules, with-room}
 
 -- The rules of the route, and then the others.
 pub route-then : (locations : ℕ) (legs : List ℕ) (depot : ℕ) (route : List ℕ) (rest : ℕ) →
@@ -21,15 +23,6 @@ pub route-then : (locations : ℕ) (legs : List ℕ) (depot : ℕ) (route : List
 unfolding refusal
 route-then locations legs depot route rest =
     four-then (number (leg-table locations legs)) (number (leg-sizes legs)) (number (known-stops locations depot route)) (number (stop-count (length route))) rest
-
--- The rules of the tables, and then the others.
-tables-then : (locations : ℕ) (legs latest : List ℕ) (rest : ℕ) →
-    either (refusal (leg-table locations legs ∷ deadline-list locations latest ∷ leg-sizes legs ∷ [])) rest
-    ≡ either (number (leg-table locations legs)) (either (number (deadline-list locations latest)) (either (number (leg-sizes legs)) rest))
-unfolding refusal
-tables-then locations legs latest rest =
-    ap (λ x. either (either (number (leg-table locations legs)) (either (number (deadline-list locations latest)) x)) rest) (either-zero (number (leg-sizes legs)))
-    ∙ three-then (number (leg-table locations legs)) (number (deadline-list locations latest)) (number (leg-sizes legs)) rest
 
 by-5 : (b : Bool) → _≡_ {A = ℕ} (cond b 5 0) 0 → b ≡ false
 by-5 true z = absurd (omega arith)
@@ -63,14 +56,19 @@ before-room rules before needed lent a p h = applies-first a (refusal rules) (nu
 pub room-left : (rules : List Rule) → early rules ≡ true → (needed lent a b : ℕ) → a ≡ refusal rules → b ≡ number (room needed lent) → a ≡ 0 → b ≡ refusal (with-room rules needed lent)
 room-left rules before needed lent a b p q h = q ∙ passed-over a (refusal rules) (number (room needed lent)) p h ∙ sym (room-last rules needed lent before)
 
+-- What passes the rules of two parts passes those of each.
+pub both-pass : (rs ss : List Rule) → Passes (rs ++ ss) → Passes rs × Passes ss
+both-pass [] ss p = (tt, p)
+both-pass (r ∷ rs) ss p = let q = both-pass rs ss (p .1) in ((p .0, q .0), q .1)
+
+pub pass-with-room : (rules : List Rule) (needed lent : ℕ) → Passes (with-room rules needed lent) → Passes rules × (needed ≤ lent)
+pass-with-room rules needed lent p = let q = both-pass rules (room needed lent ∷ []) p in (q .0, room-fine needed lent (q .1 .0))
+
 -- k, the tables, the rounds.
-pub run-parts : (k locations : ℕ) (legs latest stops lengths depots pins : List ℕ) (lent a b c : ℕ) → a ≡ number (cut-count k) →
-    b ≡ refusal (leg-table locations legs ∷ deadline-list locations latest ∷ leg-sizes legs ∷ []) →
-    c ≡ refusal (known-rounds locations depots stops ∷ round-lists lengths depots pins (length stops) ∷ room (4 * length lengths) lent ∷ []) →
-    either a (either b c) ≡ refusal (run-rules k locations legs latest stops lengths depots pins lent)
+pub run-parts : (k : ℕ) (T : Tables) (F : Fleet) (lent a b c : ℕ) → a ≡ number (cut-count k) → b ≡ refusal (table-rules T) →
+    c ≡ refusal (with-room (rounds-rules (T .locations) F) (4 * length (F .lengths)) lent) → either a (either b c) ≡ refusal (run-rules k T F lent)
 unfolding refusal
-run-parts k locations legs latest stops lengths depots pins lent a b c p q r =
-    ap₂ either p (ap₂ either q r ∙ tables-then locations legs latest (either (number (known-rounds locations depots stops)) (either (number (round-lists lengths depots pins (length stops))) (either (number (room (4 * length lengths) lent)) 0))))
+run-parts k T F lent a b c p q r = ap₂ either p (ap₂ either q r ∙ tables-then T _)
 
 -- k and n, and then the input and the room for the sets.
 module _ (n : ℕ) (distances : List Float) (k m neighbours lent a : ℕ) (sized : a ≡ either (number (cut-count k)) (number (stop-count n))) where

@@ -1,11 +1,12 @@
 // What a call was handed, judged by its list of rules: the first number in the one order whose rule applies, or 0. Apply, undo and doable are judged in crate
 // cut_moves, the deadline check in crate refusals. No entry: crates mittenschist and text call it.
 ghost use mathlib.Core.Path.{_≡_};
-ghost use mathlib.Core.List.{[], _∷_};
+ghost use mathlib.Core.List.{_∷_};
 ghost use Prim.Native.Nat.{_+_, _*_};
 ghost use lib.ListN.{length};
-ghost use Rattle.theory.specs.Refusals.{refusal, cut-count, leg-table, deadline-list, leg-sizes, known-rounds, round-lists, room, problem-rules};
-ghost use Rattle.judging.specs.Rules.{pattern-rules, next-cut-set-rules, reconnect-rules, route-length-rules, delta-rules, polish-rules, run-rules, nearby-rules, with-room};
+ghost use Rattle.theory.specs.Tables.{tables, trip, fleet};
+ghost use Rattle.theory.specs.Refusals.{refusal, cut-count, problem-rules};
+ghost use Rattle.judging.specs.Rules.{pattern-rules, next-cut-set-rules, reconnect-rules, route-length-rules, delta-rules, rounds-rules, run-rules, nearby-rules, with-room};
 
 pub fn pattern_refusal(k: usize, pattern: usize) -> u32
     ensures { λ r. ⌜ r ≡ refusal (pattern-rules k pattern) ⌝ }
@@ -86,7 +87,7 @@ pub fn question_refusal(
     depot: u32,
     route: &[u32],
 ) -> u32
-    ensures { λ r. ⌜ r ≡ refusal (cut-count k ∷ problem-rules locations (now (legs .entry)) (now (latest .entry)) depot (now (route .entry))) ⌝ }
+    ensures { λ r. ⌜ r ≡ refusal (cut-count k ∷ problem-rules (trip locations (now (legs .entry)) (now (latest .entry)) depot) (now (route .entry))) ⌝ }
 {
     let bad_k = refusals::check_cut_count(k);
     let bad_problem = refusals::check_problem(locations, legs, latest, depot, route);
@@ -102,20 +103,11 @@ pub fn polish_refusal(
     route: &[u32],
     lent: usize,
 ) -> u32
-    ensures { λ r. ⌜ r ≡ refusal (polish-rules k locations (now (legs .entry)) (now (latest .entry)) depot (now (route .entry)) lent) ⌝ }
+    ensures { λ r. ⌜ r ≡ refusal (with-room (cut-count k ∷ problem-rules (trip locations (now (legs .entry)) (now (latest .entry)) depot) (now (route .entry))) 5 lent) ⌝ }
 {
     let bad_question = question_refusal(k, locations, legs, latest, depot, route);
     let bad_room = refusals::check_room(5, lent);
     refusals::first(bad_question, bad_room)
-}
-
-fn tables_refusal(locations: usize, legs: &[u32], latest: &[u32]) -> u32
-    ensures { λ r. ⌜ r ≡ refusal (leg-table locations (now (legs .entry)) ∷ deadline-list locations (now (latest .entry)) ∷ leg-sizes (now (legs .entry)) ∷ []) ⌝ }
-{
-    let bad_table = refusals::check_leg_table(locations, legs);
-    let bad_latest = refusals::check_deadline_list(locations, latest);
-    let bad_legs = refusals::check_leg_sizes(legs);
-    refusals::first(bad_table, refusals::first(bad_latest, bad_legs))
 }
 
 fn rounds_refusal(
@@ -126,7 +118,7 @@ fn rounds_refusal(
     pins: &[u8],
     lent: usize,
 ) -> u32
-    ensures { λ r. ⌜ r ≡ refusal (known-rounds locations (now (depots .entry)) (now (stops .entry)) ∷ round-lists (now (lengths .entry)) (now (depots .entry)) (now (pins .entry)) (length (now (stops .entry))) ∷ room (4 * length (now (lengths .entry))) lent ∷ []) ⌝ }
+    ensures { λ r. ⌜ r ≡ refusal (with-room (rounds-rules locations (fleet (now (stops .entry)) (now (lengths .entry)) (now (depots .entry)) (now (pins .entry)))) (4 * length (now (lengths .entry))) lent) ⌝ }
 {
     let bad_stops = round_refusals::check_known_rounds(locations, depots, stops);
     let bad_rounds = round_refusals::check_round_lists(lengths, depots, pins, stops.len());
@@ -145,10 +137,10 @@ pub fn run_refusal(
     pins: &[u8],
     lent: usize,
 ) -> u32
-    ensures { λ r. ⌜ r ≡ refusal (run-rules k locations (now (legs .entry)) (now (latest .entry)) (now (stops .entry)) (now (lengths .entry)) (now (depots .entry)) (now (pins .entry)) lent) ⌝ }
+    ensures { λ r. ⌜ r ≡ refusal (run-rules k (tables locations (now (legs .entry)) (now (latest .entry))) (fleet (now (stops .entry)) (now (lengths .entry)) (now (depots .entry)) (now (pins .entry))) lent) ⌝ }
 {
     let bad_k = refusals::check_cut_count(k);
-    let bad_tables = tables_refusal(locations, legs, latest);
+    let bad_tables = refusals::check_tables(locations, legs, latest);
     let bad_rounds = rounds_refusal(locations, stops, lengths, depots, pins, lent);
     refusals::first(bad_k, refusals::first(bad_tables, bad_rounds))
 }

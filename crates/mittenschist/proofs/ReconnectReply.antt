@@ -27,8 +27,8 @@ module _ (k pattern : ℕ) (cuts route out : List ℕ) (number : ℕ) (judged : 
     fine =
         let p = taken-passes (reconnect-rules k pattern cuts (length route) (length out)) number judged refl h in
         record {
-          cut-set = cuts-fine k (length route) cuts (p .0) (p .1 .0) (p .1 .1 .1 .0);
-          listed = pattern-fine k pattern (p .1 .1 .0);
+          cut-set = cuts-fine k (length route) cuts (p .1 .0) (p .1 .1 .0) (p .1 .1 .1 .0);
+          listed = pattern-fine k pattern (p .0);
           room = room-fine (length route) (length out) (p .1 .1 .1 .1 .0);
         }
 

@@ -4,7 +4,8 @@ ghost use Prim.Native.Nat.{_+_};
 ghost use Rattle.theory.specs.Route.{tour-length};
 ghost use Rattle.theory.specs.Polish.{move-at};
 ghost use Rattle.theory.specs.Moves.{patterns};
-ghost use Rattle.theory.specs.Tables.{legs-only};
+ghost use Rattle.theory.specs.Tables.{tables, trip, fleet, legs-only};
+ghost use Rattle.theory.specs.Question.{question};
 ghost use Rattle.cut_moves.specs.Entries.{DoMoveReply, UndoReply, doable-rules};
 ghost use Rattle.moves.specs.Moves.{length-change, pattern-values};
 ghost use Rattle.judging.specs.Rules.{route-length-rules, pattern-rules, delta-rules};
@@ -93,7 +94,7 @@ pub fn route_feasible(
     depot: u32,
     route: &[u32],
 ) -> Feasibility
-    ensures { λ r. ⌜ FeasibleReply locations (now (legs .entry)) (now (latest .entry)) depot (now (route .entry)) r ⌝ }
+    ensures { λ r. ⌜ FeasibleReply (trip locations (now (legs .entry)) (now (latest .entry)) depot) (now (route .entry)) r ⌝ }
 {
     let refused = refusals::check_problem(locations, legs, latest, depot, route);
     if refused != 0 {
@@ -115,7 +116,7 @@ pub extern "C" fn mittenschist_polish_route(
     route: &mut [u32],
     result: &mut [u64],
 ) -> u32
-    ensures { λ r. ⌜ PolishReply k allowance locations (now (legs .entry)) (now (latest .entry)) depot (now (route .entry)) (now (result .entry)) r (now (route .exit)) (now (result .exit)) ⌝ }
+    ensures { λ r. ⌜ PolishReply (question k allowance locations (now (legs .entry)) (now (latest .entry)) depot (now (route .entry))) (now (result .entry)) r (now (route .exit)) (now (result .exit)) ⌝ }
 {
     let refused = judging::polish_refusal(
         k,
@@ -224,7 +225,7 @@ pub extern "C" fn mittenschist_route_feasible(
     route: &[u32],
     result: &mut [u64],
 ) -> u32
-    ensures { λ r. ⌜ FeasibleWritten locations (now (legs .entry)) (now (latest .entry)) depot (now (route .entry)) (now (result .entry)) r (now (result .exit)) ⌝ }
+    ensures { λ r. ⌜ FeasibleWritten (trip locations (now (legs .entry)) (now (latest .entry)) depot) (now (route .entry)) (now (result .entry)) r (now (result .exit)) ⌝ }
 {
     let answer = route_feasible(locations, legs, latest, depot, route);
     replies::put_feasibility(answer, route.len(), result)
@@ -285,7 +286,7 @@ pub extern "C" fn mittenschist_run_list_k_opt(
     pins: &[u8],
     result: &mut [u64],
 ) -> u32
-    ensures { λ r. ⌜ RunReply k allowance locations (now (legs .entry)) (now (latest .entry)) (now (stops .entry)) (now (lengths .entry)) (now (depots .entry)) (now (pins .entry)) (now (result .entry)) r (now (stops .exit)) (now (result .exit)) ⌝ }
+    ensures { λ r. ⌜ RunReply k allowance (tables locations (now (legs .entry)) (now (latest .entry))) (fleet (now (stops .entry)) (now (lengths .entry)) (now (depots .entry)) (now (pins .entry))) (now (result .entry)) r (now (stops .exit)) (now (result .exit)) ⌝ }
 {
     let lent = result.len();
     let refused = judging::run_refusal(

@@ -1,21 +1,20 @@
--- What the rules of polishing establish, where none applies. Assumes nothing.
-use mathlib.Core.Path.{_≡_}
-use mathlib.Core.Bool.{false}
+-- What the rules of a route and of polishing establish, where none applies. Assumes nothing.
 use mathlib.Core.List.{List}
 use Prim.Native.Nat.{ℕ}
-use lib.ListN.{length}
-use Rattle.theory.specs.Tables.{Trip}
-use Rattle.theory.specs.Refusals.{cut-count, leg-table, deadline-list, leg-sizes, known-stops, stop-count}
+use Rattle.theory.specs.Tables.{Trip, Timed}
+use Rattle.theory.specs.Refusals.{problem-rules}
+use Rattle.theory.specs.Question.{Question, question-rules}
+use Rattle.theory.proofs.Refusals.{Passes}
 use Rattle.theory.proofs.Judged.{cut-count-fine, measurable-fine, deadlines-fine}
 use Rattle.polishing.specs.Loop.{Polishable}
 
-pub polishable-fine : (k : ℕ) (T : Trip) (route : List ℕ) →
-    cut-count k .1 ≡ false → leg-table (T .tables .locations) (T .tables .legs) .1 ≡ false → deadline-list (T .tables .locations) (T .tables .latest) .1 ≡ false → leg-sizes (T .tables .legs) .1 ≡ false →
-    known-stops (T .tables .locations) (T .depot) route .1 ≡ false → stop-count (length route) .1 ≡ false → Polishable k T route
-polishable-fine k T route a b c d e f =
-    let n = cut-count-fine k a in
+pub timed-fine : (T : Trip) (route : List ℕ) → Passes (problem-rules T route) → Timed T route
+timed-fine T route p =
+    let t = T .tables in
     record {
-      least = n .0;
-      most = n .1;
-      timed = record { measurable = measurable-fine (T .tables .locations) (T .tables .legs) (T .depot) route b d e f; deadlines = deadlines-fine (T .tables .locations) (T .tables .latest) c };
+      measurable = measurable-fine (t .locations) (t .legs) (T .depot) route (p .0) (p .1 .1 .0) (p .1 .1 .1 .0) (p .1 .1 .1 .1 .0);
+      deadlines = deadlines-fine (t .locations) (t .latest) (p .1 .0);
     }
+
+pub polishable-fine : (q : Question) → Passes (question-rules q) → Polishable (q .k) (q .trip) (q .route)
+polishable-fine q p = let n = cut-count-fine (q .k) (p .0) in record { least = n .0; most = n .1; timed = timed-fine (q .trip) (q .route) (p .1) }

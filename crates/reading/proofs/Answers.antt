@@ -7,42 +7,43 @@ use native.Mathlib.Nat.{mul-le-mul}
 use lib.ListN.{length, take, drop, drop-of-length-le}
 use lib.Seq.{drop-cons, take-at, length-take-le}
 use borrow.Author.Tests.{le-leb, lt-leb}
+use Rattle.theory.specs.Tables.{Tables}
 use Rattle.decimal.specs.Text.{ascii}
 use Rattle.lines.specs.Reading.{line-of}
-use Rattle.tables.specs.Tables.{tables}
-use Rattle.reading.specs.Reading.{Heading, header, question, read}
+use Rattle.tables.specs.Tables.{tables-of}
+use Rattle.reading.specs.Reading.{Heading, header, question-of, read}
 
 pub too-long : (t : List ℕ) → 60000 < length t → read t ≡ none
 unfolding read
 too-long t h = rw (lt-leb (length t) 60000 h)
 
 module _ (t : List ℕ) (short : length t ≤ 60000) where
-  whole : read t ≡ question t
+  whole : read t ≡ question-of t
   unfolding read
   whole = rw (le-leb (length t) 60000 short)
 
   pub header-missing : header t ≡ none → read t ≡ none
-  unfolding question bind
+  unfolding question-of bind
   header-missing e = whole ∙ rw e
 
   module _ {h : Heading} {r : List ℕ} (header-read : header t ≡ some (h, r)) where
-    pub tables-missing : tables (h .locations) r ≡ none → read t ≡ none
-    unfolding question bind
+    pub tables-missing : tables-of (h .locations) r ≡ none → read t ≡ none
+    unfolding question-of bind
     tables-missing e = whole ∙ rw (header-read, e)
 
-    module _ {legs latest s : List ℕ} (tables-read : tables (h .locations) r ≡ some ((legs, latest), s)) where
+    module _ {T : Tables} {s : List ℕ} (tables-read : tables-of (h .locations) r ≡ some (T, s)) where
       pub round-missing : line-of (ascii "round=") 30000 s ≡ none → read t ≡ none
-      unfolding question bind
+      unfolding question-of bind
       round-missing e = whole ∙ rw (header-read, tables-read, e)
 
       module _ {stops : List ℕ} (end : ℕ) (round-read : line-of (ascii "round=") 30000 s ≡ some (stops, drop end t)) where
         pub more-left : end < length t → read t ≡ none
-        unfolding question bind
+        unfolding question-of bind
         more-left h = whole ∙ rw (header-read, tables-read, round-read, drop-cons t end 0 h)
 
         pub question-read : length t ≤ end →
-            read t ≡ some (record { k = h .k; allowance = h .allowance; locations = h .locations; depot = h .depot; legs = legs; latest = latest; stops = stops })
-        unfolding question bind
+            read t ≡ some (record { k = h .k; allowance = h .allowance; trip = record { tables = T; depot = h .depot }; route = stops })
+        unfolding question-of bind
         question-read h = whole ∙ rw (header-read, tables-read, round-read, drop-of-length-le t {i = end} h)
 
 -- A part that was lent from the front is at the front.

@@ -4,24 +4,16 @@ use mathlib.Core.List.{List, [], _∷_, map}
 use mathlib.Core.Option.{none, some}
 use Prim.Native.Nat.{ℕ}
 use Prim.Native.String.{String, _++_}
+use Rattle.theory.specs.Question.{Question, question}
 use Rattle.decimal.specs.Text.{ascii, line}
-use Rattle.reading.specs.Question.{Question, legs-lines, written}
+use Rattle.reading.specs.Question.{legs-lines, written}
 use Rattle.reading.specs.Reading.{read}
 
 abbrev far : ℕ
 far = 4294967295
 
 abbrev pub T : Question
-T =
-    record {
-      k = 3;
-      allowance = 100;
-      locations = 3;
-      depot = 0;
-      legs = 0 ∷ 5 ∷ 1 ∷ 1 ∷ 0 ∷ 5 ∷ 5 ∷ 1 ∷ 0 ∷ [];
-      latest = far ∷ far ∷ far ∷ [];
-      stops = 1 ∷ 2 ∷ [];
-    }
+T = question 3 100 3 (0 ∷ 5 ∷ 1 ∷ 1 ∷ 0 ∷ 5 ∷ 5 ∷ 1 ∷ 0 ∷ []) (far ∷ far ∷ far ∷ []) 0 (1 ∷ 2 ∷ [])
 
 abbrev pub T-text : List ℕ
 T-text = ascii "k=3\nallowance=100\nlocations=3\ndepot=0\nlegs=0,5,1\nlegs=1,0,5\nlegs=5,1,0\nlatest=4294967295,4294967295,4294967295\nround=1,2\n"
@@ -41,12 +33,15 @@ until-round = "k=2\nallowance=0\nlocations=1\ndepot=0\nlegs=7\nlatest=9\nround="
 abbrev from-k : String
 from-k = "\nallowance=0\nlocations=1\ndepot=0\nlegs=7\nlatest=9\nround=\n"
 
+abbrev one-location : ℕ → List ℕ → Question
+one-location k route = question k 0 1 (7 ∷ []) (9 ∷ []) 0 route
+
 -- An empty round, and two stops; the largest number.
 pub read-well : map (λ s. read (ascii s)) ((until-round ++ "\n") ∷ (until-round ++ "0,0\n") ∷ ("k=4294967295" ++ from-k) ∷ [])
     ≡ map (λ s. some s) (
-    record { k = 2; allowance = 0; locations = 1; depot = 0; legs = 7 ∷ []; latest = 9 ∷ []; stops = [] }
-    ∷ record { k = 2; allowance = 0; locations = 1; depot = 0; legs = 7 ∷ []; latest = 9 ∷ []; stops = 0 ∷ 0 ∷ [] }
-    ∷ record { k = 4294967295; allowance = 0; locations = 1; depot = 0; legs = 7 ∷ []; latest = 9 ∷ []; stops = [] }
+    one-location 2 []
+    ∷ one-location 2 (0 ∷ 0 ∷ [])
+    ∷ one-location 4294967295 []
     ∷ [])
 unfolding read
 read-well = refl

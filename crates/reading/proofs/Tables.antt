@@ -1,7 +1,7 @@
 -- The legs and the deadlines are read exactly where they are written. Assumes nothing.
-use mathlib.Core.Path.{_≡_, refl, sym, ap, _∙_}
+use mathlib.Core.Path.{_≡_, refl, sym, ap, _∙_, subst}
 use mathlib.Core.List.{List, [], _∷_, _++_, append-assoc}
-use mathlib.Core.Option.{some, bind, bind-eq-some-iff}
+use mathlib.Core.Option.{some, bind, bind-eq-some-iff, Option·some-injective}
 use Prim.Native.Nat.{ℕ, zero, suc, _*_}
 use native.Mathlib.Nat.{suc-mul}
 use native.Mathlib.Omega.{arith}
@@ -11,8 +11,9 @@ use Rattle.decimal.specs.Text.{ascii, line, Small}
 use Rattle.lines.specs.Reading.{before, row}
 use Rattle.tokens.proofs.Numbers.{same-read}
 use Rattle.lines.proofs.Lines.{before-sound, first-read, row-sound, row-complete}
-use Rattle.tables.specs.Tables.{rows, tables}
-use Rattle.reading.specs.Question.{legs-lines}
+use Rattle.theory.specs.Tables.{Tables}
+use Rattle.tables.specs.Tables.{rows, tables-of}
+use Rattle.reading.specs.Question.{legs-lines, tabled, HeldTables}
 
 small-append : (xs ys : List ℕ) → Small xs → Small ys → Small (xs ++ ys)
 small-append [] ys h k = k
@@ -51,33 +52,24 @@ rows-complete (suc m) n xs r h l =
     )
     (rw (rows-complete m n (drop n xs) r (w .1) (simp length-drop (omega arith)), take-append-drop n xs))
 
-pub record Tabled (n : ℕ) (t legs latest r : List ℕ) : Type 0 where
-  pub text : t ≡ legs-lines n n legs ++ (line (ascii "latest=") latest ++ r)
-  pub square : length legs ≡ n * n
-  pub deadlines : length latest ≡ n
-  pub small-legs : Small legs
-  pub small-latest : Small latest
-
-pub tables-sound : (n : ℕ) (t legs latest r : List ℕ) → tables n t ≡ some ((legs, latest), r) → Tabled n t legs latest r
-unfolding tables
-tables-sound n t legs latest r e =
-    first-read (rows n n t) _ ((legs, latest), r) e λ g g-read e₁.
-    first-read (row (ascii "latest=") n (g .1)) _ ((legs, latest), r) e₁ λ l l-read e₂.
-    let k = same-read e₂ in
+pub tables-sound : (n : ℕ) (t : List ℕ) (T : Tables) (r : List ℕ) → tables-of n t ≡ some (T, r) → (t ≡ tabled T r) × (T .locations ≡ n) × HeldTables T
+unfolding tables-of
+tables-sound n t T r e =
+    first-read (rows n n t) _ (T, r) e λ g g-read e₁.
+    first-read (row (ascii "latest=") n (g .1)) _ (T, r) e₁ λ l l-read e₂.
     let g-is = rows-sound n n t (g .0) (g .1) g-read in
     let l-is = row-sound (ascii "latest=") n (g .1) (l .0) (l .1) l-read in
-    let legs-is : g .0 ≡ legs = ap (λ (p : List ℕ × List ℕ). p .0) (k .0) in
-    let latest-is : l .0 ≡ latest = ap (λ (p : List ℕ × List ℕ). p .1) (k .0) in
-    rw (← legs-is, ← latest-is, ← k .1) (record {
-      text = g-is .0 ∙ rw (l-is .0);
-      square = g-is .2;
-      deadlines = l-is .2;
-      small-legs = g-is .1;
-      small-latest = l-is .1;
-    })
+    subst (λ (p : Tables × List ℕ). (t ≡ tabled (p .0) (p .1)) × (p .0 .locations ≡ n) × HeldTables (p .0)) (Option·some-injective _ _ e₂) (
+      g-is .0 ∙ rw (l-is .0),
+      refl,
+      record { sized = record { square = record { square = g-is .2 }; deadlines = l-is .2 }; small-legs = g-is .1; small-latest = l-is .1 },
+    )
 
-pub tables-complete : (n : ℕ) (legs latest r : List ℕ) → Small legs → length legs ≡ n * n → Small latest → length latest ≡ n →
-    tables n (legs-lines n n legs ++ (line (ascii "latest=") latest ++ r)) ≡ some ((legs, latest), r)
-unfolding tables bind
-tables-complete n legs latest r h l k m =
-    rw (rows-complete n n legs (line (ascii "latest=") latest ++ r) h l, row-complete (ascii "latest=") n latest r k m)
+pub tables-complete : (T : Tables) (r : List ℕ) → HeldTables T → tables-of (T .locations) (tabled T r) ≡ some (T, r)
+unfolding tables-of bind
+tables-complete T r h =
+    let n = T .locations in
+    rw (
+      rows-complete n n (T .legs) (line (ascii "latest=") (T .latest) ++ r) (h .small-legs) (h .sized .square .square),
+      row-complete (ascii "latest=") n (T .latest) r (h .small-latest) (h .sized .deadlines),
+    )

@@ -5,10 +5,10 @@ use mathlib.Core.Option.{Option, none, some, bind}
 use Prim.Native.Nat.{ℕ}
 use lib.Dec.{leb}
 use lib.ListN.{length}
+use Rattle.theory.specs.Question.{Question}
 use Rattle.decimal.specs.Text.{ascii}
 use Rattle.lines.specs.Reading.{line-of, value}
-use Rattle.tables.specs.Tables.{tables}
-use Rattle.reading.specs.Question.{Question}
+use Rattle.tables.specs.Tables.{tables-of}
 
 pub record Heading : Type 0 where
   pub k : ℕ
@@ -35,24 +35,14 @@ ended a [] = some a
 ended a (b ∷ t) = none
 
 -- The whole text. One of 60,000 bytes holds fewer than 30,000 stops.
-unfoldable pub question : List ℕ → Option Question
-unfolding header tables line-of bind
-question t =
+unfoldable pub question-of : List ℕ → Option Question
+unfolding header tables-of line-of bind
+question-of t =
     bind (header t) (λ h.
-    bind (tables (h .0 .locations) (h .1)) (λ g.
-    bind (line-of (ascii "round=") 30000 (g .1)) (λ stops.
-    ended
-    (record {
-      k = h .0 .k;
-      allowance = h .0 .allowance;
-      locations = h .0 .locations;
-      depot = h .0 .depot;
-      legs = g .0 .0;
-      latest = g .0 .1;
-      stops = stops .0;
-    })
-    (stops .1))))
+    bind (tables-of (h .0 .locations) (h .1)) (λ g.
+    bind (line-of (ascii "round=") 30000 (g .1)) (λ route.
+    ended (record { k = h .0 .k; allowance = h .0 .allowance; trip = record { tables = g .0; depot = h .0 .depot }; route = route .0 }) (route .1))))
 
 unfoldable pub read : List ℕ → Option Question
-unfolding question
-read t = let q = question t in cond (leb (length t) 60000) q none
+unfolding question-of
+read t = let q = question-of t in cond (leb (length t) 60000) q none

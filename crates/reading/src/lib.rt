@@ -6,8 +6,9 @@ use tables::read_tables;
 use tokens::Number;
 use tokens::Place;
 ghost use mathlib.Core.Path.{_≡_};
+ghost use Rattle.theory.specs.Tables.{tables};
 ghost use Rattle.reading.specs.Reading.{header};
-ghost use Rattle.reading.specs.Told.{start-told, Lent, Answered};
+ghost use Rattle.reading.specs.Told.{start-told, Places, Answered};
 
 // The numbers of a question: the values of its first four lines.
 pub struct Header {
@@ -71,8 +72,8 @@ pub fn read_question(
     latest: &mut [u32],
     stops: &mut [u32],
 ) -> Reading
-    requires { ⌜ Lent (now legs) (now latest) (now stops) ⌝ }
-    ensures { λ r. ⌜ Answered (now (text .entry)) (now (legs .exit)) (now (latest .exit)) (now (stops .exit)) r ⌝ }
+    requires { ⌜ Places (tables 96 (now legs) (now latest)) (now stops) ⌝ }
+    ensures { λ r. ⌜ Answered (now (text .entry)) (tables 96 (now (legs .exit)) (now (latest .exit))) (now (stops .exit)) r ⌝ }
 {
     if text.len() > 60000 {
         return Reading::Malformed;

@@ -1,6 +1,7 @@
 // One small check for each refusal number: the number where its rule applies to the raw input, else 0. No entry: the crates above call them.
 ghost use mathlib.Core.Path.{_≡_};
-ghost use Rattle.theory.specs.Refusals.{either, number, cut-count, leg-table, deadline-list, leg-sizes, known-stops, stop-count, pattern-index, cut-positions, room, refusal, problem-rules, cut-lists, own-round, journal-length};
+ghost use Rattle.theory.specs.Refusals.{either, number, cut-count, leg-table, deadline-list, leg-sizes, known-stops, stop-count, pattern-index, cut-positions, room, refusal, table-rules, problem-rules, cut-lists, own-round, journal-length};
+ghost use Rattle.theory.specs.Tables.{tables, trip};
 ghost use Rattle.patterns.specs.Enumeration.{CutCount};
 
 // The first of two numbers that is not 0.
@@ -141,7 +142,17 @@ pub fn check_journal_length(n: usize, journal: usize) -> u32
     0
 }
 
-// Tables, depot and route together, in the one order.
+// The tables, in the one order.
+pub fn check_tables(locations: usize, legs: &[u32], latest: &[u32]) -> u32
+    ensures { λ r. ⌜ r ≡ refusal (table-rules (tables locations (now (legs .entry)) (now (latest .entry)))) ⌝ }
+{
+    let bad_table = check_leg_table(locations, legs);
+    let bad_latest = check_deadline_list(locations, latest);
+    let bad_legs = check_leg_sizes(legs);
+    first(bad_table, first(bad_latest, bad_legs))
+}
+
+// The tables, and then the depot and a route.
 pub fn check_problem(
     locations: usize,
     legs: &[u32],
@@ -149,13 +160,10 @@ pub fn check_problem(
     depot: u32,
     route: &[u32],
 ) -> u32
-    ensures { λ r. ⌜ r ≡ refusal (problem-rules locations (now (legs .entry)) (now (latest .entry)) depot (now (route .entry))) ⌝ }
+    ensures { λ r. ⌜ r ≡ refusal (problem-rules (trip locations (now (legs .entry)) (now (latest .entry)) depot) (now (route .entry))) ⌝ }
 {
-    let bad_table = check_leg_table(locations, legs);
-    let bad_latest = check_deadline_list(locations, latest);
-    let bad_legs = check_leg_sizes(legs);
+    let bad_tables = check_tables(locations, legs, latest);
     let bad_stops = check_known_stops(locations, depot, route);
     let bad_n = check_stop_count(route.len());
-    let bad_route = first(bad_legs, first(bad_stops, bad_n));
-    first(bad_table, first(bad_latest, bad_route))
+    first(bad_tables, first(bad_stops, bad_n))
 }

@@ -2,21 +2,22 @@
 use mathlib.Core.Path.{_≡_}
 use mathlib.Core.Bool.{false, not, _||_}
 use mathlib.Core.List.{List}
-use Prim.Native.Nat.{ℕ, _*_}
+use Prim.Native.Nat.{ℕ, _*_, _≤_}
 use lib.Dec.{leb, ltb, eqb}
 use lib.ListN.{length, getD}
 use borrow.Author.Tests.{ltb-false, leb-false, eqb-true, not-false}
 use Rattle.theory.specs.Tables.{Tables, Fleet}
 use Rattle.theory.specs.Moves.{total}
-use Rattle.theory.specs.Refusals.{some, cut-count, leg-table, deadline-list, leg-sizes, known-rounds, round-lists, room}
-use Rattle.theory.proofs.Judged.{or-false, none-at, cut-count-fine, table-fine, deadlines-fine, room-fine}
+use Rattle.theory.specs.Refusals.{some, cut-count, known-rounds, round-lists, table-rules}
+use Rattle.theory.proofs.Refusals.{Passes}
+use Rattle.theory.proofs.Judged.{or-false, none-at, cut-count-fine, table-fine, deadlines-fine}
 use Rattle.run.specs.Run.{Runnable}
 
 pub runnable-fine : (k : ℕ) (T : Tables) (F : Fleet) (result : List ℕ) →
-    cut-count k .1 ≡ false → leg-table (T .locations) (T .legs) .1 ≡ false → deadline-list (T .locations) (T .latest) .1 ≡ false → leg-sizes (T .legs) .1 ≡ false →
+    cut-count k .1 ≡ false → Passes (table-rules T) →
     known-rounds (T .locations) (F .depots) (F .stops) .1 ≡ false → round-lists (F .lengths) (F .depots) (F .pins) (length (F .stops)) .1 ≡ false →
-    room (4 * length (F .lengths)) (length result) .1 ≡ false → Runnable k T F result
-runnable-fine k T F result a b c d e f g =
+    4 * length (F .lengths) ≤ length result → Runnable k T F result
+runnable-fine k T F result a t e f g =
     let n = cut-count-fine k a in
     let p = or-false (some (λ s. leb (T .locations) s) (F .depots)) (some (λ s. leb (T .locations) s) (F .stops)) e in
     let many = ltb 64 (length (F .lengths)) in
@@ -31,8 +32,8 @@ runnable-fine k T F result a b c d e f g =
     record {
       least = n .0;
       most = n .1;
-      table = table-fine (T .locations) (T .legs) b d;
-      deadlines = deadlines-fine (T .locations) (T .latest) c;
+      table = table-fine (T .locations) (T .legs) (t .0) (t .1 .1 .0);
+      deadlines = deadlines-fine (T .locations) (T .latest) (t .1 .0);
       stops-known = λ i h. leb-false (T .locations) (getD (F .stops) i 0) (none-at (λ s. leb (T .locations) s) (F .stops) (p .1) i h);
       depots-known = λ i h. leb-false (T .locations) (getD (F .depots) i 0) (none-at (λ s. leb (T .locations) s) (F .depots) (p .0) i h);
       few = ltb-false 64 (length (F .lengths)) (q₄ .0);
@@ -40,5 +41,5 @@ runnable-fine k T F result a b c d e f g =
       depots-each = eqb-true (length (F .depots)) (length (F .lengths)) (not-false _ (q₃ .1));
       pins-each = eqb-true (length (F .pins)) (length (F .lengths)) (not-false _ (q₂ .1));
       end-to-end = eqb-true (total (λ n. n) (F .lengths)) (length (F .stops)) (not-false _ (q₁ .1));
-      room = room-fine (4 * length (F .lengths)) (length result) g;
+      room = g;
     }

@@ -8,13 +8,14 @@ use native.Mathlib.Numerals.{add-one}
 use native.Mathlib.Omega.{arith}
 use lib.ListN.{length, take, drop, length-append, length-take, length-drop}
 use lib.Seq.{take-at, take-all}
+use Rattle.theory.specs.Tables.{tables}
 use Rattle.decimal.specs.Text.{ascii}
 use Rattle.tokens.specs.declared.Place.{Place}
 use Rattle.tokens.specs.declared.Place.the-variants as P
 use Rattle.lines.specs.Reading.{before, row}
 use Rattle.lines.specs.Told.{row-told}
 use Rattle.lines.proofs.Places.{before-none, before-before}
-use Rattle.tables.specs.Tables.{rows, tables, tables-told}
+use Rattle.tables.specs.Tables.{rows, tables-of, tables-told}
 
 -- The rows still to come, behind those that stand in `legs`.
 abbrev pub rows-to-come : List ℕ → ℕ → ℕ → List ℕ → Option (List ℕ × List ℕ)
@@ -53,19 +54,12 @@ pub part-length : (s n : ℕ) (l : List ℕ) → s + n ≤ length l → length (
 part-length s n l h = simp (length-take, length-drop) (omega arith)
 
 -- The tables line by line.
-pub legs-missing : (n : ℕ) (t : List ℕ) → rows n n t ≡ none → tables n t ≡ none
-unfolding tables bind
+pub legs-missing : (n : ℕ) (t : List ℕ) → rows n n t ≡ none → tables-of n t ≡ none
+unfolding tables-of bind
 legs-missing n t e = rw e
 
-module _ (n : ℕ) (t : List ℕ) {legs r : List ℕ} (legs-read : rows n n t ≡ some (legs, r)) where
-  pub latest-missing : row (ascii "latest=") n r ≡ none → tables n t ≡ none
-  unfolding tables bind
-  latest-missing e = rw (legs-read, e)
-
-  pub tables-read : {latest s : List ℕ} → row (ascii "latest=") n r ≡ some (latest, s) → tables n t ≡ some ((legs, latest), s)
-  unfolding tables bind
-  tables-read e = rw (legs-read, e)
-
-  pub latest-told : (text latest : List ℕ) (answer : Place) → row (ascii "latest=") n r ≡ row-told text latest answer → tables n t ≡ tables-told text legs latest answer
-  latest-told text latest P.Nowhere e = latest-missing e
-  latest-told text latest (P.At next) e = tables-read e
+pub latest-told : (n : ℕ) (t : List ℕ) {legs r : List ℕ} → rows n n t ≡ some (legs, r) → (text latest : List ℕ) (answer : Place) →
+    row (ascii "latest=") n r ≡ row-told text latest answer → tables-of n t ≡ tables-told text (tables n legs latest) answer
+unfolding tables-of bind
+latest-told n t legs-read text latest P.Nowhere e = rw (legs-read, e)
+latest-told n t legs-read text latest (P.At next) e = rw (legs-read, e)

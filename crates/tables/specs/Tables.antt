@@ -4,6 +4,7 @@ use mathlib.Core.List.{List, []}
 use mathlib.Core.Option.{Option, none, some, bind}
 use Prim.Native.Nat.{ℕ, zero, suc, _*_}
 use lib.ListN.{length, drop}
+use Rattle.theory.specs.Tables.{Tables, tables}
 use Rattle.decimal.specs.Text.{ascii}
 use Rattle.tokens.specs.declared.Place.{Place}
 use Rattle.tokens.specs.declared.Place.the-variants as P
@@ -15,20 +16,20 @@ unfolding row bind before
 rows zero width t = some ([], t)
 rows (suc m) width t = bind (row (ascii "legs=") width t) (λ r. before (r .0) (rows m width (r .1)))
 
--- The legs and the deadlines.
-unfoldable pub tables : ℕ → List ℕ → Option ((List ℕ × List ℕ) × List ℕ)
+-- The tables of so many locations.
+unfoldable pub tables-of : ℕ → List ℕ → Option (Tables × List ℕ)
 unfolding rows row bind
-tables locations t =
-    bind (rows locations locations t) (λ legs. bind (row (ascii "latest=") locations (legs .1)) (λ latest. some ((legs .0, latest .0), latest .1)))
+tables-of locations t =
+    bind (rows locations locations t) (λ legs. bind (row (ascii "latest=") locations (legs .1)) (λ latest. some (tables locations (legs .0) (latest .0), latest .1)))
 
-abbrev pub tables-told : List ℕ → (legs latest : List ℕ) → Place → Option ((List ℕ × List ℕ) × List ℕ)
-tables-told t legs latest P.Nowhere = none
-tables-told t legs latest (P.At next) = some ((legs, latest), drop next t)
+abbrev pub tables-told : List ℕ → Tables → Place → Option (Tables × List ℕ)
+tables-told t T P.Nowhere = none
+tables-told t T (P.At next) = some (T, drop next t)
 
--- Lent places for the legs, and for both tables, of a question.
+-- As many entries as the locations ask for: of the legs, and of all tables.
 pub record Square (locations : ℕ) (legs : List ℕ) : Type 0 where
   pub square : length legs ≡ locations * locations
 
-pub record Tables (locations : ℕ) (legs latest : List ℕ) : Type 0 where
-  pub square : Square locations legs
-  pub deadlines : length latest ≡ locations
+pub record Sized (T : Tables) : Type 0 where
+  pub square : Square (T .locations) (T .legs)
+  pub deadlines : length (T .latest) ≡ T .locations

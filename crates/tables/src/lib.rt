@@ -3,8 +3,9 @@ use lines::read_row;
 use tokens::Place;
 ghost use mathlib.Core.Path.{_≡_};
 ghost use lib.ListN.{drop};
+ghost use Rattle.theory.specs.Tables.{tables};
 ghost use Rattle.lines.specs.Told.{row-told};
-ghost use Rattle.tables.specs.Tables.{rows, tables, tables-told, Square, Tables};
+ghost use Rattle.tables.specs.Tables.{rows, tables-of, tables-told, Square, Sized};
 
 // The lines of the legs, row after row.
 fn read_rows(text: &[u8], at: usize, locations: usize, legs: &mut [u32]) -> Place
@@ -33,8 +34,8 @@ pub fn read_tables(
     legs: &mut [u32],
     latest: &mut [u32],
 ) -> Place
-    requires { ⌜ Tables locations (now legs) (now latest) ⌝ }
-    ensures { λ r. ⌜ tables locations (drop at (now (text .entry))) ≡ tables-told (now (text .entry)) (now (legs .exit)) (now (latest .exit)) r ⌝ }
+    requires { ⌜ Sized (tables locations (now legs) (now latest)) ⌝ }
+    ensures { λ r. ⌜ tables-of locations (drop at (now (text .entry))) ≡ tables-told (now (text .entry)) (tables locations (now (legs .exit)) (now (latest .exit))) r ⌝ }
 {
     let Place::At(next) = read_rows(text, at, locations, legs) else {
         return Place::Nowhere;

@@ -1,8 +1,10 @@
 // The text program's function from bytes to bytes: it reads a question, judges it, polishes it and prints the answer.
 use reading::Reading;
 use theory::Polished;
+ghost use Rattle.theory.specs.Tables.{tables};
+ghost use Rattle.theory.specs.Question.{question};
 ghost use Rattle.printing.specs.Answer.{answer-text, Printed};
-ghost use Rattle.text.specs.Program.{program, question-text, polished-text, Room, Printable, question-of, Work, Shown};
+ghost use Rattle.text.specs.Program.{program, question-text, polished-text, Room, Printable, Work, Shown};
 
 // Any answer has room.
 fn print_numbers(
@@ -46,7 +48,7 @@ fn answer_question(
     out: &mut [u8],
 ) -> usize
     requires { ⌜ Room (now out) ⌝ }
-    ensures { λ r. ⌜ Printed (question-text (question-of k allowance locations (now (legs .entry)) (now (latest .entry)) depot (now (stops .entry)))) (now (out .entry)) (now (out .exit)) r ⌝ }
+    ensures { λ r. ⌜ Printed (question-text (question k allowance locations (now (legs .entry)) (now (latest .entry)) depot (now (stops .entry)))) (now (out .entry)) (now (out .exit)) r ⌝ }
 {
     let refused = judging::question_refusal(k, locations, legs, latest, depot, &stops[..]);
     if refused != 0 {
@@ -64,7 +66,7 @@ fn answer_text(
     stops: &mut [u32],
     out: &mut [u8],
 ) -> usize
-    requires { ⌜ Work (now legs) (now latest) (now stops) (now out) ⌝ }
+    requires { ⌜ Work (tables 96 (now legs) (now latest)) (now stops) (now out) ⌝ }
     ensures { λ r. ⌜ Printed (program (now (text .entry))) (now (out .entry)) (now (out .exit)) r ⌝ }
 {
     let answer = reading::read_question(text, legs, latest, stops);

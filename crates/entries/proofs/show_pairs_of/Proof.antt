@@ -1,4 +1,5 @@
 -- `entries::show_pairs_of` asks nothing that does not hold: what was judged and taken can be tried. Assumes nothing.
+use Rattle.theory.specs.Tables.{trip}
 use Rattle.mittenschist.proofs.FeasibleReply.{fine}
 use borrow.Author.Needs.{needs}
 use Rattle.entries.proofs.show_pairs_of.Statement.{statement}
@@ -17,7 +18,7 @@ pair-loop-requires : tie.Need-pair-loop-requires
 pair-loop-requires c κs =
     let r = c .before .before .check-problem in
     let s = c .before .before .before .before .before .before .before in
-    fine 5 (s .args .legs .now) (s .args .latest .now) 0 (s .args .route .now) (r .result) (r .ensures) (c .before .if1 .left)
+    fine (trip 5 (s .args .legs .now) (s .args .latest .now) 0) (s .args .route .now) (r .result) (r .ensures) (c .before .if1 .left)
 
 route-length-requires : tie.Need-route-length-requires
 route-length-requires c κs = search needs

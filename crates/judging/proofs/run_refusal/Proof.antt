@@ -1,5 +1,6 @@
 -- `judging::run_refusal` meets its contract: k, the tables, the rounds. Assumes nothing.
 use mathlib.Core.Path.{ap, _∙_}
+use Rattle.theory.specs.Tables.{tables, fleet}
 use Rattle.theory.specs.Refusals.{either}
 use borrow.Author.Needs.{needs}
 use Rattle.judging.proofs.Parts.{run-parts}
@@ -9,8 +10,8 @@ use Rattle.judging.proofs.run_refusal.Tie as tie
 check-cut-count-requires : tie.Need-check-cut-count-requires
 check-cut-count-requires c κs = search needs
 
-tables-refusal-requires : tie.Need-tables-refusal-requires
-tables-refusal-requires c κs = search needs
+check-tables-requires : tie.Need-check-tables-requires
+check-tables-requires c κs = search needs
 
 rounds-refusal-requires : tie.Need-rounds-refusal-requires
 rounds-refusal-requires c κs = search needs
@@ -26,14 +27,14 @@ returns c =
     let s = c .before .before .before .before .before .before .before .before .before .before .before in
     c .first2 .ensures
     ∙ ap (either _) (c .before .first .ensures)
-    ∙ run-parts (s .args .k) (s .args .locations) (s .args .legs .now) (s .args .latest .now) (s .args .stops .now) (s .args .lengths .now) (s .args .depots .now) (s .args .pins .now) (s .args .lent) _ _ _ (c .before .before .before .before .check-cut-count .ensures) (c .before .before .before .tables-refusal .ensures) (c .before .before .rounds-refusal .ensures)
+    ∙ run-parts (s .args .k) (tables (s .args .locations) (s .args .legs .now) (s .args .latest .now)) (fleet (s .args .stops .now) (s .args .lengths .now) (s .args .depots .now) (s .args .pins .now)) (s .args .lent) _ _ _ (c .before .before .before .before .check-cut-count .ensures) (c .before .before .before .check-tables .ensures) (c .before .before .rounds-refusal .ensures)
 
 pub run-refusal-spec : {M : Type 1} → statement M
 run-refusal-spec =
     tie.close
     (tie.spec
     check-cut-count-requires
-    tables-refusal-requires
+    check-tables-requires
     rounds-refusal-requires
     first-requires
     first-requires-2

@@ -4,9 +4,10 @@ use mathlib.Core.Path.{_≡_, sym}
 use mathlib.Core.Option.{some}
 use lib.ListN.{length, take, drop}
 use lib.Seq.{length-take-le}
+use Rattle.theory.specs.Tables.{tables}
 use Rattle.decimal.specs.Text.{ascii}
 use Rattle.lines.specs.Reading.{line-of}
-use Rattle.tables.specs.Tables.{tables}
+use Rattle.tables.specs.Tables.{tables-of}
 use Rattle.reading.specs.Reading.{header}
 use Rattle.reading.proofs.Heading.{header-sound}
 use Rattle.reading.proofs.Answers.{too-long, header-missing, tables-missing, round-missing, more-left, question-read, front-part, cells-few}
@@ -30,7 +31,7 @@ cells c = omega (arith, cells-few (c .header .given .0 .0 .locations) (few c))
 tables-are : (c : tie.After-round) →
     let h = c .before .before .before .before .before .before .before .before .before .before .header .given in
     let t = c .before .before .before .before .before .before .before .before .before .before .before .before .before .before .before .before .before .before .args .text .now in
-    tables (h .0 .0 .locations) (drop (h .0 .1 .0) t) ≡ some ((c .before .before .before .before .before .before .read-tables .last .1 .1 .1 .0, c .before .before .before .before .before .before .read-tables .last .1 .1 .1 .1 .0), drop (c .round .given .0 .0) t)
+    tables-of (h .0 .0 .locations) (drop (h .0 .1 .0) t) ≡ some (tables (h .0 .0 .locations) (c .before .before .before .before .before .before .read-tables .last .1 .1 .1 .0) (c .before .before .before .before .before .before .read-tables .last .1 .1 .1 .1 .0), drop (c .round .given .0 .0) t)
 tables-are c = rw (c .round .given .1) at (c .before .before .before .before .before .before .read-tables .ensures)
 
 round-is : (c : tie.After-count) →
@@ -155,12 +156,12 @@ returns-6 c =
     let s = c .before .before .before .before .before .before .before .before .before .before .before .before .before .before .before .before .before .before .before .before .before .before .before .before .before .before .before .before in
     let h = c .before .before .before .before .before .before .before .before .before .before .before .before .before .before .before .before .before .before .before .before in
     let n = h .header .given .0 .0 .locations in
-    let tables = c .before .before .before .before .before .before .before .before .before .before .before .before .before .before .before .before .read-tables in
+    let read = c .before .before .before .before .before .before .before .before .before .before .before .before .before .before .before .before .read-tables in
     record {
       reads =
           rw (
-            front-part (n * n) (s .args .legs .now) (tables .last .1 .1 .1 .0) (cells h) (tables .kept .1 .1 .1 .0),
-            front-part n (s .args .latest .now) (tables .last .1 .1 .1 .1 .0) (omega (arith, few h)) (tables .kept .1 .1 .1 .1 .0),
+            front-part (n * n) (s .args .legs .now) (read .last .1 .1 .1 .0) (cells h) (read .kept .1 .1 .1 .0),
+            front-part n (s .args .latest .now) (read .last .1 .1 .1 .1 .0) (omega (arith, few h)) (read .kept .1 .1 .1 .1 .0),
           )
           (question-read (s .args .text .now) (h .before .before .before .if1 .left) (header-is h) (tables-are (c .before .before .before .before .before .before .before .before .before .before)) (c .before .before .count .given .0 .1 .0) (round-is (c .before .before)) (c .if2 .left));
       within = rw (c .before .before .count .given .1) at (c .before .before .before .before .before .before .read-line .ensures .within);

@@ -1,10 +1,10 @@
--- `judging::tables_refusal` meets its contract: the checks in the one order. Assumes nothing.
+-- `refusals::check_tables` meets its contract: the checks in the one order. Assumes nothing.
 use mathlib.Core.Path.{sym, ap₂, _∙_}
 use Rattle.theory.specs.Refusals.{either, refusal}
 use Rattle.theory.proofs.Refusals.{either-zero}
 use borrow.Author.Needs.{needs}
-use Rattle.judging.proofs.tables_refusal.Statement.{statement}
-use Rattle.judging.proofs.tables_refusal.Tie as tie
+use Rattle.refusals.proofs.check_tables.Statement.{statement}
+use Rattle.refusals.proofs.check_tables.Tie as tie
 
 check-leg-table-requires : tie.Need-check-leg-table-requires
 check-leg-table-requires c κs = search needs
@@ -29,8 +29,8 @@ returns c =
     let legs = c .before .before .check-leg-sizes .ensures in
     c .first2 .ensures ∙ ap₂ either table (c .before .first .ensures ∙ ap₂ either latest (legs ∙ sym (either-zero _)))
 
-pub tables-refusal-spec : {M : Type 1} → statement M
-tables-refusal-spec =
+pub check-tables-spec : {M : Type 1} → statement M
+check-tables-spec =
     tie.close
     (tie.spec
     check-leg-table-requires
