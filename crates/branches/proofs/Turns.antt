@@ -1,6 +1,6 @@
 -- The walk as the recursion meets it: one entry with what lies under it, and then the others. Assumes nothing.
 use mathlib.Core.Path.{_≡_, refl, sym, ap, _∙_, subst}
-use mathlib.Core.Bool.{Bool, true, false, cond, _&&_, false≢true}
+use mathlib.Core.Bool.{Bool, true, false, cond, _&&_}
 use mathlib.Core.List.{List, [], _∷_, _++_, map, append-assoc, List·Memᴰ}
 use Prim.Native.Nat.{ℕ, zero, suc, _+_, _-_, _*_, _≤_, _<_}
 use native.Mathlib.Nat.{mul-le-mul, mul-pos, le-refl}
@@ -11,6 +11,7 @@ use lib.ListN.{length, getD, take, drop, set, length-take, drop-of-length-le}
 use lib.Seq.{take-suc-set, drop-cons}
 use lib.Ieee.{Float}
 use borrow.Author.Tests.{leb-true}
+use Rattle.theory.proofs.Judged.{and-true}
 use Rattle.theory.proofs.Index.{mem-getD}
 use Rattle.nearest.specs.Neighbours.{kept, neighbours}
 use Rattle.nearest.proofs.Passing.{of-passing}
@@ -30,15 +31,11 @@ front-last : (front list : List ℕ) → map (λ p. front ++ (p ∷ [])) list �
 front-last front [] = refl
 front-last front (p ∷ list) = ap (λ (r : List (List ℕ)). (front ++ (p ∷ [])) ∷ r) (front-last front list)
 
-and-both : (a b : Bool) → (a && b) ≡ true → (a ≡ true) × (b ≡ true)
-and-both true b e = (refl, e)
-and-both false b e = absurd (false≢true e)
-
 -- What a cut keeps lies at least m behind it, and leaves m for each cut missing.
 pub kept-range : (distances : List Float) (n m count missing cut p : ℕ) → List·Memᴰ p (kept distances n m count missing cut) → (cut + m ≤ p) × (p ≤ n - m * missing)
 unfolding kept
 kept-range distances n m count missing cut p i =
-    let e = and-both (leb (cut + m) p) (leb p (n - m * missing)) (of-passing (λ p. leb (cut + m) p && leb p (n - m * missing)) (neighbours distances n count cut) p i .1) in
+    let e = and-true (leb (cut + m) p) (leb p (n - m * missing)) (of-passing (λ p. leb (cut + m) p && leb p (n - m * missing)) (neighbours distances n count cut) p i .1) in
     (leb-true (cut + m) p (e .0), leb-true p (n - m * missing) (e .1))
 
 pub kept-below : (distances : List Float) (n m count missing cut : ℕ) (list : List ℕ) → list ≡ kept distances n m count missing cut → 1 ≤ m → 0 < missing → cut < n →

@@ -6,14 +6,14 @@ use Prim.Native.Nat.{ℕ, zero, suc, _-_, _≤_, _<_}
 use native.Mathlib.Omega.{arith}
 use native.Mathlib.Decide.{ℕ-discrete, decLt}
 use borrow.Author.Tests.{lt-ltb, le-ltb}
-use lib.ListN.{length, getD, take, drop, drop-of-length-le}
-use lib.Seq.{slice, slice-cons, take-suc, drop-cons, drop-append-le, length-take-le}
+use lib.ListN.{length, getD, take, drop, drop-of-length-le, take-append-drop}
+use lib.Seq.{slice, slice-cons, take-suc, drop-cons, drop-append-le, length-take-le, drop-length}
 use Rattle.theory.specs.Moves.{Rising}
 use Rattle.theory.specs.Route.{segments, reverse-if}
 use Rattle.theory.specs.Costs.{last-of, first-of}
 use Rattle.theory.specs.Tables.{Stops, CutSet}
 use Rattle.theory.proofs.Delta.{gap}
-use Rattle.costs.specs.RouteCosts.{stop-at}
+use Rattle.costs.specs.RouteCosts.{stop-at, first-cuts}
 
 -- ---- first and last stops
 
@@ -83,6 +83,14 @@ tail-at from (c ∷ []) r h = refl
 tail-at from (c ∷ d ∷ cs) r h =
     let e : suc (suc (length cs)) - 1 ≡ suc (suc (length cs) - 1) = omega arith in
     rw e (tail-at c (d ∷ cs) r (omega arith))
+
+pub cuts-parted : (cuts : List ℕ) → 1 ≤ length cuts → cuts ≡ first-cuts cuts ++ (getD cuts (length cuts - 1) 0 ∷ [])
+cuts-parted cuts h =
+    let e : suc (length cuts - 1) ≡ length cuts = omega arith in
+    sym (take-append-drop (length cuts - 1) cuts) ∙ ap (λ l. take (length cuts - 1) cuts ++ l) (drop-cons cuts (length cuts - 1) 0 (omega arith) ∙ ap (λ l. getD cuts (length cuts - 1) 0 ∷ l) (ap (λ n. drop n cuts) e ∙ drop-length cuts))
+
+pub first-many : (cuts : List ℕ) → length (first-cuts cuts) ≡ length cuts - 1
+first-many cuts = length-take-le (length cuts - 1) cuts (omega arith)
 
 cut-within : (low n : ℕ) (cs : List ℕ) (i : ℕ) → Rising low cs n → i < length cs → getD cs i 0 ≤ n
 cut-within low n [] i t h = absurd (omega arith)

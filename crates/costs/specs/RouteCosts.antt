@@ -4,7 +4,7 @@ use mathlib.Core.Bool.{Bool, cond}
 use mathlib.Core.List.{List, []}
 use Prim.Native.Nat.{ℕ, _+_, _-_, _*_, _≤_, _<_}
 use lib.Dec.{ltb}
-use lib.ListN.{length, getD}
+use lib.ListN.{length, getD, take}
 use Rattle.theory.specs.Route.{Problem, segments, tour-length}
 use Rattle.theory.specs.Costs.{last-of, first-of, forward, backward}
 use Rattle.theory.specs.Tables.{legs-only, LegTable, Stops}
@@ -88,3 +88,10 @@ tail-start P route cuts = first-of (getD (segments 0 cuts route) (length cuts) [
 -- The stop behind a cut at c, or the depot.
 abbrev pub stop-at : ℕ → List ℕ → ℕ → ℕ
 stop-at depot route c = cond (ltb c (length route)) (getD route c 0) depot
+
+-- The first cuts of a cut set, and the last.
+abbrev pub first-cuts : List ℕ → List ℕ
+first-cuts cuts = take (length cuts - 1) cuts
+
+abbrev pub last-cut : List ℕ → ℕ
+last-cut cuts = getD cuts (length cuts - 1) 0

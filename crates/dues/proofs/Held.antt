@@ -1,31 +1,18 @@
 -- The dues held of the cut sets with the same first cuts, brought up to the last cut of one of them. Assumes nothing.
-use mathlib.Core.Path.{_≡_, sym, ap, _∙_}
+use mathlib.Core.Path.{_≡_}
 use mathlib.Core.Logic.{_⊎_, inl, inr}
 use mathlib.Core.List.{List, [], _∷_, _++_}
-use Prim.Native.Nat.{ℕ, suc, _+_, _-_, _*_, _≤_, _<_}
+use Prim.Native.Nat.{ℕ, _+_, _-_, _*_, _≤_, _<_}
 use native.Mathlib.Omega.{arith}
-use lib.ListN.{length, getD, set, take, drop, length-set, take-append-drop, List·getD-append}
-use lib.Seq.{slice, drop-cons, drop-length, length-take-le, getD-take, getD-append-seam, getD-set-same, getD-set-other}
+use lib.ListN.{length, getD, set, take, length-set, List·getD-append}
+use lib.Seq.{slice, getD-take, getD-append-seam, getD-set-same, getD-set-other}
 use Rattle.theory.specs.Route.{Clock}
 use Rattle.theory.specs.Tables.{clock-by, CutSet, Tables}
-use Rattle.costs.proofs.Segments.{segment-filled, last-cut}
+use Rattle.costs.specs.RouteCosts.{first-cuts}
+use Rattle.costs.proofs.Segments.{segment-filled, last-cut, cuts-parted, first-many}
 use Rattle.growth.specs.Due.{SegmentDues, GrowableTo}
 use Rattle.dues.specs.Due.{DuesFillable, SegmentsDue, DuesOf, DuesReach, DuesHeld, DuesReachable, DuesReached}
 use Rattle.dues.proofs.Filling.{more-dues, dues-of}
-
--- ---- the first cuts and the last
-
-abbrev first-cuts : List ℕ → List ℕ
-first-cuts cs = take (length cs - 1) cs
-
-parted : (cs : List ℕ) → 1 ≤ length cs → cs ≡ first-cuts cs ++ (getD cs (length cs - 1) 0 ∷ [])
-parted cs h =
-    let e : suc (length cs - 1) ≡ length cs = omega arith in
-    sym (take-append-drop (length cs - 1) cs)
-    ∙ ap (λ l. take (length cs - 1) cs ++ l) (drop-cons cs (length cs - 1) 0 (omega arith) ∙ ap (λ l. getD cs (length cs - 1) 0 ∷ l) (ap (λ n. drop n cs) e ∙ drop-length cs))
-
-many : (cs : List ℕ) → length (first-cuts cs) ≡ length cs - 1
-many cs = length-take-le (length cs - 1) cs (omega arith)
 
 -- ---- a new last cut
 
@@ -79,19 +66,19 @@ module _ {T : Tables} {r sums stayed cs D : List ℕ} (given : DuesReachable T r
         record {
           of = record {
             read = given .read;
-            filled = rw (many cs, start) at (reaching .least);
+            filled = rw (first-many cs, start) at (reaching .least);
             within = reaching .most;
           };
           least = given .behind;
           most = last-cut cs r (given .cut-set);
-          dues = rw (many cs, start) at (last-held C r (first-cuts cs) D (getD D 8 0) (rw (many cs) (omega (arith, given .cut-set .least))) (reaching .due));
+          dues = rw (first-many cs, start) at (last-held C r (first-cuts cs) D (getD D 8 0) (rw (first-many cs) (omega (arith, given .cut-set .least))) (reaching .due));
         }
 
     pub stretched : (s v : ℕ) → SegmentDues C (slice (getD cs (last - 1) 0) (getD cs last 0) r) s v → SegmentsDue C cs r last (set (set D (2 * last - 2) s) (2 * last - 2 + 1) v)
     stretched s v found =
-        rw (many cs, ← (parted cs (omega (arith, given .cut-set .least)))) at
-        (last-replaced C r (first-cuts cs) D (getD D 8 0) (getD cs last 0) s v (rw (many cs) (omega (arith, given .cut-set .least))) (rw (many cs) (omega (arith, given .cut-set .most))) (reaching .due)
-        (rw (many cs, start) found))
+        rw (first-many cs, ← (cuts-parted cs (omega (arith, given .cut-set .least)))) at
+        (last-replaced C r (first-cuts cs) D (getD D 8 0) (getD cs last 0) s v (rw (first-many cs) (omega (arith, given .cut-set .least))) (rw (first-many cs) (omega (arith, given .cut-set .most))) (reaching .due)
+        (rw (first-many cs, start) found))
 
 -- ---- the last cut reached
 
@@ -115,9 +102,9 @@ reached-held {C} {r} {cs} {D} w cut-set =
     record {
       places = w .places;
       held = inr (record {
-        least = rw (w .reach, many cs, getD-take (length cs - 1) cs (length cs - 1 - 1) 0 (omega (arith, cut-set .least))) (segment-filled cs r cut-set (length cs - 1) (omega (arith, cut-set .least)) (omega (arith, cut-set .least)));
+        least = rw (w .reach, first-many cs, getD-take (length cs - 1) cs (length cs - 1 - 1) 0 (omega (arith, cut-set .least))) (segment-filled cs r cut-set (length cs - 1) (omega (arith, cut-set .least)) (omega (arith, cut-set .least)));
         most = rw (w .reach) (last-cut cs r cut-set);
-        due = rw (w .reach, many cs, ← (parted cs (omega (arith, cut-set .least)))) (w .due);
+        due = rw (w .reach, first-many cs, ← (cuts-parted cs (omega (arith, cut-set .least)))) (w .due);
       });
     }
 

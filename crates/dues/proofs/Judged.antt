@@ -1,8 +1,8 @@
 -- Whether a candidate keeps every deadline, part by part, whatever the standing route does: the head is as it was, the middle segments are walked, and the tail is
 -- reached sooner by what the candidate gains. Assumes nothing.
 use mathlib.Core.Path.{_≡_, refl, sym, ap, _∙_}
-use mathlib.Core.Bool.{Bool, true, false, _&&_}
-use mathlib.Core.List.{List, [], _∷_, _++_, flatten, append-assoc, append-nil}
+use mathlib.Core.Bool.{true, false, _&&_}
+use mathlib.Core.List.{List, [], _∷_, _++_, append-assoc}
 use Prim.Native.Nat.{ℕ, zero, suc, _+_, _-_, _*_, _^_, _≤_, _<_}
 use native.Mathlib.Nat.{pow-suc}
 use native.Mathlib.Omega.{arith}
@@ -11,12 +11,12 @@ use lib.ListN.{length, getD, take, drop, length-append, length-drop}
 use lib.Seq.{slice, take-at, drop-at, getD-at, split-at, take-take, getD-take, length-take-le}
 use borrow.Author.Tests.{le-leb}
 use Rattle.theory.specs.Moves.{Pattern, total, upfrom}
-use Rattle.theory.specs.Route.{Problem, Timetable, Clock, timetable-of, clock, segments, reverses, reverse-if, placed, joined, reconnected, path, tour-length, left, timely, on-time, feasible}
+use Rattle.theory.specs.Route.{Problem, Timetable, Clock, timetable-of, clock, segments, reconnected, path, tour-length, left, timely, on-time, feasible}
 use Rattle.theory.specs.Costs.{last-of, first-of}
 use Rattle.theory.specs.Tables.{CutSet, ForK}
 use Rattle.theory.proofs.Clock.{path-step, timely-on-time}
 use Rattle.theory.proofs.Costs.{path-append, delta}
-use Rattle.theory.proofs.Delta.{even-head, small-tail, flatten-append, placed-append, changes-nothing}
+use Rattle.theory.proofs.Delta.{joined-split, even-head, small-tail, changes-nothing}
 use Rattle.theory.proofs.ForK.{for-k-order}
 use Rattle.theory.proofs.Moves.{total-append}
 use Rattle.theory.proofs.Route.{flatten-segments, length-segments, total-placed, total-reconnected}
@@ -90,12 +90,6 @@ module _ (P : Problem) (h m m′ : List ℕ) (same : total (P .service) m′ ≡
 
 -- ---- a candidate
 
-joined-parts : (o : List ℕ) (k mask : ℕ) (ps : List (List ℕ)) → reverses mask 0 ≡ false → reverses mask k ≡ false →
-    joined (record { order = 0 ∷ (o ++ (k ∷ [])); mask = mask }) ps ≡ getD ps 0 [] ++ (flatten (placed mask ps o) ++ getD ps k [])
-unfolding joined placed reverse-if flatten
-joined-parts o k mask ps h t =
-    rw (h, placed-append mask ps o (k ∷ []), flatten-append (placed mask ps o), t, append-nil (getD ps k []))
-
 pub candidate-parts : (r cs : List ℕ) (p : Pattern) → 2 ≤ length cs → ForK (length cs) (p .order) (p .mask) →
     reconnected (record { cuts = cs; pattern = p }) r ≡ head r cs ++ (middle r cs (p .order) (p .mask) ++ tail r cs)
 unfolding reconnected
@@ -103,7 +97,7 @@ candidate-parts r cs p two f =
     let many : length cs ≡ suc (length cs - 1) = omega arith in
     let e : 2 ^ (length cs) ≡ 2 ^ (length cs - 1) * 2 = ap (λ n. 2 ^ n) many ∙ pow-suc 2 (length cs - 1) in
     rw (middle-is (length cs) (p .order) (p .mask) two f, f .order-is, f .mask-is)
-    (joined-parts (f .middle) (length cs) (2 * f .bits) (segments 0 cs r) (even-head (f .bits)) (small-tail (2 * f .bits) (length cs) (omega (arith, f .few, e))))
+    (joined-split (f .middle) (length cs) (2 * f .bits) (segments 0 cs r) (even-head (f .bits)) (small-tail (2 * f .bits) (length cs) (omega (arith, f .few, e))))
 
 some-bits : (n : ℕ) → 0 < 2 ^ n
 some-bits zero = omega arith

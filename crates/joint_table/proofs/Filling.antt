@@ -6,12 +6,12 @@ use Prim.Native.Nat.{ℕ, _+_, _*_, _^_, _≤_, _<_}
 use native.Mathlib.Omega.{arith}
 use native.Mathlib.Decide.{decLt}
 use borrow.Author.Count.{below-more}
-use lib.ListN.{length, getD, set, length-set}
+use lib.ListN.{length, getD, set}
 use lib.Seq.{getD-set-same, getD-set-other}
 use Rattle.theory.specs.Costs.{first-of, inner}
 use Rattle.costs.specs.RouteCosts.{leg}
 use Rattle.joints.specs.States.{state-count, placed-in}
-use Rattle.joints.specs.JointTable.{cell, Padded, JointRow, JointTable, Joinable, StateEnds, Fillable, RowFilled}
+use Rattle.joints.specs.JointTable.{cell, JointRow, JointTable, Joinable, StateEnds, Fillable, RowFilled}
 use Rattle.joint_table.specs.Filling.{CellsFilled, StatesFilled}
 use Rattle.joints.proofs.Rows.{padded-set}
 use Rattle.joints.proofs.Ends.{inside-is, inside-small, entry-known, exit-known}

@@ -101,7 +101,7 @@ pub fn polish_route(
     )
 }
 
-fn put_numbers(state: u64, counts: Counts, result: &mut [u64])
+fn put_five(state: u64, counts: Counts, result: &mut [u64])
     requires { ⌜ 5 ≤ length (now result) ⌝ }
     ensures { λ _. ⌜ now (result .exit) ≡ state ∷ counts .examined ∷ counts .accepted ∷ counts .before ∷ counts .after ∷ drop 5 (now (result .entry)) ⌝ }
 {
@@ -118,7 +118,7 @@ pub fn put_polished(answer: Polished, result: &mut [u64])
     ensures { λ _. ⌜ now (result .exit) ≡ polish-values answer ++ drop 5 (now (result .entry)) ⌝ }
 {
     match answer {
-        Polished::Finished(counts) => put_numbers(0, counts, result),
-        Polished::Spent(counts) => put_numbers(1, counts, result),
+        Polished::Finished(counts) => put_five(0, counts, result),
+        Polished::Spent(counts) => put_five(1, counts, result),
     }
 }

@@ -1,7 +1,7 @@
 -- The test of a last cut: what it reads is known, and where it fails no pattern gains. Assumes nothing.
 use mathlib.Core.Path.{_≡_, refl, sym, ap, _∙_}
 use mathlib.Core.Bool.{Bool, true, false, cond}
-use mathlib.Core.Logic.{_⊎_, inl, inr}
+use mathlib.Core.Logic.{inl, inr}
 use mathlib.Core.List.{List, [], _∷_, _++_}
 use Prim.Native.Nat.{ℕ, suc, _+_, _-_, _*_, _^_, _≤_, _<_}
 use native.Mathlib.Omega.{arith}
@@ -12,20 +12,21 @@ use lib.ListN.{length, getD, replicate, length-append}
 use lib.Seq.{getD-at}
 use Rattle.theory.specs.Costs.{first-of, inner}
 use Rattle.theory.specs.Tables.{legs-only, CutSet}
-use Rattle.costs.specs.RouteCosts.{leg, Spanned, span, RouteCosts, head-end, tail-start, stop-at}
+use Rattle.costs.specs.RouteCosts.{leg, Spanned, span, RouteCosts, head-end, tail-start, stop-at, first-cuts, last-cut}
 use Rattle.costs.proofs.Placing as Placing
 use Rattle.costs.proofs.Segments as Segments
 use Rattle.joints.specs.States.{placed-in}
 use Rattle.joints.specs.JointTable.{Joinable}
 use Rattle.joints.proofs.Ends.{inside-is, inside-small, entry-known, exit-known, head-below}
 use Rattle.shared.specs.Bound.{exit-of, opened, last-state}
-use Rattle.shared.specs.Kept.{Cut, Kept, first-cuts, last-cut}
+use Rattle.shared.specs.Kept.{Cut, Kept}
 use Rattle.room.specs.Room.{NoGain}
 use Rattle.room.specs.Tests.{LeastInto, LeastOut, IntoFits, OutFits, RoomTestable, RoomTested, Nextable, NextRoom}
 use Rattle.room.proofs.Bound.{Before, After, NoRoom}
 use Rattle.room.proofs.Shared.{other-cut, last-two, same-head, P-is, back-exit, first-set}
 use Rattle.room.proofs.NoGain.{no-gain}
-use Rattle.shared.proofs.Keeping.{cuts-parted, first-many, first-at, no-cells}
+use Rattle.costs.proofs.Segments.{cuts-parted, first-many}
+use Rattle.shared.proofs.Keeping.{first-at, no-cells}
 
 module _ {locations : ℕ} {legs : List ℕ} {depot : ℕ} {r forwards backwards cuts : List ℕ} (cut : Cut locations legs depot r forwards backwards cuts) where
   abbrev pub pre : List ℕ

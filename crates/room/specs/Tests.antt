@@ -5,8 +5,8 @@ use mathlib.Core.List.{List, []}
 use Prim.Native.Nat.{ℕ, _+_, _-_, _*_, _^_, _≤_, _<_}
 use lib.ListN.{length, getD}
 use Rattle.theory.specs.Tables.{legs-only, LegTable}
-use Rattle.costs.specs.RouteCosts.{leg, head-end}
-use Rattle.shared.specs.Kept.{Cut, Kept, Places, first-cuts, last-cut}
+use Rattle.costs.specs.RouteCosts.{leg, head-end, first-cuts, last-cut}
+use Rattle.shared.specs.Kept.{Cut, Kept, Places}
 use Rattle.room.specs.Room.{NoGain}
 
 -- The states before P, to be entered from a known stop.

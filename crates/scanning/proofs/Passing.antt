@@ -16,13 +16,12 @@ use Rattle.theory.specs.Polish.{search-of, polish-with, move-at}
 use Rattle.theory.specs.Tables.{problem, clock-by, CutSet, pattern-rows, Trip}
 use Rattle.theory.proofs.Polishing.{within, as-long, gained, passed, finishes, is-spent}
 use Rattle.cuts.specs.Step.{found, or-kept, Stepped}
-use Rattle.costs.specs.RouteCosts.{leg, Sums}
-use Rattle.costs.proofs.Segments.{cut-below}
+use Rattle.costs.specs.RouteCosts.{leg, Sums, first-cuts, last-cut}
+use Rattle.costs.proofs.Segments.{cut-below, cuts-parted}
 use Rattle.deadlines.specs.Lateness.{Latenesses}
 use Rattle.deadlines.proofs.Lateness.{none-late, kept-not-late, kept-head}
 use Rattle.joints.specs.JointTable.{Padded}
-use Rattle.shared.specs.Kept.{Opened, first-cuts, last-cut}
-use Rattle.shared.proofs.Keeping.{cuts-parted, first-many}
+use Rattle.shared.specs.Kept.{Opened}
 use Rattle.stretches.specs.declared.Stretch.{Stretch}
 use Rattle.stretches.specs.Stretch.{Stretchable, Ended, Stretched}
 use Rattle.taking.specs.Candidate.{candidate, Candidate}

@@ -8,14 +8,15 @@ use native.Mathlib.Omega.{arith}
 use native.Mathlib.Decide.{ℕ-discrete, decLt}
 use borrow.Author.Tests.{eq-eqb, ne-eqb, lt-ltb}
 use lib.Dec.{eqb}
-use lib.ListN.{length, getD, set, take, drop, replicate, length-set, length-append, length-map, length-replicate, take-append-drop}
-use lib.Seq.{getD-set-same, getD-set-other, drop-cons, length-take-le, getD-take, drop-length, take-at, getD-at}
+use lib.ListN.{length, getD, set, replicate, length-set, length-append, length-map, length-replicate}
+use lib.Seq.{getD-set-same, getD-set-other, getD-take, take-at, getD-at}
 use Rattle.theory.specs.Moves.{upfrom}
 use Rattle.theory.specs.Route.{segments}
 use Rattle.theory.specs.Costs.{last-of}
 use Rattle.theory.specs.Tables.{legs-only}
 use Rattle.theory.proofs.Moves.{length-upfrom, upfrom-range}
-use Rattle.costs.specs.RouteCosts.{leg, head-end}
+use Rattle.costs.specs.RouteCosts.{leg, head-end, first-cuts, last-cut}
+use Rattle.costs.proofs.Segments.{cuts-parted, first-many}
 use Rattle.joints.specs.States.{state-count, state-of, standing-row, row, placed-in}
 use Rattle.joints.specs.JointTable.{cell, chain, Padded, Joinable, StateEnds}
 use Rattle.joints.proofs.States.{state-below}
@@ -23,19 +24,11 @@ use Rattle.joints.proofs.Rows.{set-small, row-read}
 use Rattle.joints.proofs.Ends.{inside-is, inside-small, entry-known, exit-known, head-below}
 use Rattle.joints.proofs.Chain as Chain
 use Rattle.shared.specs.Bound.{chain-by, class, exit-of, fixed-by, opened}
-use Rattle.shared.specs.Kept.{Kept, Opened, first-cuts, last-cut}
+use Rattle.shared.specs.Kept.{Kept, Opened}
 use Rattle.shared.specs.Filling.{fixed-cell, Fixable, FixedTable, LowOf, Keepable, KeptNow}
 use Rattle.shared.proofs.Padding as Padding
 
 -- ---- the first cuts and the last
-
-pub cuts-parted : (cuts : List ℕ) → 1 ≤ length cuts → cuts ≡ first-cuts cuts ++ (last-cut cuts ∷ [])
-cuts-parted cuts h =
-    let e : suc (length cuts - 1) ≡ length cuts = omega arith in
-    sym (take-append-drop (length cuts - 1) cuts) ∙ ap (λ l. take (length cuts - 1) cuts ++ l) (drop-cons cuts (length cuts - 1) 0 (omega arith) ∙ ap (λ l. last-cut cuts ∷ l) (ap (λ n. drop n cuts) e ∙ drop-length cuts))
-
-pub first-many : (cuts : List ℕ) → length (first-cuts cuts) ≡ length cuts - 1
-first-many cuts = length-take-le (length cuts - 1) cuts (omega arith)
 
 pub first-at : (cuts : List ℕ) (i : ℕ) → i < length cuts - 1 → getD (first-cuts cuts) i 0 ≡ getD cuts i 0
 first-at cuts i h = getD-take (length cuts - 1) cuts i 0 h

@@ -7,11 +7,11 @@ use Prim.Native.Nat.{ℕ, suc, _+_, _-_, _*_, _^_, _≤_, _<_}
 use lib.Dec.{eqb, ltb}
 use lib.ListN.{length, getD}
 use Rattle.theory.specs.Tables.{LegTable}
-use Rattle.costs.specs.RouteCosts.{leg}
+use Rattle.costs.specs.RouteCosts.{leg, first-cuts}
 use Rattle.joints.specs.States.{row}
 use Rattle.joints.specs.JointTable.{cell, chain, Padded, EndPlaces}
 use Rattle.shared.specs.Bound.{class}
-use Rattle.shared.specs.Kept.{Cut, RowsFit, Places, Opened, Kept, first-cuts}
+use Rattle.shared.specs.Kept.{Cut, RowsFit, Places, Opened, Kept}
 
 -- ---- the least cost of each class
 

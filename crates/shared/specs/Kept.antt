@@ -2,10 +2,10 @@
 use mathlib.Core.Path.{_≡_}
 use mathlib.Core.List.{List}
 use Prim.Native.Nat.{ℕ, suc, _-_, _*_, _^_, _≤_, _<_}
-use lib.ListN.{length, getD, take}
+use lib.ListN.{length, getD}
 use Rattle.theory.specs.Costs.{last-of, first-of, inner, forward, backward}
 use Rattle.theory.specs.Tables.{legs-only, Measurable, CutSet}
-use Rattle.costs.specs.RouteCosts.{leg, Sums, head-end}
+use Rattle.costs.specs.RouteCosts.{leg, Sums, head-end, last-cut}
 use Rattle.joints.specs.States.{standing-row, row, placed-in}
 use Rattle.joints.specs.JointTable.{EndPlaces}
 use Rattle.shared.specs.Bound.{chain-by, class, fixed-by, opened, last-state}
@@ -41,12 +41,6 @@ pub record Cut (locations : ℕ) (legs : List ℕ) (depot : ℕ) (route forward-
   pub forwards : Sums route (forward (leg locations legs) route) forward-sums
   pub backwards : Sums route (backward (leg locations legs) route) backward-sums
   pub cut-set : CutSet (length cuts) (length route) cuts
-
-abbrev pub first-cuts : List ℕ → List ℕ
-first-cuts cuts = take (length cuts - 1) cuts
-
-abbrev pub last-cut : List ℕ → ℕ
-last-cut cuts = getD cuts (length cuts - 1) 0
 
 -- The cut set is the first with its first cuts.
 abbrev pub Opened : List ℕ → Type 0

@@ -35,7 +35,7 @@ pub fn examined(state: RoundState) -> u64
     }
 }
 
-fn put_numbers(number: u64, examined: u64, accepted: u64, applied: u64, result: &mut [u64])
+fn put_four(number: u64, examined: u64, accepted: u64, applied: u64, result: &mut [u64])
     requires { ⌜ 4 ≤ length (now result) ⌝ }
     ensures { λ _. ⌜ now (result .exit) ≡ number ∷ examined ∷ accepted ∷ applied ∷ drop 4 (now (result .entry)) ⌝ }
 {
@@ -51,13 +51,13 @@ pub fn put_state(state: RoundState, result: &mut [u64])
     ensures { λ _. ⌜ now (result .exit) ≡ round-values state ++ drop 4 (now (result .entry)) ⌝ }
 {
     match state {
-        RoundState::NotReached => put_numbers(0, 0, 0, 0, result),
-        RoundState::Pinned => put_numbers(1, 0, 0, 0, result),
-        RoundState::Short => put_numbers(2, 0, 0, 0, result),
-        RoundState::Unchanged(examined) => put_numbers(3, examined, 0, 0, result),
+        RoundState::NotReached => put_four(0, 0, 0, 0, result),
+        RoundState::Pinned => put_four(1, 0, 0, 0, result),
+        RoundState::Short => put_four(2, 0, 0, 0, result),
+        RoundState::Unchanged(examined) => put_four(3, examined, 0, 0, result),
         RoundState::Changed(tally) => {
-            put_numbers(4, tally.examined, tally.accepted, tally.accepted, result)
+            put_four(4, tally.examined, tally.accepted, tally.accepted, result)
         }
-        RoundState::Spent(tally) => put_numbers(5, tally.examined, tally.accepted, 0, result),
+        RoundState::Spent(tally) => put_four(5, tally.examined, tally.accepted, 0, result),
     }
 }

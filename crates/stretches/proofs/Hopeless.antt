@@ -5,19 +5,18 @@ use mathlib.Core.List.{List, [], _∷_, _++_}
 use Prim.Native.Nat.{ℕ, _+_, _-_, _*_, _≤_, _<_}
 use native.Mathlib.Omega.{arith}
 use lib.Dec.{ltb}
-use lib.ListN.{length, getD, take, set, List·getD-append}
+use lib.ListN.{length, getD, set, List·getD-append}
 use lib.Seq.{getD-take}
 use Rattle.theory.specs.Moves.{Pattern}
 use Rattle.theory.specs.Route.{reconnected, tour-length}
 use Rattle.theory.specs.Polish.{move-at}
 use Rattle.theory.specs.Tables.{problem, clock-by, CutSet, Trip}
 use Rattle.deadlines.proofs.Lateness.{head-on-time}
-use Rattle.shared.specs.Kept.{first-cuts, last-cut}
-use Rattle.shared.proofs.Keeping.{first-many}
+use Rattle.costs.specs.RouteCosts.{first-cuts, last-cut}
 use Rattle.dues.proofs.Judged.{candidate-too-late}
 use Rattle.stretches.specs.declared.Stretch.{Stretch}
 use Rattle.stretches.specs.Stretch.{Listed, LastCutsScannable, Passable, Passed, Stretchable, Stretched, idle-end, improves-at}
-use Rattle.stretches.proofs.LastCut.{two, some, first-below, long, at-cut}
+use Rattle.stretches.proofs.LastCut.{some, first-below, long, at-cut}
 use Rattle.stretches.proofs.Stretching.{last-stored}
 
 pub passed-through : (stops patterns : ℕ) (cuts : List ℕ) (left over : ℕ) → 1 ≤ length cuts → over ≡ (stops + 1 - last-cut cuts) * patterns → over ≤ left →

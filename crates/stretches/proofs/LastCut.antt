@@ -5,8 +5,8 @@ use Prim.Native.Nat.{ℕ, _-_, _≤_, _<_}
 use native.Mathlib.Omega.{arith}
 use lib.ListN.{length, getD, length-append}
 use Rattle.theory.specs.Tables.{CutSet}
-use Rattle.shared.specs.Kept.{first-cuts, last-cut}
-use Rattle.shared.proofs.Keeping.{cuts-parted, first-many}
+use Rattle.costs.specs.RouteCosts.{first-cuts, last-cut}
+use Rattle.costs.proofs.Segments.{cuts-parted, first-many}
 use Rattle.room.proofs.Shared.{other-cut, last-two}
 
 module _ (r cuts₀ : List ℕ) (cut₀ : CutSet (length cuts₀) (length r) cuts₀) where

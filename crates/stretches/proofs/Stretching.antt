@@ -14,18 +14,19 @@ use Rattle.theory.specs.Route.{reconnected, feasible, tour-length}
 use Rattle.theory.specs.Scan.{improves}
 use Rattle.theory.specs.Polish.{search-of, move-at}
 use Rattle.theory.specs.Tables.{problem, clock-by, ForK, Trip}
-use Rattle.costs.proofs.Segments.{head-at}
+use Rattle.costs.proofs.Segments.{head-at, cuts-parted, first-many}
 use Rattle.joints.specs.JointTable.{Padded}
 use Rattle.joints.specs.States.{row, states, no-pattern}
-use Rattle.shared.specs.Kept.{Cut, Opened, first-cuts, last-cut}
+use Rattle.costs.specs.RouteCosts.{first-cuts, last-cut}
+use Rattle.shared.specs.Kept.{Cut, Opened}
 use Rattle.shared.specs.Filling.{Keepable, KeptNow}
-use Rattle.shared.proofs.Keeping.{cuts-parted, first-many, first-of-cuts, last-of-cuts, zero-at}
+use Rattle.shared.proofs.Keeping.{first-of-cuts, last-of-cuts, zero-at}
 use Rattle.room.specs.Tests.{Nextable, NextRoom}
 use Rattle.dues.specs.Due.{DuesHeld}
 use Rattle.search.specs.Gain.{FirstGain, Findable, Found}
 use Rattle.stretches.specs.declared.Step.{Step}
 use Rattle.stretches.specs.declared.Step.the-variants.{Done, On}
-use Rattle.stretches.specs.Stretch.{Listed, Hopeful, LastCutsScannable, Ended, GainAt, Going, StepTo, Triable, Steppable, idle-end, improves-at}
+use Rattle.stretches.specs.Stretch.{Listed, Hopeful, Ended, GainAt, Going, StepTo, Triable, Steppable, idle-end, improves-at}
 use Rattle.stretches.proofs.LastCut.{first-below, long, at-cut}
 use Rattle.stretches.proofs.Counting.{count-to, count-next, count-least, up-to}
 

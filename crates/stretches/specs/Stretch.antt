@@ -12,7 +12,8 @@ use Rattle.theory.specs.Tables.{problem, clock-by, CutSet, Trip}
 use Rattle.deadlines.specs.Lateness.{LongestHead, Latenesses}
 use Rattle.joints.specs.States.{Patterned}
 use Rattle.joints.specs.JointTable.{Padded}
-use Rattle.shared.specs.Kept.{Opened, first-cuts, last-cut}
+use Rattle.costs.specs.RouteCosts.{first-cuts, last-cut}
+use Rattle.shared.specs.Kept.{Opened}
 use Rattle.shared.specs.Filling.{KeptNow}
 use Rattle.dues.specs.Due.{DuesHeld}
 use Rattle.search.specs.Gain.{Searchable}

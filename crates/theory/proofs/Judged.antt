@@ -11,7 +11,7 @@ use Rattle.theory.specs.Moves.{patterns, Rising}
 use Rattle.theory.specs.Tables.{Tables, LegTable, Times, Stops, Measurable, CutSet}
 use Rattle.theory.specs.Refusals.{some, rises, cut-count, leg-table, deadline-list, leg-sizes, service-list, known-stops, stop-count, pattern-index, cut-positions, room}
 
-and-true : (a b : Bool) → (a && b) ≡ true → (a ≡ true) × (b ≡ true)
+pub and-true : (a b : Bool) → (a && b) ≡ true → (a ≡ true) × (b ≡ true)
 and-true true b e = (refl, e)
 and-true false b e = absurd (false≢true e)
 

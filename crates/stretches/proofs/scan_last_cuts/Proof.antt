@@ -7,7 +7,7 @@ use native.Mathlib.Omega.{arith}
 use borrow.Author.Needs.{needs}
 use Rattle.theory.specs.Tables.{trip}
 use Rattle.theory.specs.Moves.{Pattern}
-use Rattle.shared.specs.Kept.{last-cut}
+use Rattle.costs.specs.RouteCosts.{last-cut}
 use Rattle.shared.specs.Filling.{KeptNow}
 use Rattle.shared.proofs.Keeping.{zero-at}
 use Rattle.stretches.specs.Stretch.{Listed, Going}

@@ -1,10 +1,10 @@
--- `polishing::put_numbers` meets its contract. Assumes nothing.
+-- `polishing::put_five` meets its contract. Assumes nothing.
 use lib.ListN.{length-set}
 use Rattle.polishing.proofs.Numbers.{five-written}
 use native.Mathlib.Omega.{arith}
 use borrow.Author.Needs.{needs}
-use Rattle.polishing.proofs.put_numbers.Statement.{statement}
-use Rattle.polishing.proofs.put_numbers.Tie as tie
+use Rattle.polishing.proofs.put_five.Statement.{statement}
+use Rattle.polishing.proofs.put_five.Tie as tie
 
 slice-write-result : tie.Need-slice-write-result
 slice-write-result c = search needs
@@ -27,8 +27,8 @@ same-length c = search needs
 returns : tie.Need-returns
 returns c = five-written (c .args .result .now) (c .args .state) (c .args .counts .examined) (c .args .counts .accepted) (c .args .counts .before) (c .args .counts .after) (c .pre)
 
-pub put-numbers-spec : {M : Type 1} → statement M
-put-numbers-spec =
+pub put-five-spec : {M : Type 1} → statement M
+put-five-spec =
     tie.close
     (tie.spec
     slice-write-result

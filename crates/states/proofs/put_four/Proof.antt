@@ -1,10 +1,10 @@
--- `states::put_numbers` meets its contract. Assumes nothing.
+-- `states::put_four` meets its contract. Assumes nothing.
 use lib.ListN.{length-set}
 use Rattle.states.proofs.Values.{four-written}
 use native.Mathlib.Omega.{arith}
 use borrow.Author.Needs.{needs}
-use Rattle.states.proofs.put_numbers.Statement.{statement}
-use Rattle.states.proofs.put_numbers.Tie as tie
+use Rattle.states.proofs.put_four.Statement.{statement}
+use Rattle.states.proofs.put_four.Tie as tie
 
 slice-write-result : tie.Need-slice-write-result
 slice-write-result c = search needs
@@ -24,8 +24,8 @@ same-length c = search needs
 returns : tie.Need-returns
 returns c = four-written (c .args .result .now) (c .args .number) (c .args .examined) (c .args .accepted) (c .args .applied) (c .pre)
 
-pub put-numbers-spec : {M : Type 1} → statement M
-put-numbers-spec =
+pub put-four-spec : {M : Type 1} → statement M
+put-four-spec =
     tie.close
     (tie.spec
     slice-write-result
