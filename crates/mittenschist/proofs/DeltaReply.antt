@@ -13,7 +13,7 @@ use Rattle.theory.specs.declared.LengthDelta.the-variants.{Refused, Seconds}
 use Rattle.theory.proofs.Refusals.{known}
 use Rattle.theory.proofs.Judged.{measurable-fine, pattern-fine, cuts-fine}
 use Rattle.moves.specs.Moves.{Comparable, length-change}
-use Rattle.judging.specs.Rules.{delta-rules}
+use Rattle.refusal_rules.specs.Rules.{delta-rules}
 use Rattle.mittenschist.specs.Promises.{DeltaReply}
 use Rattle.theory.proofs.Taken.{refused-reply, taken-reply, taken-passes}
 

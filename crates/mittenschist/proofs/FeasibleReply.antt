@@ -18,7 +18,7 @@ use Rattle.theory.proofs.Refusals.{known}
 use Rattle.theory.proofs.LastRule.{early}
 use Rattle.deadlines.proofs.Answer.{kept-timely, late-untimely}
 use Rattle.polishing.proofs.Judged.{timed-fine}
-use Rattle.replies.specs.Handed.{Handed}
+use Rattle.entry_results.specs.Handed.{Handed}
 use Rattle.mittenschist.specs.Promises.{Says, FeasibleReply, FeasibleWritten}
 use Rattle.theory.proofs.Taken.{refused-reply, taken-reply, taken-passes}
 use Rattle.mittenschist.proofs.Written.{answer-written, not-refused}

@@ -13,10 +13,10 @@ use Rattle.theory.specs.declared.CutStep.{CutStep}
 use Rattle.theory.specs.declared.CutStep.the-variants.{Refused}
 use Rattle.theory.proofs.Refusals.{Passes, known}
 use Rattle.theory.proofs.Judged.{cuts-fine, room-fine}
-use Rattle.cuts.specs.Step.{found, or-kept, Stepped}
-use Rattle.judging.specs.Rules.{next-cut-set-rules, with-room}
-use Rattle.replies.specs.Handed.{Handed}
-use Rattle.replies.proofs.Handing.{handed-done}
+use Rattle.cut_step.specs.Step.{found, or-kept, Stepped}
+use Rattle.refusal_rules.specs.Rules.{next-cut-set-rules, with-room}
+use Rattle.entry_results.specs.Handed.{Handed}
+use Rattle.entry_results.proofs.Handing.{handed-done}
 use Rattle.mittenschist.specs.Promises.{NextCutSetReply, step-values, NextCutSetWritten}
 use Rattle.theory.proofs.Taken.{refused-reply, taken-reply, refused-kept, taken-done, taken-passes}
 use Rattle.mittenschist.proofs.Written.{nothing-written, values-written}

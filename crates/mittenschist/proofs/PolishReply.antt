@@ -14,8 +14,8 @@ use Rattle.theory.specs.declared.Polished.the-variants.{Finished, Spent}
 use Rattle.theory.proofs.Refusals.{Passes, known}
 use Rattle.polishing.specs.Loop.{Polishable}
 use Rattle.polishing.proofs.Judged.{polishable-fine}
-use Rattle.judging.specs.Rules.{polish-rules}
-use Rattle.judging.proofs.Parts.{pass-with-room}
+use Rattle.refusal_rules.specs.Rules.{polish-rules}
+use Rattle.refusal_rules.proofs.Parts.{pass-with-room}
 use Rattle.mittenschist.specs.Promises.{PolishReply}
 use Rattle.theory.proofs.Taken.{refused-kept, taken-done, taken-passes}
 

@@ -10,7 +10,7 @@ use Rattle.theory.specs.Refusals.{refusal}
 use Rattle.theory.proofs.Refusals.{known}
 use Rattle.theory.proofs.Judged.{pattern-fine, cuts-fine, room-fine}
 use Rattle.moves.specs.Moves.{Applicable}
-use Rattle.judging.specs.Rules.{reconnect-rules}
+use Rattle.refusal_rules.specs.Rules.{reconnect-rules}
 use Rattle.mittenschist.specs.Promises.{ReconnectReply}
 use Rattle.theory.proofs.Taken.{refused-kept, taken-done, taken-passes}
 

@@ -9,8 +9,8 @@ use Rattle.theory.proofs.Refusals.{known}
 use Rattle.theory.proofs.Judged.{cut-count-fine, pattern-fine, room-fine}
 use Rattle.patterns.specs.Enumeration.{Listed, Holds}
 use Rattle.moves.specs.Moves.{Shown}
-use Rattle.judging.specs.Rules.{pattern-rules, with-room}
-use Rattle.replies.specs.Handed.{pattern-refused}
+use Rattle.refusal_rules.specs.Rules.{pattern-rules, with-room}
+use Rattle.entry_results.specs.Handed.{pattern-refused}
 use Rattle.mittenschist.specs.Promises.{ReconnectionReply, pattern-at}
 use Rattle.theory.proofs.Taken.{refused-kept, taken-done, taken-passes}
 

@@ -8,8 +8,8 @@ use Rattle.theory.specs.Refusals.{Rule, refusal, cut-count, table-rules}
 use Rattle.theory.proofs.Refusals.{known}
 use Rattle.run.specs.Run.{run, rounds, routes, numbers, Runnable, Ran}
 use Rattle.run.proofs.Judged.{runnable-fine}
-use Rattle.judging.specs.Rules.{rounds-rules, run-rules}
-use Rattle.judging.proofs.Parts.{both-pass, pass-with-room}
+use Rattle.refusal_rules.specs.Rules.{rounds-rules, run-rules}
+use Rattle.refusal_rules.proofs.Parts.{both-pass, pass-with-room}
 use Rattle.mittenschist.specs.Promises.{RunReply}
 use Rattle.theory.proofs.Taken.{refused-kept, taken-done, taken-passes}
 

@@ -12,11 +12,11 @@ use Rattle.theory.specs.Polish.{move-at, Demand3}
 use Rattle.theory.specs.Tables.{Tables, Trip, Fleet, problem, clock-by, legs-only}
 use Rattle.theory.specs.Question.{Question, asked}
 use Rattle.theory.specs.Refusals.{Rule, refusal, if-taken, problem-rules}
-use Rattle.judging.specs.Rules.{pattern-rules, next-cut-set-rules, reconnect-rules, route-length-rules, delta-rules, polish-rules, run-rules, nearby-rules, with-room}
+use Rattle.refusal_rules.specs.Rules.{pattern-rules, next-cut-set-rules, reconnect-rules, route-length-rules, delta-rules, polish-rules, run-rules, nearby-rules, with-room}
 use Rattle.theory.specs.Answers.{reply, step-answer, length-answer, delta-answer, feasibility-answer, listing-answer, Checked, Verdict, five-numbers, handed-back}
 use Rattle.moves.specs.Moves.{length-change}
-use Rattle.cuts.specs.Step.{found, or-kept}
-use Rattle.applying.specs.Applying.{doable}
+use Rattle.cut_step.specs.Step.{found, or-kept}
+use Rattle.move_applying.specs.Applying.{doable}
 use Rattle.nearby.specs.Walk.{nearby-sets}
 use Rattle.nearby.specs.Listing.{written}
 use Rattle.run.specs.Run.{run, rounds, routes, numbers, Ran}
@@ -102,7 +102,7 @@ pub record PolishReply (q : Question) (result : List ℕ) (answer : ℕ) (route�
   pub result-is : result′ ≡ if-taken (polish-rules q (length result)) (five-numbers (problem (q .trip)) (q .route) (asked q) ++ drop 5 result) result
   pub demand3 : answer ≡ 0 → Demand3 (problem (q .trip)) (patterns (q .k)) (q .k) (q .allowance) (q .route) (handed-back result′ route′)
 
--- ---- doable; apply and undo promise what they do over cut points (crate cut_moves)
+-- ---- doable; apply and undo promise what they do over cut points (crate move_calls)
 
 -- 1 yes or 0 no.
 abbrev pub doable-values : ℕ → ℕ → ℕ → List ℕ → List ℕ → List ℕ

@@ -65,7 +65,7 @@ pub fn delta_pattern(
     let mut backward = [0u64; STOPS];
     costs::forward_sums(locations, legs, route, &mut forward);
     costs::backward_sums(locations, legs, route, &mut backward);
-    deltas::delta(
+    costs::delta(
         locations,
         legs,
         depot,

@@ -13,12 +13,12 @@ use lib.Seq.{take-suc-set}
 use lib.Ieee.{Float}
 use borrow.Author.Tests.{ltb-true}
 use Rattle.theory.specs.Moves.{upfrom}
-use Rattle.nearest.specs.Neighbours.{kept}
-use Rattle.neighbours.specs.Memo.{Memo}
-use Rattle.pouring.specs.Pouring.{pour}
-use Rattle.branches.specs.Branch.{branch, behind-front}
+use Rattle.nearby_nearest.specs.Neighbours.{kept}
+use Rattle.nearby_neighbours.specs.Memo.{Memo}
+use Rattle.nearby_last_cut.specs.Pouring.{pour}
+use Rattle.nearby_from_cut.specs.Branch.{branch, behind-front}
 use Rattle.nearby.specs.Walk.{walk, nearby-sets}
-use Rattle.pouring.proofs.Pour.{pour-on, pour-full, poured-most}
+use Rattle.nearby_last_cut.proofs.Pour.{pour-on, pour-full, poured-most}
 
 pub memo-empty : (distances : List Float) (n count : ℕ) → n ≤ 512 → Memo distances n count (replicate 16896 0)
 memo-empty distances n count h =

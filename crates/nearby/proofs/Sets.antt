@@ -15,10 +15,10 @@ use Rattle.theory.specs.Moves.{upfrom}
 use Rattle.theory.specs.Refusals.{some}
 use Rattle.theory.proofs.Moves.{of-flatMap, upfrom-range}
 use Rattle.theory.proofs.Distinct.{Distinct, distinct-upfrom, distinct-append}
-use Rattle.nearest.specs.Neighbours.{passing, nearest, nearest-first, neighbours, kept, distance}
-use Rattle.nearest.proofs.Passing.{of-passing}
-use Rattle.branches.specs.Branch.{none-there, goes-on, turns, branch}
-use Rattle.branches.proofs.Turns.{kept-range}
+use Rattle.nearby_nearest.specs.Neighbours.{passing, nearest, nearest-first, neighbours, kept, distance}
+use Rattle.nearby_nearest.proofs.Passing.{of-passing}
+use Rattle.nearby_from_cut.specs.Branch.{none-there, goes-on, turns, branch}
+use Rattle.nearby_from_cut.proofs.Turns.{kept-range}
 use Rattle.nearby.specs.Walk.{walk, nearby-sets, Spaced}
 
 -- ---- a set of a branch begins with an entry, and goes on with a set under it

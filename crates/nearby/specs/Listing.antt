@@ -9,8 +9,8 @@ use lib.Ieee.{Float}
 use Rattle.theory.specs.Refusals.{some, no-number}
 use Rattle.theory.specs.Answers.{listing-answer, reply}
 use Rattle.theory.specs.declared.Listing.{Listing}
-use Rattle.pouring.specs.declared.NearbyCutState.{NearbyCutState}
-use Rattle.pouring.specs.Pouring.{Room}
+use Rattle.nearby_last_cut.specs.declared.NearbyCutState.{NearbyCutState}
+use Rattle.nearby_last_cut.specs.Pouring.{Room}
 use Rattle.nearby.specs.Walk.{nearby-sets, Spaced}
 
 pub record NearbyInput (n : ℕ) (distances : List Float) (k m count lent : ℕ) : Type 0 where

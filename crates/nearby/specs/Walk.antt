@@ -5,8 +5,8 @@ use Prim.Native.Nat.{ℕ, _+_, _-_, _*_, _≤_}
 use lib.Dec.{ltb}
 use lib.Ieee.{Float}
 use Rattle.theory.specs.Moves.{upfrom}
-use Rattle.nearest.specs.Neighbours.{kept}
-use Rattle.branches.specs.Branch.{branch}
+use Rattle.nearby_nearest.specs.Neighbours.{kept}
+use Rattle.nearby_from_cut.specs.Branch.{branch}
 
 -- "None if n < (k+1)·m. The first cut runs upward from m to n − k·m." "When the first cut is dropped, the next first cut follows."
 unfoldable pub walk : (ℕ → ℕ → List ℕ) → ℕ → ℕ → ℕ → List (List ℕ)

@@ -15,9 +15,9 @@ use Rattle.theory.specs.Scan.{Reply}
 use Rattle.pair_loop.specs.declared.PairLoop.{PairLoop}
 use Rattle.pair_loop.specs.Parts.{Going}
 use Rattle.pair_loop.specs.PairLoop.{PairsTried, reply-of, so-far, spent, examine, pair, row, pass, goes-on, passes, pair-loop}
-use Rattle.reversal.specs.Reversal.{turned, accepts}
-use Rattle.reversal.proofs.Turning.{total-turned}
-use Rattle.reversal.proofs.Trying.{timed-rearranged}
+use Rattle.pair_reversal.specs.Reversal.{turned, accepts}
+use Rattle.pair_reversal.proofs.Turning.{total-turned}
+use Rattle.pair_reversal.proofs.Trying.{timed-rearranged}
 
 -- What holds of all that the loop comes to.
 pub record Bounded (allowance : ℕ) (s : Reply (List ℕ)) : Type 0 where

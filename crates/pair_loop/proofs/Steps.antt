@@ -11,7 +11,7 @@ use Rattle.theory.specs.Moves.{upfrom}
 use Rattle.theory.specs.Route.{Problem}
 use Rattle.theory.specs.Scan.{Reply}
 use Rattle.pair_loop.specs.declared.PairLoop.{PairLoop}
-use Rattle.reversal.specs.Reversal.{turned, accepts, Tried}
+use Rattle.pair_reversal.specs.Reversal.{turned, accepts, Tried}
 use Rattle.pair_loop.specs.PairLoop.{reply-of, stop-before, so-far, spent, examine, pair, row, pass}
 
 -- An answer while the allowance lasts.

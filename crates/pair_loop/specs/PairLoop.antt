@@ -9,7 +9,7 @@ use lib.ListN.{length, getD}
 use Rattle.theory.specs.Moves.{upfrom}
 use Rattle.theory.specs.Route.{Problem, count}
 use Rattle.theory.specs.Scan.{Reply}
-use Rattle.reversal.specs.Reversal.{turned, accepts}
+use Rattle.pair_reversal.specs.Reversal.{turned, accepts}
 use Rattle.pair_loop.specs.declared.PairLoop.{PairLoop}
 
 -- "The stop before i, or the depot."

@@ -1,4 +1,4 @@
-// The pair loop: the exact 2-opt of the Rust's list k-opt kernel. No entry: crate round and the program entries call it.
+// The pair loop: the exact 2-opt of the Rust's list k-opt kernel. No entry: crate run and the program replay_entries call it.
 ghost use mathlib.Core.Path.{_≡_};
 ghost use Prim.Native.Nat.{_<_};
 ghost use lib.ListN.{length};
@@ -51,7 +51,7 @@ fn try_row(
             };
         }
         examined += 1;
-        if reversal::try_pair(locations, legs, latest, depot, a, b, i, j, route) {
+        if pair_reversal::try_pair(locations, legs, latest, depot, a, b, i, j, route) {
             accepted += 1;
         }
         j += 1;

@@ -11,7 +11,7 @@ use Rattle.theory.specs.Answers.{pattern-of}
 use Rattle.theory.specs.declared.KOptReconnection.{KOptReconnection}
 use Rattle.theory.proofs.Index.{length-pattern, mem-getD, getD-map}
 use Rattle.patterns.specs.Enumeration.{Listed, no-pattern, pattern, masks-of, Enumerated, Holds}
-use Rattle.permutations.proofs.Stores.{sets-first}
+use Rattle.pattern_orders.proofs.Stores.{sets-first}
 use Rattle.patterns.proofs.Strides.{row-at}
 use Rattle.patterns.proofs.Enumeration.{each-order}
 

@@ -42,7 +42,7 @@ fn put_order(middle: &[u8], k: usize, out: &mut [u8], at: usize)
     ensures { λ _. ⌜ now (out .exit) ≡ sets (now (out .entry)) at (0 ∷ (now (middle .entry) ++ (k ∷ []))) ⌝ }
 {
     out[at] = 0;
-    permutations::copy_in(middle, out, at + 1);
+    pattern_orders::copy_in(middle, out, at + 1);
     out[at + k] = k as u8;
 }
 
@@ -66,7 +66,7 @@ pub fn enumerate_reconnections(k: usize, orders: &mut [u8], masks: &mut [u8]) ->
     ensures { λ r. ⌜ Enumerated k (now (orders .entry)) (now (masks .entry)) r (now (orders .exit)) (now (masks .exit)) ⌝ }
 {
     let mut permutations = [0u8; 96];
-    let _ = permutations::generate_permutations(
+    let _ = pattern_orders::generate_permutations(
         [1, 2, 3, 4],
         k - 1,
         [0; 4],
@@ -95,7 +95,7 @@ pub fn pattern_at(k: usize, index: usize) -> theory::KOptReconnection
     let from = index * num_segments;
     let end = from + num_segments;
     let mut places = [0u8; 6];
-    permutations::copy_in(&orders[from..end], &mut places, 0);
+    pattern_orders::copy_in(&orders[from..end], &mut places, 0);
     theory::KOptReconnection {
         segment_order: places,
         reverse_mask: masks[index],

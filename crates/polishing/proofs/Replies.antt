@@ -15,10 +15,10 @@ use Rattle.theory.proofs.ForK.{rows-for-cuts}
 use Rattle.theory.proofs.Polish.{polish-with-demand3, same-total}
 use Rattle.theory.proofs.Steps.{nowhere}
 use Rattle.theory.proofs.Stops.{stops-rearranged}
-use Rattle.scanning.specs.Loop.{Scannable, Scans}
-use Rattle.scanning.specs.declared.Scanned.{Scanned}
+use Rattle.scan_loop.specs.Loop.{Scannable, Scans}
+use Rattle.scan_loop.specs.declared.Scanned.{Scanned}
 use Rattle.polishing.specs.Loop.{PolishableRows}
-use Rattle.joints.specs.States.{StateRows}
+use Rattle.scan_joints.specs.States.{StateRows}
 
 -- Deadlines play no part in a length.
 length-without-deadlines : (T : Trip) (r : List ℕ) → tour-length (legs-only (T .tables .locations) (T .tables .legs) (T .depot)) r ≡ tour-length (problem T) r

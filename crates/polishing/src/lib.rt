@@ -1,6 +1,6 @@
 // Polishing a route by the scan of document 01, with every pattern for k or with lent rows of patterns, and its five numbers into a lent result. No entry: crates
-// mittenschist, round and text call it.
-use joints::ROW_BYTES;
+// mittenschist, run and text call it.
+use scan_joints::ROW_BYTES;
 use theory::Counts;
 use theory::ORDER_BYTES;
 use theory::PATTERNS;
@@ -39,8 +39,8 @@ pub fn polish_rows(
         });
     }
     let mut rows = [0u8; ROW_BYTES];
-    pattern_rows::fill_rows(k, orders, masks, &mut rows);
-    let scanned = scanning::scan_cut_sets(
+    scan_rows::fill_rows(k, orders, masks, &mut rows);
+    let scanned = scan_loop::scan_cut_sets(
         k,
         allowance,
         locations,

@@ -7,12 +7,12 @@ fn write(line: &[u8]) {
 // A line of a run: its refusal number and result, and the stops that it left.
 fn show_run(refused: u32, result: &[u64], stops: &[u32]) {
     let mut line = [0u8; 1024];
-    let number = replay::put_number(b"run ", refused as u64, &mut line, 0);
-    let word = replay::put(b" result", &mut line, number);
-    let told = replay::put_numbers(result, &mut line, word);
-    let behind = replay::put(b" stops", &mut line, told);
-    let left = replay::put_stops(stops, &mut line, behind);
-    let end = replay::put(b"\n", &mut line, left);
+    let number = replay_lines::put_number(b"run ", refused as u64, &mut line, 0);
+    let word = replay_lines::put(b" result", &mut line, number);
+    let told = replay_lines::put_numbers(result, &mut line, word);
+    let behind = replay_lines::put(b" stops", &mut line, told);
+    let left = replay_lines::put_stops(stops, &mut line, behind);
+    let end = replay_lines::put(b"\n", &mut line, left);
     write(&line[..end]);
 }
 

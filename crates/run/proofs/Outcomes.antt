@@ -12,9 +12,9 @@ use Rattle.theory.specs.Route.{Problem, count}
 use Rattle.theory.specs.Tables.{Tables, Fleet, trip, problem}
 use Rattle.theory.specs.declared.RoundState.the-variants as State
 use Rattle.theory.proofs.Moves.{length-upfrom}
-use Rattle.states.specs.States.{number-of, examined-of}
-use Rattle.round.specs.Round.{Outcome, run-round}
-use Rattle.round.proofs.Facts.{Fine, round-fine, round-length}
+use Rattle.run_numbers.specs.States.{number-of, examined-of}
+use Rattle.run.specs.Round.{Outcome, run-round}
+use Rattle.run.proofs.Facts.{Fine, round-fine, round-length}
 use Rattle.run.specs.Run.{Given, round-at, trip-of, given, rounds, run, routes, numbers, examined-in, Runnable, Ran}
 use Rattle.run.proofs.Numbers.{none, number-at, taken, taken-is}
 

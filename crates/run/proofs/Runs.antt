@@ -8,7 +8,7 @@ use Rattle.theory.specs.Route.{tour-length, timely, reconnected}
 use Rattle.theory.specs.Tables.{Tables, tables, fleet}
 use Rattle.theory.specs.Scan.{scan-from}
 use Rattle.pair_loop.specs.PairLoop.{pair-loop}
-use Rattle.round.specs.Round.{run-round}
+use Rattle.run.specs.Round.{run-round}
 use Rattle.run.specs.Run.{rounds, run, routes, numbers}
 
 -- Rounds with the depot 0; a leg that the rows lack is 0, and no deadline is in force.

@@ -11,10 +11,10 @@ use Rattle.theory.specs.Tables.{Tables, Fleet, problem}
 use Rattle.theory.specs.Answers.{round-values}
 use Rattle.theory.specs.declared.RoundState.{RoundState}
 use Rattle.polishing.specs.Loop.{Polishable}
-use Rattle.states.specs.States.{examined-of}
-use Rattle.states.proofs.Values.{four-values}
-use Rattle.round.specs.Round.{Outcome, RoundRan}
-use Rattle.round.proofs.Facts.{round-length}
+use Rattle.run_numbers.specs.States.{examined-of}
+use Rattle.run_numbers.proofs.Values.{four-values}
+use Rattle.run.specs.Round.{Outcome, RoundRan}
+use Rattle.run.proofs.Facts.{round-length}
 use Rattle.run.specs.Run.{Given, round-at, trip-of, given, rounds, run, routes, numbers, Runnable, Ran}
 use Rattle.run.proofs.Outcomes.{within, ran}
 

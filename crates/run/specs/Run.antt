@@ -8,8 +8,8 @@ use Rattle.theory.specs.Route.{count}
 use Rattle.theory.specs.Polish.{KOptimal}
 use Rattle.theory.specs.Tables.{Tables, Trip, Fleet, problem, LegTable}
 use Rattle.theory.specs.Answers.{round-values}
-use Rattle.states.specs.States.{examined-of, Finished}
-use Rattle.round.specs.Round.{Outcome, run-round}
+use Rattle.run_numbers.specs.States.{examined-of, Finished}
+use Rattle.run.specs.Round.{Outcome, run-round}
 
 -- The stops of round i follow those of the rounds before it.
 abbrev pub round-at : (lengths stops : List ℕ) → ℕ → List ℕ

@@ -1,4 +1,6 @@
 // The run over rounds that lie end to end. No entry: crate mittenschist calls it.
+pub mod round;
+
 ghost use Rattle.theory.specs.Tables.{tables, fleet};
 ghost use Rattle.run.specs.Run.{Runnable, Ran};
 
@@ -29,8 +31,8 @@ pub fn run_list_k_opt_in_phase(
         let state = round::run_round(k, left, locations, legs, latest, depot, pin, route);
         let row = 4 * i;
         let row_end = row + 4;
-        states::put_state(state, &mut result[row..row_end]);
-        left -= states::examined(state);
+        run_numbers::put_state(state, &mut result[row..row_end]);
+        left -= run_numbers::examined(state);
         at = end;
         i += 1;
     }

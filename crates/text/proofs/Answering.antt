@@ -14,7 +14,7 @@ use Rattle.theory.specs.declared.Polished.the-variants.{Finished, Spent}
 use Rattle.theory.proofs.Refusals.{known, accepted}
 use Rattle.polishing.specs.Loop.{Polishable}
 use Rattle.polishing.proofs.Judged.{polishable-fine}
-use Rattle.printing.specs.Answer.{refusal-text, Printed}
+use Rattle.text_printing.specs.Answer.{refusal-text, Printed}
 use Rattle.text.specs.Program.{reply-text, question-text, polished-text}
 
 text-is : (P : Problem) (route route′ : List ℕ) (answer : Polished) → counts-of answer .before ≡ tour-length P route → counts-of answer .after ≡ tour-length P route′ →

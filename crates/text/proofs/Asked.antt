@@ -9,13 +9,13 @@ use lib.ListN.{length, take, drop, length-append}
 use lib.Seq.{take-at}
 use Rattle.theory.specs.Tables.{Tables, tables}
 use Rattle.theory.specs.Question.{Question}
-use Rattle.reading.specs.Reading.{read}
-use Rattle.reading.specs.Told.{Places, Answered, front, question-told, stop-count}
-use Rattle.reading.specs.declared.Header.{Header}
-use Rattle.reading.specs.declared.Reading.{Reading}
-use Rattle.reading.specs.declared.Reading.the-variants as R
-use Rattle.reading.proofs.Texts.{read-exactly}
-use Rattle.printing.specs.Answer.{refusal-text, Printed}
+use Rattle.text_question.specs.Reading.{read}
+use Rattle.text_question.specs.Told.{Places, Answered, front, question-told, stop-count}
+use Rattle.text_question.specs.declared.Header.{Header}
+use Rattle.text_question.specs.declared.Reading.{Reading}
+use Rattle.text_question.specs.declared.Reading.the-variants as R
+use Rattle.text_question.proofs.Texts.{read-exactly}
+use Rattle.text_printing.specs.Answer.{refusal-text, Printed}
 use Rattle.text.specs.Program.{program, question-text, Shown}
 
 pub still-lent : {legs latest stops legs′ latest′ stops′ : List ℕ} → Places (tables 96 legs latest) stops →

@@ -11,12 +11,12 @@ use Rattle.theory.specs.Route.{Problem, tour-length}
 use Rattle.theory.specs.Tables.{Tables, problem}
 use Rattle.theory.specs.Refusals.{refusal}
 use Rattle.theory.specs.Question.{Question, question-rules, asked}
-use Rattle.reading.specs.Reading.{read}
-use Rattle.reading.specs.Told.{Places}
+use Rattle.text_question.specs.Reading.{read}
+use Rattle.text_question.specs.Told.{Places}
 use Rattle.theory.specs.declared.Polished.{Polished}
 use Rattle.theory.specs.declared.Polished.the-variants as P
 use Rattle.text.specs.declared.Output.{Output}
-use Rattle.printing.specs.Answer.{answer-text, refusal-text}
+use Rattle.text_printing.specs.Answer.{answer-text, refusal-text}
 
 -- The text of the scan's reply to a route.
 abbrev pub reply-text : Problem → List ℕ → Reply (List ℕ) → List ℕ

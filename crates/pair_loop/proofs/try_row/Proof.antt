@@ -9,7 +9,7 @@ use Rattle.theory.specs.Tables.{problem, Timed, trip}
 use Rattle.pair_loop.specs.PairLoop.{so-far, row, reply-of}
 use Rattle.pair_loop.proofs.Reading.{before-known}
 use Rattle.pair_loop.proofs.Steps.{row-left, row-first, row-spent, row-ended, row-tried, going-is, counted-one, counted-none, at-most-one}
-use Rattle.reversal.proofs.Trying.{tried-timed}
+use Rattle.pair_reversal.proofs.Trying.{tried-timed}
 use native.Mathlib.Omega.{arith}
 use borrow.Author.Needs.{needs}
 use Rattle.pair_loop.proofs.try_row.Statement.{statement}

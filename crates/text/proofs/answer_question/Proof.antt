@@ -2,7 +2,7 @@
 use native.Mathlib.Omega.{arith}
 use borrow.Author.Needs.{needs}
 use Rattle.theory.specs.Question.{Question, question}
-use Rattle.printing.proofs.Lengths.{refusal-length}
+use Rattle.text_printing.proofs.Lengths.{refusal-length}
 use Rattle.text.proofs.Answering.{refused, polished, fine}
 use Rattle.text.proofs.answer_question.Statement.{statement}
 use Rattle.text.proofs.answer_question.Tie as tie

@@ -4,7 +4,7 @@ use native.Mathlib.Omega.{arith}
 use lib.Seq.{length-take-le}
 use borrow.Author.Needs.{needs}
 use Rattle.theory.specs.Tables.{tables}
-use Rattle.printing.proofs.Lengths.{refusal-length}
+use Rattle.text_printing.proofs.Lengths.{refusal-length}
 use Rattle.text.proofs.Asked.{still-lent, malformed, Fits, fits, asked-of}
 use Rattle.text.proofs.answer_text.Statement.{statement}
 use Rattle.text.proofs.answer_text.Tie as tie

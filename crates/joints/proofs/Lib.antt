@@ -1,5 +1,0 @@
-pub mod States
-pub mod Chain
-pub mod Rows
-mod Cells
-pub mod Ends
