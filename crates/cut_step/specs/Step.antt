@@ -11,14 +11,14 @@ abbrev pub found : Option (List ℕ) → Bool
 found none = false
 found (some cs) = true
 
-abbrev pub or-kept : Option (List ℕ) → List ℕ → List ℕ
-or-kept none old = old
-or-kept (some cs) old = cs
+abbrev pub or-unmoved : Option (List ℕ) → List ℕ → List ℕ
+or-unmoved none old = old
+or-unmoved (some cs) old = cs
 
 -- "The step after the last set answers no and keeps its cuts."
 pub record Stepped (n : ℕ) (cuts : List ℕ) (answer : Bool) (cuts′ : List ℕ) : Type 0 where
   pub moved : answer ≡ found (next-cuts n cuts)
-  pub cuts-after : cuts′ ≡ or-kept (next-cuts n cuts) cuts
+  pub cuts-after : cuts′ ≡ or-unmoved (next-cuts n cuts) cuts
 
 -- The places from `from` on can be filled with numbers from `first` on.
 pub record Followable (cuts : List ℕ) (from first : ℕ) : Type 0 where

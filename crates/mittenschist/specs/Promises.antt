@@ -15,7 +15,7 @@ use Rattle.theory.specs.Refusals.{Rule, refusal, if-taken, problem-rules}
 use Rattle.refusal_rules.specs.Rules.{pattern-rules, next-cut-set-rules, reconnect-rules, route-length-rules, delta-rules, polish-rules, run-rules, nearby-rules, with-room}
 use Rattle.theory.specs.Answers.{reply, step-answer, length-answer, delta-answer, feasibility-answer, listing-answer, Checked, Verdict, five-numbers, handed-back}
 use Rattle.moves.specs.Moves.{length-change}
-use Rattle.cut_step.specs.Step.{found, or-kept}
+use Rattle.cut_step.specs.Step.{found, or-unmoved}
 use Rattle.move_applying.specs.Applying.{doable}
 use Rattle.nearby.specs.Walk.{nearby-sets}
 use Rattle.nearby.specs.Listing.{written}
@@ -49,7 +49,7 @@ pub record ReconnectionReply (k pattern : ℕ) (answer : ReconnectionAt) : Type 
 
 pub record NextCutSetReply (k n : ℕ) (cuts : List ℕ) (answer : CutStep) (cuts′ : List ℕ) : Type 0 where
   pub reply-is : step-answer answer ≡ reply (refusal (next-cut-set-rules k n cuts)) (cond (found (next-cuts n cuts)) 1 0 ∷ [])
-  pub cuts-are : cuts′ ≡ if-taken (next-cut-set-rules k n cuts) (or-kept (next-cuts n cuts) cuts) cuts
+  pub cuts-are : cuts′ ≡ if-taken (next-cut-set-rules k n cuts) (or-unmoved (next-cuts n cuts) cuts) cuts
 
 -- 1 moved, or 0 and the cuts kept.
 abbrev pub step-values : ℕ → List ℕ → List ℕ
@@ -57,7 +57,7 @@ step-values n cuts = cond (found (next-cuts n cuts)) 1 0 ∷ []
 
 pub record NextCutSetWritten (k n : ℕ) (cuts result : List ℕ) (answer : ℕ) (cuts′ result′ : List ℕ) : Type 0 where
   pub written : Written (next-cut-set-rules k n cuts) 1 (step-values n cuts) result answer result′
-  pub cuts-are : cuts′ ≡ if-taken (with-room (next-cut-set-rules k n cuts) 1 (length result)) (or-kept (next-cuts n cuts) cuts) cuts
+  pub cuts-are : cuts′ ≡ if-taken (with-room (next-cut-set-rules k n cuts) 1 (length result)) (or-unmoved (next-cuts n cuts) cuts) cuts
 
 -- ---- reconnect
 

@@ -43,10 +43,10 @@ pub fn k_opt_is_doable(
     if positions.len() != k {
         return false;
     }
-    if refusals::some_beyond(positions, n) {
+    if refusals::any_beyond(positions, n) {
         return false;
     }
-    if refusals::some_other(rounds, round) {
+    if refusals::any_other(rounds, round) {
         return true;
     }
     refusals::strictly_rising(positions)

@@ -15,7 +15,7 @@ use Rattle.theory.proofs.Judged.{cut-count-fine}
 use Rattle.move_applying.specs.Applying.{doable}
 use Rattle.move_points.specs.declared.CutPoint.{CutPoint}
 use Rattle.move_points.specs.declared.CutNumbers.{CutNumbers}
-use Rattle.move_points.specs.CutPoints.{rounds-of, positions-of, Holds}
+use Rattle.move_points.specs.CutPoints.{rounds-of, positions-of, HoldsCuts}
 use Rattle.move_calls.specs.Entries.{do-move-rules, DoMoveReply, doable-rules, DoableReply}
 use Rattle.theory.proofs.Taken.{refused-kept}
 
@@ -69,7 +69,7 @@ module _ (k pattern round : ℕ) (rounds positions route journal : List ℕ) (sa
       by false e = more (leb-false _ _ e)
 
 -- From the reply to the numbers read out of a list of cut points, to the reply to the list.
-pub from-numbers : (k pattern round : ℕ) (cuts : List CutPoint) (held : CutNumbers) (route journal : List ℕ) (answer : ℕ) (route′ journal′ : List ℕ) → Holds cuts held →
+pub from-numbers : (k pattern round : ℕ) (cuts : List CutPoint) (held : CutNumbers) (route journal : List ℕ) (answer : ℕ) (route′ journal′ : List ℕ) → HoldsCuts cuts held →
     DoMoveReply k pattern round (take (held .len) (held .rounds)) (take (held .len) (held .positions)) route journal answer route′ journal′ →
     DoMoveReply k pattern round (rounds-of cuts) (positions-of cuts) route journal answer route′ journal′
 from-numbers k pattern round cuts held route journal answer route′ journal′ h told =
@@ -103,7 +103,7 @@ module _ (k pattern round n : ℕ) (rounds positions : List ℕ) (same : length 
       by true e = rw e
       by false e = ap said (alike (cut-count-fine k e .1))
 
-pub doable-from-numbers : (k pattern round n : ℕ) (cuts : List CutPoint) (held : CutNumbers) (answer : Doable) → Holds cuts held →
+pub doable-from-numbers : (k pattern round n : ℕ) (cuts : List CutPoint) (held : CutNumbers) (answer : Doable) → HoldsCuts cuts held →
     DoableReply k pattern round n (take (held .len) (held .rounds)) (take (held .len) (held .positions)) answer → DoableReply k pattern round n (rounds-of cuts) (positions-of cuts) answer
 doable-from-numbers k pattern round n cuts held answer h told =
     let six : DoableReply k pattern round n (take 6 (rounds-of cuts)) (take 6 (positions-of cuts)) answer = rw (h .rounds-held, h .positions-held) at told in

@@ -6,12 +6,12 @@ use native.Mathlib.Omega.{arith}
 use lib.ListN.{length}
 use Rattle.move_points.specs.declared.CutPoint.{CutPoint}
 use Rattle.move_points.specs.declared.CutNumbers.{CutNumbers}
-use Rattle.move_points.specs.CutPoints.{cut-at, numbers-of, Holds}
+use Rattle.move_points.specs.CutPoints.{cut-at, numbers-of, HoldsCuts}
 
 six : (n : ℕ) → 6 ≤ n → min n 6 ≡ 6
 six n h = omega arith
 
-held : (cuts : List CutPoint) → Holds cuts (numbers-of (length cuts) (cut-at cuts 0) (cut-at cuts 1) (cut-at cuts 2) (cut-at cuts 3) (cut-at cuts 4) (cut-at cuts 5))
+held : (cuts : List CutPoint) → HoldsCuts cuts (numbers-of (length cuts) (cut-at cuts 0) (cut-at cuts 1) (cut-at cuts 2) (cut-at cuts 3) (cut-at cuts 4) (cut-at cuts 5))
 held [] = record { sized = record { rounds-long = omega arith; positions-long = omega arith }; rounds-held = refl; positions-held = refl }
 held (a ∷ []) = record { sized = record { rounds-long = omega arith; positions-long = omega arith }; rounds-held = refl; positions-held = refl }
 held (a ∷ b ∷ []) = record { sized = record { rounds-long = omega arith; positions-long = omega arith }; rounds-held = refl; positions-held = refl }
@@ -25,5 +25,5 @@ held (a ∷ b ∷ c ∷ d ∷ e ∷ f ∷ cuts) =
 -- As the walk has them: each number by an equation.
 pub held-by : (cuts : List CutPoint) (n : ℕ) (a b c d e f : CutPoint) (r : CutNumbers) →
     n ≡ length cuts → a ≡ cut-at cuts 0 → b ≡ cut-at cuts 1 → c ≡ cut-at cuts 2 → d ≡ cut-at cuts 3 → e ≡ cut-at cuts 4 → f ≡ cut-at cuts 5 →
-    r ≡ numbers-of n a b c d e f → Holds cuts r
+    r ≡ numbers-of n a b c d e f → HoldsCuts cuts r
 held-by cuts n a b c d e f r en ea eb ec ed ee ef er = rw (er, en, ea, eb, ec, ed, ee, ef) (held cuts)

@@ -30,7 +30,7 @@ pub record Sized (held : CutNumbers) : Type 0 where
   pub positions-long : held .len ≤ length (held .positions)
 
 -- The numbers of the first six cut points.
-pub record Holds (cuts : List CutPoint) (held : CutNumbers) : Type 0 where
+pub record HoldsCuts (cuts : List CutPoint) (held : CutNumbers) : Type 0 where
   pub sized : Sized held
   pub rounds-held : take (held .len) (held .rounds) ≡ take 6 (rounds-of cuts)
   pub positions-held : take (held .len) (held .positions) ≡ take 6 (positions-of cuts)

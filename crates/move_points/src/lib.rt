@@ -2,7 +2,7 @@
 ghost use mathlib.Core.Path.{_≡_};
 ghost use Prim.Native.Nat.{min};
 ghost use lib.ListN.{length};
-ghost use Rattle.move_points.specs.CutPoints.{cut-at, numbers-of, Holds};
+ghost use Rattle.move_points.specs.CutPoints.{cut-at, numbers-of, HoldsCuts};
 
 // A cut of a round, before a position.
 pub struct CutPoint {
@@ -71,7 +71,7 @@ fn numbers_of(
 }
 
 pub fn cut_numbers(cuts: &[CutPoint]) -> CutNumbers
-    ensures { λ r. ⌜ Holds (now (cuts .entry)) r ⌝ }
+    ensures { λ r. ⌜ HoldsCuts (now (cuts .entry)) r ⌝ }
 {
     numbers_of(
         cut_count(cuts),

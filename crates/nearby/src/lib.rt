@@ -17,7 +17,7 @@ fn first_cuts(state: NearbyCutState, distances: &[f64], lent: &mut [usize]) -> u
     let mut seen = 0;
     let mut first = state.min_segment_len;
     while first + state.k * state.min_segment_len <= state.len {
-        let number = nearby_from_cut::neighbours_of(
+        let size = nearby_from_cut::neighbours_of(
             state,
             distances,
             state.k - 1,
@@ -30,7 +30,7 @@ fn first_cuts(state: NearbyCutState, distances: &[f64], lent: &mut [usize]) -> u
             state,
             distances,
             state.k - 2,
-            &own[..number],
+            &own[..size],
             cuts,
             seen,
             &mut table,

@@ -13,7 +13,7 @@ use lib.Ieee.{Float}
 use borrow.Author.Tests.{leb-true}
 use Rattle.theory.proofs.Judged.{and-true}
 use Rattle.theory.proofs.Index.{mem-getD}
-use Rattle.nearby_nearest.specs.Neighbours.{kept, neighbours}
+use Rattle.nearby_nearest.specs.Neighbours.{eligible, neighbours}
 use Rattle.nearby_nearest.proofs.Passing.{of-passing}
 use Rattle.nearby_last_cut.specs.Pouring.{pour}
 use Rattle.nearby_from_cut.specs.Branch.{none-there, goes-on, turns, branch, behind-front}
@@ -32,13 +32,13 @@ front-last front [] = refl
 front-last front (p ∷ list) = ap (λ (r : List (List ℕ)). (front ++ (p ∷ [])) ∷ r) (front-last front list)
 
 -- What a cut keeps lies at least m behind it, and leaves m for each cut missing.
-pub kept-range : (distances : List Float) (n m count missing cut p : ℕ) → List·Memᴰ p (kept distances n m count missing cut) → (cut + m ≤ p) × (p ≤ n - m * missing)
-unfolding kept
+pub kept-range : (distances : List Float) (n m count missing cut p : ℕ) → List·Memᴰ p (eligible distances n m count missing cut) → (cut + m ≤ p) × (p ≤ n - m * missing)
+unfolding eligible
 kept-range distances n m count missing cut p i =
     let e = and-true (leb (cut + m) p) (leb p (n - m * missing)) (of-passing (λ p. leb (cut + m) p && leb p (n - m * missing)) (neighbours distances n count cut) p i .1) in
     (leb-true (cut + m) p (e .0), leb-true p (n - m * missing) (e .1))
 
-pub kept-below : (distances : List Float) (n m count missing cut : ℕ) (list : List ℕ) → list ≡ kept distances n m count missing cut → 1 ≤ m → 0 < missing → cut < n →
+pub kept-below : (distances : List Float) (n m count missing cut : ℕ) (list : List ℕ) → list ≡ eligible distances n m count missing cut → 1 ≤ m → 0 < missing → cut < n →
     (i : ℕ) → i < length list → getD list i 0 < n
 kept-below distances n m count missing cut list e h k l i w =
     let r = kept-range distances n m count missing cut (getD list i 0) (subst (λ (l : List ℕ). List·Memᴰ (getD list i 0) l) e (mem-getD list i 0 w)) in
@@ -48,11 +48,11 @@ kept-below distances n m count missing cut list e h k l i w =
 pub fewer-missing : (m behind n : ℕ) → m * behind ≤ n → m * (behind - 1) ≤ n
 fewer-missing m behind n h = omega (arith, mul-le-mul (le-refl m) (let g : behind - 1 ≤ behind = omega arith in g))
 
-pub some-taken : (number : ℕ) (own : List ℕ) → (number ≡ 0 → ⊥) → number ≤ length own → 0 < length (take number own)
-some-taken number own h k = simp length-take (omega arith)
+pub some-taken : (size : ℕ) (own : List ℕ) → (size ≡ 0 → ⊥) → size ≤ length own → 0 < length (take size own)
+some-taken size own h k = simp length-take (omega arith)
 
-pub none-taken : (number : ℕ) (own : List ℕ) → number ≡ 0 → take number own ≡ []
-none-taken number own e = rw e
+pub none-taken : (size : ℕ) (own : List ℕ) → size ≡ 0 → take size own ≡ []
+none-taken size own e = rw e
 
 -- The front with the cut of this level.
 pub longer : (cuts : List ℕ) (k behind cut : ℕ) → 0 < behind → behind < k → k ≤ length cuts →

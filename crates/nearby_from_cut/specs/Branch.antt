@@ -6,9 +6,9 @@ use Prim.Native.Nat.{ℕ, zero, suc, _-_, _*_, _≤_, _<_}
 use lib.Dec.{ltb}
 use lib.ListN.{length, getD, take}
 use lib.Ieee.{Float}
-use Rattle.theory.specs.Refusals.{some, no-number}
-use Rattle.nearby_nearest.specs.Neighbours.{kept}
-use Rattle.nearby_neighbours.specs.Memo.{Memo, Askable, Kept}
+use Rattle.theory.specs.Refusals.{any, no-number}
+use Rattle.nearby_nearest.specs.Neighbours.{eligible}
+use Rattle.nearby_neighbours.specs.Memo.{Memo, Askable, Eligible}
 use Rattle.nearby_last_cut.specs.declared.NearbyCutState.{NearbyCutState}
 use Rattle.nearby_last_cut.specs.Pouring.{pour, Room}
 
@@ -38,21 +38,21 @@ branch own (suc behind) list = turns (own (suc behind)) (branch own behind) list
 abbrev pub behind-front : List ℕ → List (List ℕ) → List (List ℕ)
 behind-front front ss = map (λ s. front ++ s) ss
 
--- `Askable` and `Kept` with the numbers of a state.
+-- `Askable` and `Eligible` with the numbers of a state.
 abbrev pub Askable-for : (state : NearbyCutState) (distances : List Float) (missing cut : ℕ) (table own : List ℕ) → Type 0
 Askable-for state distances missing cut table own = Askable distances (state .len) (state .«min_segment_len») (state .«max_nearby») missing cut table own
 
-abbrev pub Kept-for : (state : NearbyCutState) (distances : List Float) (missing cut number : ℕ) (table own : List ℕ) → Type 0
-Kept-for state distances missing cut number table own = Kept distances (state .len) (state .«min_segment_len») (state .«max_nearby») missing cut number table own
+abbrev pub Eligible-for : (state : NearbyCutState) (distances : List Float) (missing cut size : ℕ) (table own : List ℕ) → Type 0
+Eligible-for state distances missing cut size table own = Eligible distances (state .len) (state .«min_segment_len») (state .«max_nearby») missing cut size table own
 
 -- The neighbour lists of the cuts.
 abbrev pub lists-of : NearbyCutState → List Float → ℕ → ℕ → List ℕ
-lists-of state distances = kept distances (state .len) (state .«min_segment_len») (state .«max_nearby»)
+lists-of state distances = eligible distances (state .len) (state .«min_segment_len») (state .«max_nearby»)
 
 pub record Branchable (state : NearbyCutState) (distances : List Float) (behind : ℕ) (entries : List ℕ) (seen : ℕ) (table lent : List ℕ) : Type 0 where
   pub few : state .len ≤ 512
   pub square : length distances ≡ state .len * state .len
-  pub numbers : some no-number distances ≡ false
+  pub numbers : any no-number distances ≡ false
   pub shortest : 1 ≤ state .«min_segment_len»
   pub short : state .«min_segment_len» ≤ 512
   pub neighbours : state .«max_nearby» ≤ 32

@@ -3,7 +3,7 @@ use nearby_last_cut::NearbyCutState;
 ghost use mathlib.Core.Path.{_≡_};
 ghost use Prim.Native.Nat.{_+_, _<_};
 ghost use lib.ListN.{length, getD, drop};
-ghost use Rattle.nearby_from_cut.specs.Branch.{goes-on, Branchable, Branched, Askable-for, Kept-for};
+ghost use Rattle.nearby_from_cut.specs.Branch.{goes-on, Branchable, Branched, Askable-for, Eligible-for};
 
 // Whether the entry behind the one at i is higher.
 fn goes_on(entries: &[usize], i: usize) -> bool
@@ -17,7 +17,7 @@ fn goes_on(entries: &[usize], i: usize) -> bool
     entries[i] < entries[next]
 }
 
-// The neighbours of a cut that are kept with `missing` cuts still to be picked, into `own`. Answers how many there are.
+// The neighbours of a cut that are eligible with `missing` cuts still to be picked, into `own`. Answers how many there are.
 pub fn neighbours_of(
     state: NearbyCutState,
     distances: &[f64],
@@ -27,11 +27,20 @@ pub fn neighbours_of(
     own: &mut [usize],
 ) -> usize
     requires { ⌜ Askable-for state (now distances) missing cut (now table) (now own) ⌝ }
-    ensures { λ r. ⌜ Kept-for state (now (distances .entry)) missing cut r (now (table .exit)) (now (own .exit)) ⌝ }
+    ensures { λ r. ⌜ Eligible-for state (now (distances .entry)) missing cut r (now (table .exit)) (now (own .exit)) ⌝ }
 {
     let n = state.len;
     let m = state.min_segment_len;
-    nearby_neighbours::kept_neighbours(distances, n, m, state.max_nearby, missing, cut, table, own)
+    nearby_neighbours::eligible_neighbours(
+        distances,
+        n,
+        m,
+        state.max_nearby,
+        missing,
+        cut,
+        table,
+        own,
+    )
 }
 
 // The sets with one of the entries for the next cut and `behind` more cuts after it, into the buffer while there is room. Answers the sets counted so far, one more than fit at most.
@@ -56,11 +65,11 @@ pub fn branch(
     let mut i = 0;
     while i < entries.len() {
         let cut = entries[i];
-        let number = neighbours_of(state, distances, behind, cut, table, &mut own);
-        if number == 0 {
+        let size = neighbours_of(state, distances, behind, cut, table, &mut own);
+        if size == 0 {
             return seen;
         }
-        let list = &own[..number];
+        let list = &own[..size];
         let mut front = cuts;
         front[state.k - 1 - behind] = cut;
         seen = branch(state, distances, behind - 1, list, front, seen, table, lent);

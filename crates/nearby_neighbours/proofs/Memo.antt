@@ -12,9 +12,9 @@ use lib.ListN.{length, getD, take, drop, set, length-set}
 use lib.Seq.{sets, sets-eq, length-sets, take-set-le, drop-set-lt, getD-take, getD-drop, drop-drop, drop-cons, getD-set-same, take-at, drop-at, length-take-le}
 use lib.Ieee.{Float, lt}
 use borrow.Author.Tests.{ltb-true, ltb-false}
-use Rattle.theory.specs.Refusals.{some}
-use Rattle.nearby_nearest.specs.Neighbours.{passing, nearest, nearest-first, neighbours, kept}
-use Rattle.nearby_neighbours.specs.Memo.{Held, Memo, Looked-up, Kept, Picked, between}
+use Rattle.theory.specs.Refusals.{any}
+use Rattle.nearby_nearest.specs.Neighbours.{passing, nearest, nearest-first, neighbours, eligible}
+use Rattle.nearby_neighbours.specs.Memo.{Held, Memo, Looked-up, Eligible, Picked, between}
 
 -- ---- a cut has at most as many neighbours as asked for
 
@@ -27,7 +27,7 @@ first-few : (d : ℕ → Float) (c : ℕ) (l : List ℕ) → length (nearest-fir
 unfolding nearest-first nearest
 first-few d zero l = omega arith
 first-few d (suc c) l =
-    one-at-most (suc c) (λ p. p ∷ nearest-first d c (passing (λ q. not (eqb q p)) l)) (passing (λ p. not (some (λ q. lt (d q) (d p)) l)) l)
+    one-at-most (suc c) (λ p. p ∷ nearest-first d c (passing (λ q. not (eqb q p)) l)) (passing (λ p. not (any (λ q. lt (d q) (d p)) l)) l)
     (λ p. omega (arith, first-few d c (passing (λ q. not (eqb q p)) l)))
 
 pub neighbours-few : (distances : List Float) (n count cut : ℕ) → length (neighbours distances n count cut) ≤ count
@@ -93,9 +93,9 @@ module _ (distances : List Float) (n count cut : ℕ) (table : List ℕ) (few : 
   held-here : Held distances n count (table′ (length row + 1)) cut
   held-here = rw (add-one (length row)) (stored table row (cut * 33) (suc (length row)) (omega (arith, small, memo .places)))
 
-  pub looked-up : (number : ℕ) → number ≡ length (neighbours distances n count cut) →
-      Looked-up distances n count cut (set (sets table (cut * 33 + 1) (neighbours distances n count cut)) (cut * 33) (number + 1))
-  looked-up number e =
+  pub looked-up : (size : ℕ) → size ≡ length (neighbours distances n count cut) →
+      Looked-up distances n count cut (set (sets table (cut * 33 + 1) (neighbours distances n count cut)) (cut * 33) (size + 1))
+  looked-up size e =
       rw e
       (record {
         memo =
@@ -133,12 +133,12 @@ module _ (distances : List Float) (n count cut : ℕ) (table : List ℕ) (held :
       let e : cut * 33 + getD table (cut * 33) 0 - (cut * 33 + 1) ≡ length (neighbours distances n count cut) = omega (arith, held-head) in
       rw (e, ← (drop-drop 1 (cut * 33) table)) (tail-part (length (neighbours distances n count cut)) (drop (cut * 33) table) _ _ held)
 
-  -- The entries of the row that leave room are the neighbours kept.
-  pub kept-are : (m missing number : ℕ) (own : List ℕ) → Memo distances n count table →
-      Picked (between (cut + m) (n - m * missing)) (take (cut * 33 + getD table (cut * 33) 0 - (cut * 33 + 1)) (drop (cut * 33 + 1) table)) number own →
-      Kept distances n m count missing cut number table own
-  unfolding kept
-  kept-are m missing number own memo p = record { memo = memo; within = p .within; list-is = p .list-is ∙ ap (passing (between (cut + m) (n - m * missing))) held-row }
+  -- The entries of the row between the bounds are the eligible neighbours.
+  pub kept-are : (m missing size : ℕ) (own : List ℕ) → Memo distances n count table →
+      Picked (between (cut + m) (n - m * missing)) (take (cut * 33 + getD table (cut * 33) 0 - (cut * 33 + 1)) (drop (cut * 33 + 1) table)) size own →
+      Eligible distances n m count missing cut size table own
+  unfolding eligible
+  kept-are m missing size own memo p = record { memo = memo; within = p .within; list-is = p .list-is ∙ ap (passing (between (cut + m) (n - m * missing))) held-row }
 
   pub head-small : (1 ≤ getD table (cut * 33) 0) × (getD table (cut * 33) 0 ≤ count + 1)
   head-small = (omega (arith, held-head), omega (arith, held-head, neighbours-few distances n count cut))

@@ -15,6 +15,6 @@ pub record Going (allowance : ℕ) (T : Trip) (counted : PairLoop) (route : List
   pub fewer : counted .accepted ≤ counted .examined
 
 -- The same, and a position that has another behind it.
-pub record Row (allowance : ℕ) (T : Trip) (i : ℕ) (counted : PairLoop) (route : List ℕ) : Type 0 where
+pub record Sweep (allowance : ℕ) (T : Trip) (i : ℕ) (counted : PairLoop) (route : List ℕ) : Type 0 where
   pub so-far : Going allowance T counted route
   pub inside : suc i < length route

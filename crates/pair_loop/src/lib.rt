@@ -3,8 +3,8 @@ ghost use mathlib.Core.Path.{_≡_};
 ghost use Prim.Native.Nat.{_<_};
 ghost use lib.ListN.{length};
 ghost use Rattle.theory.specs.Tables.{problem, Timed, trip};
-ghost use Rattle.pair_loop.specs.PairLoop.{stop-before, row, pass, reply-of, PairsTried};
-ghost use Rattle.pair_loop.specs.Parts.{Going, Row};
+ghost use Rattle.pair_loop.specs.PairLoop.{stop-before, sweep, pass, reply-of, PairsTried};
+ghost use Rattle.pair_loop.specs.Parts.{Going, Sweep};
 
 // What the pair loop counted when it ended.
 pub struct PairLoop {
@@ -24,7 +24,7 @@ fn stop_before(depot: u32, route: &[u32], i: usize) -> u32
 }
 
 // The pairs of one i. The stop at i is not read anew after a turn, as in the Rust.
-fn try_row(
+fn try_sweep(
     allowance: u64,
     locations: usize,
     legs: &[u32],
@@ -34,8 +34,8 @@ fn try_row(
     so_far: PairLoop,
     route: &mut [u32],
 ) -> PairLoop
-    requires { ⌜ Row allowance (trip locations (now legs) (now latest) depot) i «so_far» (now route) ⌝ }
-    ensures { λ r. ⌜ reply-of r (now (route .exit)) ≡ row (problem (trip locations (now (legs .entry)) (now (latest .entry)) depot)) allowance (length (now (route .entry))) (reply-of «so_far» (now (route .entry))) i ⌝ }
+    requires { ⌜ Sweep allowance (trip locations (now legs) (now latest) depot) i «so_far» (now route) ⌝ }
+    ensures { λ r. ⌜ reply-of r (now (route .exit)) ≡ sweep (problem (trip locations (now (legs .entry)) (now (latest .entry)) depot)) allowance (length (now (route .entry))) (reply-of «so_far» (now (route .entry))) i ⌝ }
 {
     let mut examined = so_far.examined;
     let mut accepted = so_far.accepted;
@@ -79,7 +79,7 @@ fn try_pass(
     let mut passed = so_far;
     let mut i = 0;
     while i + 1 < route.len() {
-        passed = try_row(allowance, locations, legs, latest, depot, i, passed, route);
+        passed = try_sweep(allowance, locations, legs, latest, depot, i, passed, route);
         if !passed.finished {
             return passed;
         }

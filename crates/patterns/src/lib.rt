@@ -7,7 +7,7 @@ ghost use Prim.Native.Nat.{_-_, _^_};
 ghost use lib.ListN.{length};
 ghost use lib.Seq.{sets};
 ghost use Rattle.theory.specs.Moves.{patterns};
-ghost use Rattle.patterns.specs.Enumeration.{CutCount, PatternRoom, Enumerated, pattern, Listed, Holds};
+ghost use Rattle.patterns.specs.Enumeration.{CutCount, PatternRoom, Enumerated, pattern, Listed, HoldsPattern};
 ghost use Rattle.patterns.specs.Turn.{OrderRoom, Ready, Put};
 
 // The reversals of the middle segments: 2 to the k - 1.
@@ -86,7 +86,7 @@ pub fn enumerate_reconnections(k: usize, orders: &mut [u8], masks: &mut [u8]) ->
 // The pattern with this index.
 pub fn pattern_at(k: usize, index: usize) -> theory::KOptReconnection
     requires { ⌜ Listed k index ⌝ }
-    ensures { λ r. ⌜ Holds k (pattern k index) r ⌝ }
+    ensures { λ r. ⌜ HoldsPattern k (pattern k index) r ⌝ }
 {
     let mut orders = [0u8; ORDER_BYTES];
     let mut masks = [0u8; PATTERNS];

@@ -85,5 +85,5 @@ module _ (k count : ℕ) (orders₀ masks₀ orders masks : List ℕ) (cuts : Cu
           long = sym orders-size ∙ ap₂ _*_ masks-size (add-one k);
           each = λ p i. each-for-k k (omega (arith, cuts .least)) p (rw rows-are at i);
         };
-        some = omega (arith, masks-size, e .count, some-pattern k cuts);
+        not-empty = omega (arith, masks-size, e .count, some-pattern k cuts);
       }

@@ -30,7 +30,7 @@ module _ (k : ℕ) (T : Trip) (orders masks route : List ℕ) (A : ℕ) (ok : Po
   for-cuts = rows-for-cuts k orders masks (omega (arith, ok .least)) (ok .patterns)
 
   pub scannable : (rows : List ℕ) → k ≤ length route + 1 → StateRows k orders masks (length masks) rows → Scannable k T orders masks rows route
-  scannable rows h s = record { least = ok .least; most = ok .most; enough = h; timed = ok .timed; patterns = ok .patterns; some = ok .some; state-rows = s }
+  scannable rows h s = record { least = ok .least; most = ok .most; enough = h; timed = ok .timed; patterns = ok .patterns; not-empty = ok .not-empty; state-rows = s }
 
   -- An answer that is the scan's, with the lengths, has demand 3.
   replies : (answer : Polished) (route′ : List ℕ) → reply-of answer route′ ≡ polish-with (problem T) (pattern-rows k orders masks) k A route →

@@ -10,7 +10,7 @@ pub record PolishableRows (k : ℕ) (T : Trip) (orders masks route : List ℕ) :
   pub most : k ≤ 5
   pub timed : Timed T route
   pub patterns : PatternRows k orders masks
-  pub some : 0 < length masks
+  pub not-empty : 0 < length masks
 
 pub record Polishable (k : ℕ) (T : Trip) (route : List ℕ) : Type 0 where
   pub least : 2 ≤ k

@@ -13,23 +13,23 @@ use lib.ListN.{length, getD, drop, drop-of-length-le}
 use lib.Seq.{drop-cons}
 use Rattle.theory.specs.Moves.{total}
 use Rattle.theory.proofs.Judged.{none-at}
-use Rattle.theory.specs.Refusals.{some, rises, no-number}
+use Rattle.theory.specs.Refusals.{any, rises, no-number}
 use Rattle.refusals.specs.Rounds.{ShortRounds}
 
-some-drop : {A : Type 0} (z : A) (t : A → Bool) (l : List A) (i : ℕ) → i < length l → some t (drop i l) ≡ (t (getD l i z) || some t (drop (i + 1) l))
-unfolding some
-some-drop z t l i h = rw (add-one i, drop-cons l i z h)
+any-drop : {A : Type 0} (z : A) (t : A → Bool) (l : List A) (i : ℕ) → i < length l → any t (drop i l) ≡ (t (getD l i z) || any t (drop (i + 1) l))
+unfolding any
+any-drop z t l i h = rw (add-one i, drop-cons l i z h)
 
-pub some-more : {A : Type 0} (z : A) (t : A → Bool) (l : List A) (i : ℕ) → i < length l → t (getD l i z) ≡ false →
-    some t l ≡ some t (drop i l) → some t l ≡ some t (drop (i + 1) l)
-some-more z t l i h n e = e ∙ some-drop z t l i h ∙ rw n
+pub any-more : {A : Type 0} (z : A) (t : A → Bool) (l : List A) (i : ℕ) → i < length l → t (getD l i z) ≡ false →
+    any t l ≡ any t (drop i l) → any t l ≡ any t (drop (i + 1) l)
+any-more z t l i h n e = e ∙ any-drop z t l i h ∙ rw n
 
-pub some-here : {A : Type 0} (z : A) (t : A → Bool) (l : List A) (i : ℕ) → i < length l → t (getD l i z) ≡ true → some t l ≡ some t (drop i l) → true ≡ some t l
-some-here z t l i h y e = sym (e ∙ some-drop z t l i h ∙ rw y)
+pub any-here : {A : Type 0} (z : A) (t : A → Bool) (l : List A) (i : ℕ) → i < length l → t (getD l i z) ≡ true → any t l ≡ any t (drop i l) → true ≡ any t l
+any-here z t l i h y e = sym (e ∙ any-drop z t l i h ∙ rw y)
 
-pub some-none : {A : Type 0} (t : A → Bool) (l : List A) (i : ℕ) → length l ≤ i → some t l ≡ some t (drop i l) → false ≡ some t l
-unfolding some
-some-none t l i h e = sym (e ∙ rw (drop-of-length-le l h))
+pub any-none : {A : Type 0} (t : A → Bool) (l : List A) (i : ℕ) → length l ≤ i → any t l ≡ any t (drop i l) → false ≡ any t l
+unfolding any
+any-none t l i h e = sym (e ∙ rw (drop-of-length-le l h))
 
 -- Only what is no number differs from itself.
 pub differs : (x : Float) → ne x x ≡ true → no-number x ≡ true
@@ -54,7 +54,7 @@ unfolding total
 total-end l i sum h e = let d : total (λ n. n) (drop i l) ≡ 0 = ap (total (λ n. n)) (drop-of-length-le l h) in omega (arith, d, e)
 
 -- Where no round is beyond 512 and there are at most 64.
-pub rounds-short : (l : List ℕ) → length l ≤ 64 → some (λ x. ltb 512 x) l ≡ false → ShortRounds l
+pub rounds-short : (l : List ℕ) → length l ≤ 64 → any (λ x. ltb 512 x) l ≡ false → ShortRounds l
 rounds-short l h e = record { few = h; short = λ i b. ltb-false 512 (getD l i 0) (none-at (λ x. ltb 512 x) l e i b) }
 
 -- The rest from the place before i on.

@@ -3,7 +3,7 @@ ghost use mathlib.Core.Path.{_≡_};
 ghost use mathlib.Core.Bool.{not};
 ghost use Prim.Native.Nat.{_≤_};
 ghost use lib.Dec.{ltb, leb, eqb};
-ghost use Rattle.theory.specs.Refusals.{some, rises, no-number, either, number, cut-count, leg-table, deadline-list, leg-sizes, known-stops, stop-count, pattern-index, cut-positions, room, refusal, table-rules, problem-rules, cut-lists, own-round, journal-length, known-rounds, round-lists, nearby-input};
+ghost use Rattle.theory.specs.Refusals.{any, rises, no-number, either, number, cut-count, leg-table, deadline-list, leg-sizes, known-stops, stop-count, pattern-index, cut-positions, room, refusal, table-rules, problem-rules, cut-lists, own-round, journal-length, known-rounds, round-lists, nearby-input};
 ghost use Rattle.theory.specs.Moves.{total};
 ghost use Rattle.theory.specs.Tables.{tables, trip};
 ghost use Rattle.patterns.specs.Enumeration.{CutCount};
@@ -12,8 +12,8 @@ ghost use Rattle.refusals.specs.Rounds.{ShortRounds};
 // ---- tests over a list
 
 // Whether an entry is above the limit.
-pub fn some_above(entries: &[u32], limit: u32) -> bool
-    ensures { λ r. ⌜ r ≡ some (λ x. ltb limit x) (now (entries .entry)) ⌝ }
+pub fn any_above(entries: &[u32], limit: u32) -> bool
+    ensures { λ r. ⌜ r ≡ any (λ x. ltb limit x) (now (entries .entry)) ⌝ }
 {
     let mut i = 0;
     while i < entries.len() {
@@ -26,8 +26,8 @@ pub fn some_above(entries: &[u32], limit: u32) -> bool
 }
 
 // Whether a stop is not below the locations.
-pub fn some_unknown(stops: &[u32], locations: usize) -> bool
-    ensures { λ r. ⌜ r ≡ some (λ x. leb locations x) (now (stops .entry)) ⌝ }
+pub fn any_unknown(stops: &[u32], locations: usize) -> bool
+    ensures { λ r. ⌜ r ≡ any (λ x. leb locations x) (now (stops .entry)) ⌝ }
 {
     let mut i = 0;
     while i < stops.len() {
@@ -41,8 +41,8 @@ pub fn some_unknown(stops: &[u32], locations: usize) -> bool
 }
 
 // Whether a cut lies beyond n.
-pub fn some_beyond(cuts: &[usize], n: usize) -> bool
-    ensures { λ r. ⌜ r ≡ some (λ x. ltb n x) (now (cuts .entry)) ⌝ }
+pub fn any_beyond(cuts: &[usize], n: usize) -> bool
+    ensures { λ r. ⌜ r ≡ any (λ x. ltb n x) (now (cuts .entry)) ⌝ }
 {
     let mut i = 0;
     while i < cuts.len() {
@@ -69,8 +69,8 @@ pub fn strictly_rising(cuts: &[usize]) -> bool
 }
 
 // Whether a cut names another round.
-pub fn some_other(rounds: &[usize], round: usize) -> bool
-    ensures { λ r. ⌜ r ≡ some (λ x. not (eqb x round)) (now (rounds .entry)) ⌝ }
+pub fn any_other(rounds: &[usize], round: usize) -> bool
+    ensures { λ r. ⌜ r ≡ any (λ x. not (eqb x round)) (now (rounds .entry)) ⌝ }
 {
     let mut i = 0;
     while i < rounds.len() {
@@ -83,8 +83,8 @@ pub fn some_other(rounds: &[usize], round: usize) -> bool
 }
 
 // Whether an entry is no number: only that one differs from itself.
-pub fn some_no_number(distances: &[f64]) -> bool
-    ensures { λ r. ⌜ r ≡ some no-number (now (distances .entry)) ⌝ }
+pub fn any_no_number(distances: &[f64]) -> bool
+    ensures { λ r. ⌜ r ≡ any no-number (now (distances .entry)) ⌝ }
 {
     let mut i = 0;
     while i < distances.len() {
@@ -162,7 +162,7 @@ pub fn check_deadline_list(locations: usize, latest: &[u32]) -> u32
 pub fn check_leg_sizes(legs: &[u32]) -> u32
     ensures { λ r. ⌜ r ≡ number (leg-sizes (now (legs .entry))) ⌝ }
 {
-    if some_above(legs, 1000000) {
+    if any_above(legs, 1000000) {
         return 3;
     }
     0
@@ -174,7 +174,7 @@ pub fn check_known_stops(locations: usize, depot: u32, route: &[u32]) -> u32
     if locations <= depot as usize {
         return 4;
     }
-    if some_unknown(route, locations) {
+    if any_unknown(route, locations) {
         return 4;
     }
     0
@@ -206,7 +206,7 @@ pub fn check_cut_positions(k: usize, n: usize, cuts: &[usize]) -> u32
     if cuts.len() != k {
         return 7;
     }
-    if some_beyond(cuts, n) {
+    if any_beyond(cuts, n) {
         return 7;
     }
     if strictly_rising(cuts) {
@@ -227,7 +227,7 @@ pub fn check_cut_lists(rounds: &[usize], positions: &[usize]) -> u32
 pub fn check_own_round(round: usize, rounds: &[usize]) -> u32
     ensures { λ r. ⌜ r ≡ number (own-round round (now (rounds .entry))) ⌝ }
 {
-    if some_other(rounds, round) {
+    if any_other(rounds, round) {
         return 8;
     }
     0
@@ -282,10 +282,10 @@ pub fn check_problem(
 pub fn check_known_rounds(locations: usize, depots: &[u32], stops: &[u32]) -> u32
     ensures { λ r. ⌜ r ≡ number (known-rounds locations (now (depots .entry)) (now (stops .entry))) ⌝ }
 {
-    if some_unknown(depots, locations) {
+    if any_unknown(depots, locations) {
         return 4;
     }
-    if some_unknown(stops, locations) {
+    if any_unknown(stops, locations) {
         return 4;
     }
     0
@@ -299,7 +299,7 @@ pub fn check_round_lists(lengths: &[usize], depots: &[u32], pins: &[u8], stops: 
     if 64 < rounds {
         return 5;
     }
-    if some_beyond(lengths, 512) {
+    if any_beyond(lengths, 512) {
         return 5;
     }
     if depots.len() != rounds {
@@ -331,7 +331,7 @@ pub fn check_nearby_input(n: usize, distances: &[f64], m: usize, neighbours: usi
     if distances.len() != n * n {
         return 9;
     }
-    if some_no_number(distances) {
+    if any_no_number(distances) {
         return 9;
     }
     0

@@ -8,7 +8,7 @@ use lib.ListN.{length, getD}
 use borrow.Author.Tests.{ltb-false, leb-false, eqb-true, not-false}
 use Rattle.theory.specs.Tables.{Tables, Fleet}
 use Rattle.theory.specs.Moves.{total}
-use Rattle.theory.specs.Refusals.{some, cut-count, known-rounds, round-lists, table-rules}
+use Rattle.theory.specs.Refusals.{any, cut-count, known-rounds, round-lists, table-rules}
 use Rattle.theory.proofs.Refusals.{Passes}
 use Rattle.theory.proofs.Judged.{or-false, none-at, cut-count-fine, table-fine, deadlines-fine}
 use Rattle.run.specs.Run.{Runnable}
@@ -19,9 +19,9 @@ pub runnable-fine : (k : ℕ) (T : Tables) (F : Fleet) (result : List ℕ) →
     4 * length (F .lengths) ≤ length result → Runnable k T F result
 runnable-fine k T F result a t e f g =
     let n = cut-count-fine k a in
-    let p = or-false (some (λ s. leb (T .locations) s) (F .depots)) (some (λ s. leb (T .locations) s) (F .stops)) e in
+    let p = or-false (any (λ s. leb (T .locations) s) (F .depots)) (any (λ s. leb (T .locations) s) (F .stops)) e in
     let many = ltb 64 (length (F .lengths)) in
-    let long = some (λ n. ltb 512 n) (F .lengths) in
+    let long = any (λ n. ltb 512 n) (F .lengths) in
     let depots-differ = not (eqb (length (F .depots)) (length (F .lengths))) in
     let pins-differ = not (eqb (length (F .pins)) (length (F .lengths))) in
     let stops-differ = not (eqb (total (λ n. n) (F .lengths)) (length (F .stops))) in

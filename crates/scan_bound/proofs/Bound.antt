@@ -47,7 +47,7 @@ pub record Moving (p : ℕ) (F J : ℕ → ℕ → ℕ) (legs tail last : ℕ) (
   pub at-last : J p 8 ≡ F p 8 + last
 
 -- What is known where the three tests of a last cut fail.
-pub record NoRoom (p now legs tail last : ℕ) (low out back : ℕ → ℕ) : Type 0 where
+pub record Unpromising (p now legs tail last : ℕ) (low out back : ℕ → ℕ) : Type 0 where
   pub straight : (w : ℕ) → w < p → now + last ≤ low w + out w + tail
   pub ended : now ≤ low 8
   pub reversed : (u : ℕ) → Before p u → now + legs + last ≤ low (10 + u) + back u + tail
@@ -58,7 +58,7 @@ module _ {p : ℕ} {F J : ℕ → ℕ → ℕ} {legs tail last : ℕ} {out back 
   after-P a [] s w = m .ending a s
   after-P a (b ∷ bs) s w = omega (arith, m .others a b (after-still s) (w .0), after-P b bs (inl (w .0)) (w .1))
 
-  module _ {now : ℕ} {low : ℕ → ℕ} (n : NoRoom p now legs tail last low out back) where
+  module _ {now : ℕ} {low : ℕ → ℕ} (n : Unpromising p now legs tail last low out back) where
     straight-on : (a : ℕ) (bs : List ℕ) (acc : ℕ) → Before p a → Without p bs → low (next-state bs) ≤ acc + (F a p + chain-by F p bs) → now + legs + last ≤ acc + (J a p + chain-by J p bs)
     unfolding chain-by
     straight-on a [] acc s w h = omega (arith, m .into a s, m .at-last, n .ended)

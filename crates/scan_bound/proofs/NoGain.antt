@@ -12,16 +12,16 @@ use Rattle.costs.specs.RouteCosts.{leg, head-end, tail-start}
 use Rattle.costs.proofs.Orders.{middle-is}
 use Rattle.scan_joints.specs.States.{state-of, states, standing-row, row, placed-in}
 use Rattle.scan_shared.specs.Bound.{chain-by, class, exit-of, opened, last-state}
-use Rattle.scan_shared.specs.Kept.{shared, Kept}
-use Rattle.scan_bound.specs.Room.{NoGain}
-use Rattle.scan_bound.proofs.Bound.{After, Once, NoRoom, row-costs}
+use Rattle.scan_shared.specs.Prepared.{shared, Prepared}
+use Rattle.scan_bound.specs.NoGain.{NoGain}
+use Rattle.scan_bound.proofs.Bound.{After, Once, Unpromising, row-costs}
 use Rattle.scan_shared.proofs.Padding.{chain-padded}
 use Rattle.scan_bound.proofs.Once.{class-padded, once-row, standing-costs}
 use Rattle.scan_bound.proofs.Shared.{moving}
 use Rattle.scan_bound.proofs.Cost.{no-shorter}
 
 module _ {locations : ℕ} {legs : List ℕ} {depot : ℕ} {r pre rows : List ℕ} {count : ℕ} {entries exits inside low : List ℕ}
-    (kept : Kept locations legs depot r pre rows count entries exits inside low) (some : 1 ≤ length pre) (c : ℕ)
+    (kept : Prepared locations legs depot r pre rows count entries exits inside low) (some : 1 ≤ length pre) (c : ℕ)
     (cut-set : CutSet (length (pre ++ (c ∷ []))) (length r) (pre ++ (c ∷ []))) where
   long : length (pre ++ (c ∷ [])) ≡ suc (length pre)
   long = simp length-append (omega arith)
@@ -48,7 +48,7 @@ module _ {locations : ℕ} {legs : List ℕ} {depot : ℕ} {r pre rows : List �
   states-are order mask f = rw (middle-is (suc (length pre)) order mask (omega arith) f)
 
   pub no-gain : (tail : ℕ) → ((a : ℕ) → After (last-state pre) a → tail ≤ leg locations legs (exit-of (placed-in (opened pre) r) (head-end (legs-only locations legs depot) r (opened pre)) a) (tail-start (legs-only locations legs depot) r (pre ++ (c ∷ [])))) →
-      NoRoom (last-state pre) (getD low 20 0) (inner (leg locations legs) (placed-in (pre ++ (c ∷ [])) r (last-state pre))) tail
+      Unpromising (last-state pre) (getD low 20 0) (inner (leg locations legs) (placed-in (pre ++ (c ∷ [])) r (last-state pre))) tail
       (leg locations legs (getD r (c - 1) 0) (tail-start (legs-only locations legs depot) r (pre ++ (c ∷ [])))) (λ x. getD low x 0)
       (λ b. leg locations legs (getD r (c - 1) 0) (first-of (placed-in (opened pre) r b) 0) + inner (leg locations legs) (placed-in (opened pre) r b))
       (λ a. leg locations legs (exit-of (placed-in (opened pre) r) (head-end (legs-only locations legs depot) r (opened pre)) a) (getD r (c - 1) 0) + inner (leg locations legs) (placed-in (pre ++ (c ∷ [])) r (suc (last-state pre)))) →

@@ -19,7 +19,7 @@ use Rattle.scan_joints.proofs.States.{halves}
 use Rattle.scan_joints.proofs.Ends.{part-slice, entry-at, exit-at}
 use Rattle.scan_shared.specs.Bound.{exit-of, joint-by, fixed-by, opened, last-state}
 use Rattle.scan_bound.proofs.Bound.{After, Still, Moving, before-still, after-still}
-use Rattle.scan_shared.proofs.Keeping.{long}
+use Rattle.scan_shared.proofs.Preparing.{long}
 
 -- ---- another last cut
 

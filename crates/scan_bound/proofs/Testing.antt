@@ -19,14 +19,14 @@ use Rattle.scan_joints.specs.States.{placed-in}
 use Rattle.scan_joints.specs.JointTable.{Joinable}
 use Rattle.scan_joints.proofs.Ends.{inside-is, inside-small, entry-known, exit-known, head-below}
 use Rattle.scan_shared.specs.Bound.{exit-of, opened, last-state}
-use Rattle.scan_shared.specs.Kept.{Cut, Kept}
-use Rattle.scan_bound.specs.Room.{NoGain}
-use Rattle.scan_bound.specs.Tests.{LeastInto, LeastOut, IntoFits, OutFits, RoomTestable, RoomTested, Nextable, NextRoom}
-use Rattle.scan_bound.proofs.Bound.{Before, After, NoRoom}
+use Rattle.scan_shared.specs.Prepared.{Cut, Prepared}
+use Rattle.scan_bound.specs.NoGain.{NoGain}
+use Rattle.scan_bound.specs.Tests.{LeastInto, LeastOut, IntoFits, OutFits, PromisingTestable, PromisingTested, Nextable, NextPromising}
+use Rattle.scan_bound.proofs.Bound.{Before, After, Unpromising}
 use Rattle.scan_bound.proofs.Shared.{other-cut, last-two, same-head, P-is, back-exit, first-set}
 use Rattle.scan_bound.proofs.NoGain.{no-gain}
 use Rattle.costs.proofs.Segments.{cuts-parted, first-many}
-use Rattle.scan_shared.proofs.Keeping.{first-at, no-cells}
+use Rattle.scan_shared.proofs.Preparing.{first-at, no-cells}
 
 module _ {locations : ℕ} {legs : List ℕ} {depot : ℕ} {r forwards backwards cuts : List ℕ} (cut : Cut locations legs depot r forwards backwards cuts) where
   abbrev pub pre : List ℕ
@@ -129,7 +129,7 @@ module _ {locations : ℕ} {legs : List ℕ} {depot : ℕ} {r forwards backwards
 -- ---- what the minima ask
 
 module _ {locations : ℕ} {legs : List ℕ} {depot : ℕ} {r forwards backwards cuts : List ℕ} {head : ℕ} {entries exits inside low zeros : List ℕ} {c : ℕ}
-    (given : RoomTestable locations legs depot r forwards backwards cuts head entries exits inside low zeros c) where
+    (given : PromisingTestable locations legs depot r forwards backwards cuts head entries exits inside low zeros c) where
   abbrev cut : Cut locations legs depot r forwards backwards cuts
   cut = given .cut
 
@@ -152,8 +152,8 @@ module _ {locations : ℕ} {legs : List ℕ} {depot : ℕ} {r forwards backwards
         inside-places = given .places .ends .inside-places;
         low-places = given .places .low-places;
         low-small = given .places .low-small;
-        entries-known = λ s l. rw (given .kept .entry s (early s l)) (entry-known (joined (given .cut)) s (state s l));
-        inside-small = λ s l. rw (given .kept .within s (early s l), ← (inside-is (joined (given .cut)) s (state s l))) (inside-small (joined (given .cut)) s (state s l));
+        entries-known = λ s l. rw (given .prepared .entry s (early s l)) (entry-known (joined (given .cut)) s (state s l));
+        inside-small = λ s l. rw (given .prepared .within s (early s l), ← (inside-is (joined (given .cut)) s (state s l))) (inside-small (joined (given .cut)) s (state s l));
       }
 
   pub out-fits : {y start : ℕ} {add : List ℕ} → y < locations → length add ≡ 21 → ((x : ℕ) → getD add x 0 ≤ 2 ^ 43) → OutFits locations legs exits y add start (2 * (length cuts - 2))
@@ -165,7 +165,7 @@ module _ {locations : ℕ} {legs : List ℕ} {depot : ℕ} {r forwards backwards
         exit-places = given .places .ends .exit-places;
         add-places = n;
         add-small = k;
-        exits-known = λ s l. rw (given .kept .exit s (early s l)) (exit-known (joined (given .cut)) s (state s l));
+        exits-known = λ s l. rw (given .prepared .exit s (early s l)) (exit-known (joined (given .cut)) s (state s l));
       }
 
   -- ---- the tests fail
@@ -181,7 +181,7 @@ module _ {locations : ℕ} {legs : List ℕ} {depot : ℕ} {r forwards backwards
     y-tail = y-is ∙ tail-is (given .cut) c (given .least) (given .most)
 
     exit-at : (a : ℕ) → a < last-state (first-cuts cuts) → getD exits a 0 ≡ exit-of (placed-in (opened (first-cuts cuts)) r) (head-end (legs-only locations legs depot) r (opened (first-cuts cuts))) a
-    exit-at a h = rw (ne-eqb a 9 (λ (q : a ≡ 9). omega (arith, state-is (given .cut), small))) (given .kept .exit a h)
+    exit-at a h = rw (ne-eqb a 9 (λ (q : a ≡ 9). omega (arith, state-is (given .cut), small))) (given .prepared .exit a h)
 
     tail-below : (a : ℕ) → After (last-state (first-cuts cuts)) a →
         tail ≤ leg locations legs (exit-of (placed-in (opened (first-cuts cuts)) r) (head-end (legs-only locations legs depot) r (opened (first-cuts cuts))) a) (tail-start (legs-only locations legs depot) r (first-cuts cuts ++ (c ∷ [])))
@@ -191,14 +191,14 @@ module _ {locations : ℕ} {legs : List ℕ} {depot : ℕ} {r forwards backwards
         let out = back-exit r (first-cuts cuts) (some (given .cut)) (suc (getD (first-cuts cuts) (length (first-cuts cuts) - 1) 0)) (opened-set (given .cut)) in
         rw (e, ne-eqb (suc (last-state (first-cuts cuts))) 9 n, out, start-is (given .cut), ← y-tail, ← back-is) (tail-least .start-above)
 
-    room-none : NoRoom (last-state (first-cuts cuts)) (getD low 20 0) (inner (leg locations legs) (placed-in (first-cuts cuts ++ (c ∷ [])) r (last-state (first-cuts cuts)))) tail
+    room-none : Unpromising (last-state (first-cuts cuts)) (getD low 20 0) (inner (leg locations legs) (placed-in (first-cuts cuts ++ (c ∷ [])) r (last-state (first-cuts cuts)))) tail
         (leg locations legs (getD r (c - 1) 0) (tail-start (legs-only locations legs depot) r (first-cuts cuts ++ (c ∷ [])))) (λ z. getD low z 0)
         (λ b. leg locations legs (getD r (c - 1) 0) (first-of (placed-in (opened (first-cuts cuts)) r b) 0) + inner (leg locations legs) (placed-in (opened (first-cuts cuts)) r b))
         (λ a. leg locations legs (exit-of (placed-in (opened (first-cuts cuts)) r) (head-end (legs-only locations legs depot) r (opened (first-cuts cuts))) a) (getD r (c - 1) 0) + inner (leg locations legs) (placed-in (first-cuts cuts ++ (c ∷ [])) r (suc (last-state (first-cuts cuts)))))
     room-none =
         record {
           straight = λ w h.
-              rw (← y-tail, ← x-is, ← (given .kept .entry w h), ← (given .kept .within w h)) (omega (arith, here-is, no-straight, straight-least .below w (omega (arith, state-is (given .cut)))));
+              rw (← y-tail, ← x-is, ← (given .prepared .entry w h), ← (given .prepared .within w h)) (omega (arith, here-is, no-straight, straight-least .below w (omega (arith, state-is (given .cut)))));
           ended = no-last;
           reversed = λ u h. by u h;
         }
@@ -213,18 +213,18 @@ module _ {locations : ℕ} {legs : List ℕ} {depot : ℕ} {r forwards backwards
             rw (e, ← y-tail, ← x-is, ← (head-same (given .cut)), ← (given .head-is))
             (omega (arith, here-is, on-is, off-is, ltb-false (turned + tail + off) (here + on) no-turned, turned-least .start-above, after-is, forward-P (given .cut) c (given .least) (given .most), backward-P (given .cut) c (given .least) (given .most)))
 
-    pub gains-none : (rows : List ℕ) (count : ℕ) → Kept locations legs depot r (first-cuts cuts) rows count entries exits inside low → NoGain locations legs depot r (first-cuts cuts) rows count c
+    pub gains-none : (rows : List ℕ) (count : ℕ) → Prepared locations legs depot r (first-cuts cuts) rows count entries exits inside low → NoGain locations legs depot r (first-cuts cuts) rows count c
     gains-none rows count kept = no-gain kept (some (given .cut)) c (other (given .cut) c (given .least) (given .most)) tail tail-below room-none
 
 -- ---- from last cut to last cut
 
 module _ {locations : ℕ} {legs : List ℕ} {depot : ℕ} {r forwards backwards cuts entries exits inside low zeros : List ℕ}
     (given : Nextable locations legs depot r forwards backwards cuts entries exits inside low zeros) where
-  pub none-passed : NextRoom locations legs depot r cuts entries exits inside low (last-cut cuts)
+  pub none-passed : NextPromising locations legs depot r cuts entries exits inside low (last-cut cuts)
   none-passed = record { least = omega arith; most = omega (arith, two-last (given .cut) .1); idle = λ c h k. absurd (omega arith) }
 
-  pub one-passed : {c : ℕ} {b : Bool} → c ≤ length r → NextRoom locations legs depot r cuts entries exits inside low c → RoomTested locations legs depot r cuts entries exits inside low c b → b ≡ false →
-      NextRoom locations legs depot r cuts entries exits inside low (c + 1)
+  pub one-passed : {c : ℕ} {b : Bool} → c ≤ length r → NextPromising locations legs depot r cuts entries exits inside low c → PromisingTested locations legs depot r cuts entries exits inside low c b → b ≡ false →
+      NextPromising locations legs depot r cuts entries exits inside low (c + 1)
   one-passed {c} {b} l w t e =
       record {
         least = omega (arith, w .least);
@@ -232,13 +232,13 @@ module _ {locations : ℕ} {legs : List ℕ} {depot : ℕ} {r forwards backwards
         idle = λ x h k rows count kept. by x h k rows count kept (decLt x c);
       }
     where
-      by : (x : ℕ) → last-cut cuts ≤ x → x < c + 1 → (rows : List ℕ) (count : ℕ) → Kept locations legs depot r (first-cuts cuts) rows count entries exits inside low → Dec (x < c) →
+      by : (x : ℕ) → last-cut cuts ≤ x → x < c + 1 → (rows : List ℕ) (count : ℕ) → Prepared locations legs depot r (first-cuts cuts) rows count entries exits inside low → Dec (x < c) →
           NoGain locations legs depot r (first-cuts cuts) rows count x
       by x h k rows count kept (yes m) = w .idle x h m rows count kept
       by x h k rows count kept (no m) = let q : x ≡ c = omega arith in rw q (t e rows count kept)
 
 pub testable : {locations : ℕ} {legs : List ℕ} {depot : ℕ} {r forwards backwards cuts entries exits inside low zeros : List ℕ} {head c : ℕ} →
     Nextable locations legs depot r forwards backwards cuts entries exits inside low zeros → head ≡ head-end (legs-only locations legs depot) r cuts → last-cut cuts ≤ c → c ≤ length r →
-    RoomTestable locations legs depot r forwards backwards cuts head entries exits inside low zeros c
+    PromisingTestable locations legs depot r forwards backwards cuts head entries exits inside low zeros c
 testable g e h l =
-    record { cut = g .cut; head-is = e; places = g .places; kept = g .kept; zero-places = g .zero-places; zero-is = g .zero-is; least = h; most = l }
+    record { cut = g .cut; head-is = e; places = g .places; prepared = g .prepared; zero-places = g .zero-places; zero-is = g .zero-is; least = h; most = l }

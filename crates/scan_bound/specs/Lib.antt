@@ -1,2 +1,2 @@
-pub mod Room
+pub mod NoGain
 pub mod Tests

@@ -1,4 +1,4 @@
-// The cut sets that leave no room for a gain, passed over without a look at their patterns. No entry: crate scan_stretch calls it.
+// The cut sets that can hold no gain, passed over without a look at their patterns. No entry: crate scan_stretch calls it.
 use scan_joints::STATES;
 use scan_joints::TAIL;
 use scan_shared::AFTER_HEAD;
@@ -6,7 +6,7 @@ use scan_shared::LOW_PLACES;
 use scan_shared::REVERSED;
 use scan_shared::STANDING;
 use theory::STOPS;
-ghost use Rattle.scan_bound.specs.Tests.{IntoFits, LeastInto, OutFits, LeastOut, RoomTestable, RoomTested, Nextable, NextRoom};
+ghost use Rattle.scan_bound.specs.Tests.{IntoFits, LeastInto, OutFits, LeastOut, PromisingTestable, PromisingTested, Nextable, NextPromising};
 
 // The least of what follows P, as it stands and left at the stop `from`: a state before P, with the least cost of its class.
 fn least_into(
@@ -55,7 +55,7 @@ fn least_out(
 }
 
 // Whether a pattern may gain at last cut c: the tests bound from below what every pattern costs, by its class.
-fn has_room(
+fn is_promising(
     locations: usize,
     legs: &[u32],
     depot: u32,
@@ -71,8 +71,8 @@ fn has_room(
     zero: &[u64; LOW_PLACES],
     c: usize,
 ) -> bool
-    requires { ⌜ RoomTestable locations (now legs) depot (now route) (now forward) (now backward) (now cuts) head (now entries) (now exits) (now inside) (now low) (now zero) c ⌝ }
-    ensures { λ r. ⌜ RoomTested locations (now (legs .entry)) depot (now (route .entry)) (now (cuts .entry)) (now (entries .entry)) (now (exits .entry)) (now (inside .entry)) (now (low .entry)) c r ⌝ }
+    requires { ⌜ PromisingTestable locations (now legs) depot (now route) (now forward) (now backward) (now cuts) head (now entries) (now exits) (now inside) (now low) (now zero) c ⌝ }
+    ensures { λ r. ⌜ PromisingTested locations (now (legs .entry)) depot (now (route .entry)) (now (cuts .entry)) (now (entries .entry)) (now (exits .entry)) (now (inside .entry)) (now (low .entry)) c r ⌝ }
 {
     if low[TAIL] < low[STANDING] {
         return true;
@@ -94,8 +94,8 @@ fn has_room(
     turned + tail + costs::inner(backward, start, c) < here + on
 }
 
-// From the last cut on, with the same first cuts, the first last cut that has room, or one beyond the route. `zero` holds nothing: who calls again and again keeps it.
-pub fn next_room(
+// From the last cut on, with the same first cuts, the first last cut that is promising, or one beyond the route. `zero` holds nothing: who calls again and again keeps it.
+pub fn next_promising(
     locations: usize,
     legs: &[u32],
     depot: u32,
@@ -110,12 +110,12 @@ pub fn next_room(
     zero: &[u64; LOW_PLACES],
 ) -> usize
     requires { ⌜ Nextable locations (now legs) depot (now route) (now forward) (now backward) (now cuts) (now entries) (now exits) (now inside) (now low) (now zero) ⌝ }
-    ensures { λ r. ⌜ NextRoom locations (now (legs .entry)) depot (now (route .entry)) (now (cuts .entry)) (now (entries .entry)) (now (exits .entry)) (now (inside .entry)) (now (low .entry)) r ⌝ }
+    ensures { λ r. ⌜ NextPromising locations (now (legs .entry)) depot (now (route .entry)) (now (cuts .entry)) (now (entries .entry)) (now (exits .entry)) (now (inside .entry)) (now (low .entry)) r ⌝ }
 {
     let head = costs::head_end(depot, route, cuts);
     let mut c = cuts[cuts.len() - 1];
     while c <= route.len() {
-        if has_room(
+        if is_promising(
             locations,
             legs,
             depot,

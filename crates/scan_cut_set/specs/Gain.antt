@@ -34,7 +34,7 @@ pub record FirstGain (P : Problem) (ps : List Pattern) (k : ℕ) (route cuts : L
 
 -- A cut, and a place for the lateness behind it.
 pub record LateBehind (late cuts : List ℕ) : Type 0 where
-  pub some : 1 ≤ length cuts
+  pub not-empty : 1 ≤ length cuts
   pub within : getD cuts (length cuts - 1) 0 < length late
   pub places : length late ≡ 513
 

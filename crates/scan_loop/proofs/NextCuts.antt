@@ -12,8 +12,8 @@ use Rattle.theory.proofs.Moves.{length-upfrom}
 use Rattle.theory.proofs.Delta.{upfrom-snoc}
 use Rattle.theory.proofs.Walk.{next-stuck, next-moves, next-under}
 use Rattle.scan_shared.specs.Bound.{opened}
-use Rattle.scan_shared.specs.Kept.{Opened}
-use Rattle.scan_shared.proofs.Keeping.{last-of-cuts, long}
+use Rattle.scan_shared.specs.Prepared.{Opened}
+use Rattle.scan_shared.proofs.Preparing.{last-of-cuts, long}
 
 opened-so : (pre : List ℕ) → 1 ≤ length pre → Opened (opened pre)
 opened-so pre h =

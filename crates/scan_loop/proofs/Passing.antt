@@ -15,13 +15,13 @@ use Rattle.theory.specs.Route.{reconnected, feasible}
 use Rattle.theory.specs.Polish.{search-of, polish-with, move-at}
 use Rattle.theory.specs.Tables.{problem, clock-by, CutSet, pattern-rows, Trip}
 use Rattle.theory.proofs.Polishing.{within, as-long, gained, passed, finishes, is-spent}
-use Rattle.cut_step.specs.Step.{found, or-kept, Stepped}
+use Rattle.cut_step.specs.Step.{found, or-unmoved, Stepped}
 use Rattle.costs.specs.RouteCosts.{leg, Sums, first-cuts, last-cut}
 use Rattle.costs.proofs.Segments.{cut-below, cuts-parted}
 use Rattle.deadlines.specs.Lateness.{Latenesses}
 use Rattle.deadlines.proofs.Lateness.{none-late, kept-not-late, kept-head}
 use Rattle.scan_joints.specs.JointTable.{Padded}
-use Rattle.scan_shared.specs.Kept.{Opened}
+use Rattle.scan_shared.specs.Prepared.{Opened}
 use Rattle.scan_stretch.specs.declared.Stretch.{Stretch}
 use Rattle.scan_stretch.specs.Stretch.{Stretchable, Ended, Stretched}
 use Rattle.scan_taking.specs.Candidate.{candidate, Candidate}
@@ -243,7 +243,7 @@ module _ (k : ℕ) (T : Trip) (orders masks rows route₀ : List ℕ) (A : ℕ) 
         over = end .over w .0 ∙ ap (λ n. (length r + 1 - last-cut cuts) * n) as-many
 
         pub some-examined : 0 < answer .examined
-        some-examined = rw over (mul-pos (omega (arith, last-below)) (ok .some))
+        some-examined = rw over (mul-pos (omega (arith, last-below)) (ok .not-empty))
 
         at-last : At k T orders masks rows route₀ A ok (first-cuts cuts ++ (length r ∷ [])) (e + (length r - last-cut cuts) * length masks) c r
         at-last = reached (length r) last-below (omega arith) (omega (arith, over, count-least (last-cut cuts) (length r) (length r + 1) (length masks) (omega arith)))
@@ -262,7 +262,7 @@ module _ (k : ℕ) (T : Trip) (orders masks rows route₀ : List ℕ) (A : ℕ) 
           moves-on s = by (next-cuts (length route₀) (first-cuts cuts ++ (length r ∷ []))) refl (rw (end .over w .1, same) at (s .moved)) (rw (end .over w .1, same) at (s .cuts-after))
             where
               by : (o : Option (List ℕ)) → next-cuts (length route₀) (first-cuts cuts ++ (length r ∷ [])) ≡ o → true ≡ found (next-cuts (length route₀) (first-cuts cuts ++ (length route₀ ∷ []))) →
-                  cuts″ ≡ or-kept (next-cuts (length route₀) (first-cuts cuts ++ (length route₀ ∷ []))) (first-cuts cuts ++ (length route₀ ∷ [])) →
+                  cuts″ ≡ or-unmoved (next-cuts (length route₀) (first-cuts cuts ++ (length route₀ ∷ []))) (first-cuts cuts ++ (length route₀ ∷ [])) →
                   At k T orders masks rows route₀ A ok cuts″ (e + answer .examined) c r × Opened cuts″
               by none o m a = absurd (true≢false (rw (rw same at o) at m))
               by (some cs) o m a =

@@ -17,7 +17,7 @@ pub record Scannable (k : ℕ) (T : Trip) (orders masks rows route : List ℕ) :
   pub enough : k ≤ length route + 1
   pub timed : Timed T route
   pub patterns : PatternRows k orders masks
-  pub some : 0 < length masks
+  pub not-empty : 0 < length masks
   pub state-rows : StateRows k orders masks (length masks) rows
 
 -- "Round and reply are those of document 01's scan."

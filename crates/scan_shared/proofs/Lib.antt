@@ -1,4 +1,4 @@
 pub mod Padding
 mod Classes
 mod Filling
-pub mod Keeping
+pub mod Preparing

@@ -11,7 +11,7 @@ use Rattle.costs.specs.RouteCosts.{leg, first-cuts}
 use Rattle.scan_joints.specs.States.{row}
 use Rattle.scan_joints.specs.JointTable.{cell, chain, Padded, EndPlaces}
 use Rattle.scan_shared.specs.Bound.{class}
-use Rattle.scan_shared.specs.Kept.{Cut, RowsFit, Places, Opened, Kept}
+use Rattle.scan_shared.specs.Prepared.{Cut, RowsFit, Places, Opened, Prepared}
 
 -- ---- the least cost of each class
 
@@ -85,13 +85,13 @@ pub record FixedTable (locations : ℕ) (legs : List ℕ) (head p : ℕ) (entrie
   pub filled : (a b : ℕ) → (a < suc (suc p)) ⊎ (a ≡ 9) → b < 16 → cell table a b ≡ fixed-cell locations legs p head entries exits inside a b
   pub blank : (a b : ℕ) → suc (suc p) ≤ a → a < 9 → b < 16 → cell table a b ≡ 0
 
--- A cut set that is the first with its first cuts, and places for what is kept of them.
-pub record Keepable (locations : ℕ) (legs : List ℕ) (depot : ℕ) (route forward-sums backward-sums cuts rows : List ℕ) (count : ℕ) (entries exits inside low : List ℕ) : Type 0 where
+-- A cut set that is the first with its first cuts, and places for what is prepared for them.
+pub record Preparable (locations : ℕ) (legs : List ℕ) (depot : ℕ) (route forward-sums backward-sums cuts rows : List ℕ) (count : ℕ) (entries exits inside low : List ℕ) : Type 0 where
   pub cut : Cut locations legs depot route forward-sums backward-sums cuts
   pub rows-fit : RowsFit rows count
   pub places : Places entries exits inside low
   pub first : Opened cuts
 
-pub record KeptNow (locations : ℕ) (legs : List ℕ) (depot : ℕ) (route cuts rows : List ℕ) (count : ℕ) (entries exits inside low : List ℕ) : Type 0 where
+pub record PreparedNow (locations : ℕ) (legs : List ℕ) (depot : ℕ) (route cuts rows : List ℕ) (count : ℕ) (entries exits inside low : List ℕ) : Type 0 where
   pub places : Places entries exits inside low
-  pub kept : Kept locations legs depot route (first-cuts cuts) rows count entries exits inside low
+  pub prepared : Prepared locations legs depot route (first-cuts cuts) rows count entries exits inside low

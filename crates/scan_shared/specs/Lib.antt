@@ -1,3 +1,3 @@
 pub mod Bound
-pub mod Kept
+pub mod Prepared
 pub mod Filling

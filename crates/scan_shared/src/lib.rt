@@ -12,7 +12,7 @@ ghost use mathlib.Core.List.{[], _∷_};
 ghost use Prim.Native.Nat.{ℕ, _+_, _^_, _<_, _≤_};
 ghost use lib.ListN.{length, getD};
 ghost use Rattle.scan_joints.specs.States.{row};
-ghost use Rattle.scan_shared.specs.Filling.{Lowered, Classable, ClassIs, RowClassable, LowFillable, LowOf, Fixable, FixedRows, FixedTable, Keepable, KeptNow};
+ghost use Rattle.scan_shared.specs.Filling.{Lowered, Classable, ClassIs, RowClassable, LowFillable, LowOf, Fixable, FixedRows, FixedTable, Preparable, PreparedNow};
 
 // The least costs by class: at a state or the tail where that follows P as it stands, at REVERSED and a state or the head where P reversed follows that. Behind them is
 // the standing cost.
@@ -158,7 +158,7 @@ fn fill_fixed(
 }
 
 // What the cut sets with these first cuts share: the ends of the states before P, the least cost of each class, and the standing cost.
-pub fn fill_kept(
+pub fn prepare(
     locations: usize,
     legs: &[u32],
     depot: u32,
@@ -173,8 +173,8 @@ pub fn fill_kept(
     inside: &mut [u64; STATES],
     low: &mut [u64; LOW_PLACES],
 )
-    requires { ⌜ Keepable locations (now legs) depot (now route) (now forward) (now backward) (now cuts) (now rows) count (now entries) (now exits) (now inside) (now low) ⌝ }
-    ensures { λ _. ⌜ KeptNow locations (now (legs .entry)) depot (now (route .entry)) (now (cuts .entry)) (now (rows .entry)) count (now (entries .exit)) (now (exits .exit)) (now (inside .exit)) (now (low .exit)) ⌝ }
+    requires { ⌜ Preparable locations (now legs) depot (now route) (now forward) (now backward) (now cuts) (now rows) count (now entries) (now exits) (now inside) (now low) ⌝ }
+    ensures { λ _. ⌜ PreparedNow locations (now (legs .entry)) depot (now (route .entry)) (now (cuts .entry)) (now (rows .entry)) count (now (entries .exit)) (now (exits .exit)) (now (inside .exit)) (now (low .exit)) ⌝ }
 {
     let mut table = [0u64; CELLS];
     let p = 2 * (cuts.len() - 2);

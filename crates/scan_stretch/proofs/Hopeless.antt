@@ -16,13 +16,13 @@ use Rattle.costs.specs.RouteCosts.{first-cuts, last-cut}
 use Rattle.deadline_dues.proofs.Judged.{candidate-too-late}
 use Rattle.scan_stretch.specs.declared.Stretch.{Stretch}
 use Rattle.scan_stretch.specs.Stretch.{Listed, LastCutsScannable, Passable, Passed, Stretchable, Stretched, idle-end, improves-at}
-use Rattle.scan_stretch.proofs.LastCut.{some, first-below, long, at-cut}
+use Rattle.scan_stretch.proofs.LastCut.{not-empty, first-below, long, at-cut}
 use Rattle.scan_stretch.proofs.Stretching.{last-stored}
 
 pub passed-through : (stops patterns : ℕ) (cuts : List ℕ) (left over : ℕ) → 1 ≤ length cuts → over ≡ (stops + 1 - last-cut cuts) * patterns → over ≤ left →
     Passed stops patterns cuts left (idle-end over true) (set cuts (length cuts - 1) stops)
-passed-through stops patterns cuts left over some e h =
-    record { no-gain = refl; over = λ _. (e, h, last-stored cuts stops some); spent = λ b. absurd (true≢false b) }
+passed-through stops patterns cuts left over not-empty e h =
+    record { no-gain = refl; over = λ _. (e, h, last-stored cuts stops not-empty); spent = λ b. absurd (true≢false b) }
 
 pub passed-spent : (stops patterns : ℕ) (cuts : List ℕ) (left over : ℕ) → over ≡ (stops + 1 - last-cut cuts) * patterns → left < over →
     Passed stops patterns cuts left (idle-end left false) cuts
@@ -35,7 +35,7 @@ module _ {T : Trip} {rows : List ℕ} {patterns : ℕ} {r forwards backwards : L
 
   pub passable : Passable (length r) patterns cuts
   passable =
-      record { some = omega (arith, own .least); most = own .most; within = first-below r cuts own .1; short = own .short; few = omega (arith, given .listed .patterned .few, given .listed .many) }
+      record { not-empty = omega (arith, own .least); most = own .most; within = first-below r cuts own .1; short = own .short; few = omega (arith, given .listed .patterned .few, given .listed .many) }
 
   pub scannable : getD cuts 0 0 ≤ longest → LastCutsScannable T rows patterns r forwards backwards late cuts table
   scannable h =
@@ -57,7 +57,7 @@ module _ {T : Trip} {rows : List ℕ} {patterns : ℕ} {r forwards backwards : L
         let P = problem T in
         let cs = first-cuts cuts ++ (t ∷ []) in
         let p = move-at ps cs x .pattern in
-        let first : getD cs 0 0 ≡ getD cuts 0 0 = List·getD-append (first-cuts cuts) (t ∷ []) 0 0 (some r cuts own) ∙ getD-take (length cuts - 1) cuts 0 0 (omega (arith, own .least)) in
+        let first : getD cs 0 0 ≡ getD cuts 0 0 = List·getD-append (first-cuts cuts) (t ∷ []) 0 0 (not-empty r cuts own) ∙ getD-take (length cuts - 1) cuts 0 0 (omega (arith, own .least)) in
         ap (λ b. b && ltb (tour-length P (reconnected (record { cuts = cs; pattern = p }) r)) (tour-length P r))
         (candidate-too-late cs r (at-cut r cuts own t h k) (clock-by (T .tables)) (T .depot) longest (given .head) (omega (arith, first)) p (rw (long r cuts own t) (w .patterned .for-k x i)))
 

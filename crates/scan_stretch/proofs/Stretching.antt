@@ -18,10 +18,10 @@ use Rattle.costs.proofs.Segments.{head-at, cuts-parted, first-many}
 use Rattle.scan_joints.specs.JointTable.{Padded}
 use Rattle.scan_joints.specs.States.{row, states, no-pattern}
 use Rattle.costs.specs.RouteCosts.{first-cuts, last-cut}
-use Rattle.scan_shared.specs.Kept.{Cut, Opened}
-use Rattle.scan_shared.specs.Filling.{Keepable, KeptNow}
-use Rattle.scan_shared.proofs.Keeping.{first-of-cuts, last-of-cuts, zero-at}
-use Rattle.scan_bound.specs.Tests.{Nextable, NextRoom}
+use Rattle.scan_shared.specs.Prepared.{Cut, Opened}
+use Rattle.scan_shared.specs.Filling.{Preparable, PreparedNow}
+use Rattle.scan_shared.proofs.Preparing.{first-of-cuts, last-of-cuts, zero-at}
+use Rattle.scan_bound.specs.Tests.{Nextable, NextPromising}
 use Rattle.deadline_dues.specs.Dues.{DuesHeld}
 use Rattle.scan_cut_set.specs.Gain.{FirstGain, Findable, Found}
 use Rattle.scan_stretch.specs.declared.Step.{Step}
@@ -78,9 +78,9 @@ module _ {T : Trip} {ps : List Pattern} {r first : List ℕ} {left : ℕ} {cuts 
     pub triable-on : Triable T rows patterns r forwards backwards late cuts table dues examined left
     triable-on = record { hopeful = hopeful-on; held = rw (going .same) (going .held); behind = going .behind; within = going .within }
 
-    pub kept-on : {entries exits inside low : List ℕ} → KeptNow (T .tables .locations) (T .tables .legs) (T .depot) r first rows patterns entries exits inside low →
-        KeptNow (T .tables .locations) (T .tables .legs) (T .depot) r cuts rows patterns entries exits inside low
-    kept-on k = record { places = k .places; kept = rw (going .same) (k .kept) }
+    pub kept-on : {entries exits inside low : List ℕ} → PreparedNow (T .tables .locations) (T .tables .legs) (T .depot) r first rows patterns entries exits inside low →
+        PreparedNow (T .tables .locations) (T .tables .legs) (T .depot) r cuts rows patterns entries exits inside low
+    kept-on k = record { places = k .places; prepared = rw (going .same) (k .prepared) }
 
 -- ---- the start
 
@@ -91,7 +91,7 @@ module _ {T : Trip} {rows : List ℕ} {patterns : ℕ} {r forwards backwards lat
   pub few-patterns : patterns ≤ 383
   few-patterns = omega (arith, given .listed .patterned .few, given .listed .many)
 
-  pub keepable : Opened cuts → Keepable (T .tables .locations) (T .tables .legs) (T .depot) r forwards backwards cuts rows patterns (replicate 8 0) (replicate 8 0) (replicate 8 0) (replicate 21 0)
+  pub keepable : Opened cuts → Preparable (T .tables .locations) (T .tables .legs) (T .depot) r forwards backwards cuts rows patterns (replicate 8 0) (replicate 8 0) (replicate 8 0) (replicate 21 0)
   keepable o =
       let w = given .listed .patterned in
       record {
@@ -122,22 +122,22 @@ module _ {T : Trip} {rows : List ℕ} {patterns : ℕ} {r forwards backwards lat
   pub starts-bare : (ps : List Pattern) (left : ℕ) → Going T ps r cuts left cuts table (replicate 9 0) 0
   starts-bare ps left = starts ps left (record { places = refl; held = inl refl }) (rw (zero-at 9 8) (omega arith))
 
--- ---- up to the first last cut that has room
+-- ---- up to the first last cut that is promising
 
 module _ {T : Trip} {rows : List ℕ} {patterns : ℕ} {r forwards backwards late cuts entries exits inside low zero table dues : List ℕ} {examined left : ℕ}
     (given : Steppable T rows patterns r forwards backwards late cuts entries exits inside low zero table dues examined left) where
   pub nextable : Nextable (T .tables .locations) (T .tables .legs) (T .depot) r forwards backwards cuts entries exits inside low zero
   nextable =
-      let k = given .kept .kept in
+      let k = given .prepared .prepared in
       record {
         cut = cut (given .triable .hopeful);
-        places = given .kept .places;
-        kept = record { entry = k .entry; exit = k .exit; within = k .within; standing = k .standing; least = λ i h. absurd (omega arith) };
+        places = given .prepared .places;
+        prepared = record { entry = k .entry; exit = k .exit; within = k .within; standing = k .standing; least = λ i h. absurd (omega arith) };
         zero-places = given .zero-places;
         zero-is = given .zero-is;
       }
 
-  module _ {hit : ℕ} (next : NextRoom (T .tables .locations) (T .tables .legs) (T .depot) r cuts entries exits inside low hit) where
+  module _ {hit : ℕ} (next : NextPromising (T .tables .locations) (T .tables .legs) (T .depot) r cuts entries exits inside low hit) where
     pub few-sets : (hit - last-cut cuts ≤ 513) × (patterns ≤ 383)
     few-sets = (omega (arith, next .most, given .triable .hopeful .searchable .cut-set .short), few-patterns (given .triable .hopeful))
 
@@ -154,7 +154,7 @@ module _ {T : Trip} {rows : List ℕ} {patterns : ℕ} {r forwards backwards lat
           let w : row rows x ≡ states (suc (length (first-cuts first))) (p .order) (p .mask) = rw n (list .patterned .each x i) in
           let q = rw (going .same) at (next .idle t h l) in
           ap (λ b. feasible (problem T) (reconnected (move-at ps (first-cuts first ++ (t ∷ [])) x) r) && b)
-          (q rows patterns (rw (going .same) at (given .kept .kept)) (p .order) (p .mask) x (omega (arith, i, list .many)) f w)
+          (q rows patterns (rw (going .same) at (given .prepared .prepared)) (p .order) (p .mask) x (omega (arith, i, list .many)) f w)
           ∙ and-false (feasible (problem T) (reconnected (move-at ps (first-cuts first ++ (t ∷ [])) x) r))
 
       passed : (t x : ℕ) → last-cut first ≤ t → t < hit → x < length ps → improves-at (problem T) ps r first t x ≡ false
@@ -199,7 +199,7 @@ module _ {T : Trip} {rows : List ℕ} {patterns : ℕ} {r forwards backwards lat
               (λ _. (reaches ∙ ap (λ n. (n - last-cut first) * length ps) e, stored going (length r)))
               (λ _ e. absurd (true≢false e))
 
-          -- At a last cut that has room.
+          -- At a last cut that is promising.
           pub at-hit : hit ≤ length r → Going T ps r first left (set cuts (length cuts - 1) hit) table dues (examined + over)
           at-hit l =
               let f = first-of-cuts (first-cuts first) hit in
@@ -229,17 +229,17 @@ module _ {T : Trip} {rows : List ℕ} {patterns : ℕ} {r forwards backwards lat
 
 pub hit-triable : {T : Trip} {rows : List ℕ} {patterns : ℕ} {r forwards backwards late cuts entries exits inside low zero table dues : List ℕ} {examined left : ℕ} →
     Steppable T rows patterns r forwards backwards late cuts entries exits inside low zero table dues examined left →
-    {hit : ℕ} → NextRoom (T .tables .locations) (T .tables .legs) (T .depot) r cuts entries exits inside low hit → {over : ℕ} → over ≡ (hit - last-cut cuts) * patterns → over ≤ left - examined → hit ≤ length r →
+    {hit : ℕ} → NextPromising (T .tables .locations) (T .tables .legs) (T .depot) r cuts entries exits inside low hit → {over : ℕ} → over ≡ (hit - last-cut cuts) * patterns → over ≤ left - examined → hit ≤ length r →
     Triable T rows patterns r forwards backwards late (set cuts (length cuts - 1) hit) table dues (examined + over) left
 hit-triable {T} {rows} {patterns} {r} {forwards} {backwards} {late} {cuts} {entries} {exits} {inside} {low} {zero} {table} {dues} given next {over} e room l =
     let w = given .triable in
     let h = w .hopeful in
     let alone : Steppable T rows patterns r forwards backwards late cuts entries exits inside low zero table dues 0 over =
-    record { triable = record { hopeful = h; held = w .held; behind = w .behind; within = omega arith }; kept = given .kept; zero-places = given .zero-places; zero-is = given .zero-is } in
+    record { triable = record { hopeful = h; held = w .held; behind = w .behind; within = omega arith }; prepared = given .prepared; zero-places = given .zero-places; zero-is = given .zero-is } in
     let t = triable-on (at-hit alone next (h .listed) (starts h (h .list) over (w .held) (w .behind)) e (omega arith) l) h in
     record { hopeful = t .hopeful; held = t .held; behind = t .behind; within = omega (arith, room, w .within) }
 
--- ---- at a last cut that has room
+-- ---- at a last cut that is promising
 
 module _ {T : Trip} {rows : List ℕ} {patterns : ℕ} {r forwards backwards late cuts table dues : List ℕ} {examined left : ℕ}
     (given : Triable T rows patterns r forwards backwards late cuts table dues examined left) {limit : ℕ} (limit-is : limit ≡ min patterns (left - examined)) where

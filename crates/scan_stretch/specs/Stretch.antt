@@ -13,8 +13,8 @@ use Rattle.deadlines.specs.Lateness.{LongestHead, Latenesses}
 use Rattle.scan_joints.specs.States.{Patterned}
 use Rattle.scan_joints.specs.JointTable.{Padded}
 use Rattle.costs.specs.RouteCosts.{first-cuts, last-cut}
-use Rattle.scan_shared.specs.Kept.{Opened}
-use Rattle.scan_shared.specs.Filling.{KeptNow}
+use Rattle.scan_shared.specs.Prepared.{Opened}
+use Rattle.scan_shared.specs.Filling.{PreparedNow}
 use Rattle.deadline_dues.specs.Dues.{DuesHeld}
 use Rattle.scan_cut_set.specs.Gain.{Searchable}
 use Rattle.scan_stretch.specs.declared.Stretch.{Stretch}
@@ -56,7 +56,7 @@ pub record Stretchable (T : Trip) (rows : List ℕ) (patterns : ℕ) (route forw
 
 -- The last cut of a route of so many stops, to be passed over with the last cuts behind it.
 pub record Passable (stops patterns : ℕ) (cuts : List ℕ) : Type 0 where
-  pub some : 1 ≤ length cuts
+  pub not-empty : 1 ≤ length cuts
   pub most : length cuts ≤ 5
   pub within : last-cut cuts ≤ stops
   pub short : stops ≤ 512
@@ -73,12 +73,12 @@ abbrev pub improves-at : Problem → List Pattern → List ℕ → List ℕ → 
 improves-at P ps route cuts t x = improves (search-of P ps (length cuts) (length route)) route (move-at ps (first-cuts cuts ++ (t ∷ [])) x)
 
 -- The number of that candidate in the stretch.
-abbrev pub number : List Pattern → List ℕ → ℕ → ℕ → ℕ
-number ps cuts t x = (t - last-cut cuts) * length ps + x
+abbrev pub candidate-number : List Pattern → List ℕ → ℕ → ℕ → ℕ
+candidate-number ps cuts t x = (t - last-cut cuts) * length ps + x
 
 -- How many candidates the stretch has.
-abbrev pub candidates : List Pattern → List ℕ → List ℕ → ℕ
-candidates ps route cuts = (length route + 1 - last-cut cuts) * length ps
+abbrev pub candidate-count : List Pattern → List ℕ → List ℕ → ℕ
+candidate-count ps route cuts = (length route + 1 - last-cut cuts) * length ps
 
 -- The improving candidate of a number: the pattern at the last cut of `cuts′`.
 pub record GainAt (P : Problem) (ps : List Pattern) (route cuts : List ℕ) (examined pattern : ℕ) (cuts′ : List ℕ) : Type 0 where
@@ -87,16 +87,16 @@ pub record GainAt (P : Problem) (ps : List Pattern) (route cuts : List ℕ) (exa
   pub most : last ≤ length route
   pub cuts-are : cuts′ ≡ first-cuts cuts ++ (last ∷ [])
   pub listed : pattern < length ps
-  pub is : examined ≡ number ps cuts last pattern
+  pub is : examined ≡ candidate-number ps cuts last pattern
   pub improves : improves-at P ps route cuts last pattern ≡ true
 
 -- The candidates examined do not improve the route. Then one does and is allowed; or the stretch is over, its last cut set at hand; or no more are allowed.
 pub record Ended (P : Problem) (ps : List Pattern) (route cuts : List ℕ) (left : ℕ) (answer : Stretch) (cuts′ : List ℕ) : Type 0 where
-  pub idle : (t x : ℕ) → last-cut cuts ≤ t → t ≤ length route → x < length ps → number ps cuts t x < answer .examined → improves-at P ps route cuts t x ≡ false
+  pub idle : (t x : ℕ) → last-cut cuts ≤ t → t ≤ length route → x < length ps → candidate-number ps cuts t x < answer .examined → improves-at P ps route cuts t x ≡ false
   pub allowed : answer .examined ≤ left
   pub gain : answer .gains ≡ true → (answer .examined < left) × GainAt P ps route cuts (answer .examined) (answer .pattern) cuts′
-  pub over : answer .through ≡ true → (answer .examined ≡ candidates ps route cuts) × (cuts′ ≡ first-cuts cuts ++ (length route ∷ []))
-  pub spent : answer .gains ≡ false → answer .through ≡ false → (answer .examined ≡ left) × (left < candidates ps route cuts)
+  pub over : answer .through ≡ true → (answer .examined ≡ candidate-count ps route cuts) × (cuts′ ≡ first-cuts cuts ++ (length route ∷ []))
+  pub spent : answer .gains ≡ false → answer .through ≡ false → (answer .examined ≡ left) × (left < candidate-count ps route cuts)
 
 -- Of whichever patterns the rows are.
 pub record Stretched (P : Problem) (patterns : ℕ) (rows route cuts : List ℕ) (left : ℕ) (answer : Stretch) (cuts′ table : List ℕ) : Type 0 where
@@ -140,6 +140,6 @@ pub record Triable (T : Trip) (rows : List ℕ) (patterns : ℕ) (route forward-
 -- The same with what is kept of the first cuts. `zero` holds nothing.
 pub record Steppable (T : Trip) (rows : List ℕ) (patterns : ℕ) (route forward-sums backward-sums late cuts entries exits inside low zero table dues : List ℕ) (examined left : ℕ) : Type 0 where
   pub triable : Triable T rows patterns route forward-sums backward-sums late cuts table dues examined left
-  pub kept : KeptNow (T .tables .locations) (T .tables .legs) (T .depot) route cuts rows patterns entries exits inside low
+  pub prepared : PreparedNow (T .tables .locations) (T .tables .legs) (T .depot) route cuts rows patterns entries exits inside low
   pub zero-places : length zero ≡ 21
   pub zero-is : (x : ℕ) → getD zero x 0 ≡ 0

@@ -1,4 +1,4 @@
-// A stretch of the scan: the cut sets with the same first cuts, in their order. Those that leave no room for a gain are passed over and counted. No entry: crate scan_loop calls it.
+// A stretch of the scan: the cut sets with the same first cuts, in their order. Those that can hold no gain are passed over and counted. No entry: crate scan_loop calls it.
 use deadline_dues::DUE_PLACES;
 use scan_joints::CELLS;
 use scan_joints::ROW_BYTES;
@@ -126,7 +126,7 @@ fn try_cut_set(
     Step::On(reached)
 }
 
-// Over the last cuts that leave no room for a gain to the first that has room, which is tried.
+// Over the last cuts that can hold no gain to the first that is promising, which is tried.
 fn take_step(
     locations: usize,
     legs: &[u32],
@@ -153,7 +153,7 @@ fn take_step(
     ensures { λ r. ⌜ Carried (trip locations (now (legs .entry)) (now (latest .entry)) depot) (now (rows .entry)) patterns (now (route .entry)) (now (cuts .entry)) (now (joint .entry)) (now (dues .entry)) examined left r (now (cuts .exit)) (now (joint .exit)) (now (dues .exit)) ⌝ }
 {
     let last = cuts.len() - 1;
-    let hit = scan_bound::next_room(
+    let hit = scan_bound::next_promising(
         locations,
         legs,
         depot,
@@ -221,7 +221,7 @@ fn scan_last_cuts(
     let mut low = [0u64; LOW_PLACES];
     let mut dues = [0u64; DUE_PLACES];
     let zero = [0u64; LOW_PLACES];
-    scan_shared::fill_kept(
+    scan_shared::prepare(
         locations,
         legs,
         depot,

@@ -10,7 +10,7 @@ use lib.ListN.{length, getD, drop}
 use borrow.Author.Tests.{eqb-true, eq-eqb, ne-eqb}
 use Rattle.text_decimal.specs.Decimal.{digits}
 use Rattle.text_decimal.specs.Text.{further, listed, line, Small}
-use Rattle.text_tokens.specs.Tokens.{choose, front, digit, number, after}
+use Rattle.text_tokens.specs.Tokens.{choose, front, digit, numeral, after}
 use Rattle.text_tokens.proofs.Numbers.{same-read, number-sound, number-complete, number-front}
 use Rattle.text_lines.specs.Reading.{before, entries, entries-or-none, line-of, row, value}
 
@@ -24,12 +24,12 @@ unfolding further digit
 no-digit [] r = refl
 no-digit (x ∷ xs) r = refl
 
-pub entries-on : (room w : ℕ) (t s : List ℕ) → number t ≡ some (w, s) →
+pub entries-on : (room w : ℕ) (t s : List ℕ) → numeral t ≡ some (w, s) →
     entries (suc room) t ≡ choose (eqb (front s) 10) (some (w ∷ [], drop 1 s)) (eqb (front s) 44) (before (w ∷ []) (entries room (drop 1 s))) none
 unfolding entries bind
 entries-on room w t s n = rw n
 
-pub entries-missing : (room : ℕ) (t : List ℕ) → number t ≡ none → entries room t ≡ none
+pub entries-missing : (room : ℕ) (t : List ℕ) → numeral t ≡ none → entries room t ≡ none
 unfolding entries bind
 entries-missing zero t n = refl
 entries-missing (suc room) t n = rw n
@@ -48,14 +48,14 @@ record Found (room : ℕ) (t xs r : List ℕ) : Type 0 where
 entries-found : (room : ℕ) (t xs r : List ℕ) → entries room t ≡ some (xs, r) → Found room t xs r
 unfolding entries further
 entries-found zero t xs r e = absurd (Option·none-ne-some (xs, r) e)
-entries-found (suc room) t xs r e = from (number t) refl (entries-found room)
+entries-found (suc room) t xs r e = from (numeral t) refl (entries-found room)
   where
-    found : (w : ℕ) (s ys : List ℕ) → number t ≡ some (w, s) → s ≡ further ys ++ (10 ∷ r) → xs ≡ w ∷ ys → Small ys → length ys ≤ room → Found (suc room) t xs r
+    found : (w : ℕ) (s ys : List ℕ) → numeral t ≡ some (w, s) → s ≡ further ys ++ (10 ∷ r) → xs ≡ w ∷ ys → Small ys → length ys ≤ room → Found (suc room) t xs r
     found w s ys n c x m l =
         let k = number-sound t w s n in
         rw x (record { continued = ap (λ (z : List ℕ). 44 ∷ z) (k .0 ∙ rw c (sym (append-assoc (digits w) (further ys) (10 ∷ r)))); small = (k .1, m); within = omega arith })
 
-    by-end : (w : ℕ) (s : List ℕ) → number t ≡ some (w, s) → ((t xs r : List ℕ) → entries room t ≡ some (xs, r) → Found room t xs r) →
+    by-end : (w : ℕ) (s : List ℕ) → numeral t ≡ some (w, s) → ((t xs r : List ℕ) → entries room t ≡ some (xs, r) → Found room t xs r) →
         (x y : Bool) → eqb (front s) 10 ≡ x → eqb (front s) 44 ≡ y → Found (suc room) t xs r
     by-end w s n ih true y i j =
         let k = same-read (rw (entries-on room w t s n, i) at e) in
@@ -66,7 +66,7 @@ entries-found (suc room) t xs r e = from (number t) refl (entries-found room)
         found w s (k .0) n (front-cons 44 s (omega arith) (eqb-true (front s) 44 j) ∙ l .continued) (k .2) (l .small) (l .within)
     by-end w s n ih false false i j = absurd (Option·none-ne-some (xs, r) (rw (entries-on room w t s n, i, j) at e))
 
-    from : (o : Option (ℕ × List ℕ)) → number t ≡ o → ((t xs r : List ℕ) → entries room t ≡ some (xs, r) → Found room t xs r) → Found (suc room) t xs r
+    from : (o : Option (ℕ × List ℕ)) → numeral t ≡ o → ((t xs r : List ℕ) → entries room t ≡ some (xs, r) → Found room t xs r) → Found (suc room) t xs r
     from none n ih = absurd (Option·none-ne-some (xs, r) (sym (entries-missing (suc room) t n) ∙ e))
     from (some (w, s)) n ih = by-end w s n ih (eqb (front s) 10) (eqb (front s) 44) refl refl
 

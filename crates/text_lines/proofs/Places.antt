@@ -9,7 +9,7 @@ use lib.Dec.{eqb}
 use lib.ListN.{length, getD, take, drop, set, length-set}
 use lib.Seq.{take-suc-set, take-all, length-take-le}
 use borrow.Author.Tests.{eq-eqb, ne-eqb}
-use Rattle.text_tokens.specs.Tokens.{choose, front, number, after}
+use Rattle.text_tokens.specs.Tokens.{choose, front, numeral, after}
 use Rattle.text_tokens.proofs.Places.{drop-next}
 use Rattle.text_lines.specs.Reading.{before, entries, entries-or-none, line-of, row, value}
 use Rattle.text_lines.proofs.Lines.{entries-on, entries-missing}
@@ -35,11 +35,11 @@ pub entries-full : (out t : List ℕ) (count : ℕ) → length out ≤ count →
 unfolding before entries
 entries-full out t count h = let e : length out - count ≡ 0 = omega arith in rw e
 
-pub entries-break : (out t : List ℕ) (count : ℕ) → number t ≡ none → to-come out count t ≡ none
+pub entries-break : (out t : List ℕ) (count : ℕ) → numeral t ≡ none → to-come out count t ≡ none
 unfolding before
 entries-break out t count n = rw (entries-missing (length out - count) t n)
 
-module _ (out t : List ℕ) (at count v next : ℕ) (c : count < length out) (n : number (drop at t) ≡ some (v, drop next t)) where
+module _ (out t : List ℕ) (at count v next : ℕ) (c : count < length out) (n : numeral (drop at t) ≡ some (v, drop next t)) where
   room : length out - count ≡ suc (length out - (count + 1))
   room = omega arith
 

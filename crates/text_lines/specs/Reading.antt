@@ -5,7 +5,7 @@ use mathlib.Core.Option.{Option, none, some, bind}
 use Prim.Native.Nat.{ℕ, zero, suc}
 use lib.Dec.{eqb}
 use lib.ListN.{length, getD, drop}
-use Rattle.text_tokens.specs.Tokens.{choose, front, number, after}
+use Rattle.text_tokens.specs.Tokens.{choose, front, numeral, after}
 
 -- Entries read before others.
 unfoldable pub before : List ℕ → Option (List ℕ × List ℕ) → Option (List ℕ × List ℕ)
@@ -14,10 +14,10 @@ before xs (some r) = some (xs ++ r .0, r .1)
 
 -- One number or more with commas between, up to the line's end; at most `room`.
 unfoldable pub entries : ℕ → List ℕ → Option (List ℕ × List ℕ)
-unfolding number bind before
+unfolding numeral bind before
 entries zero t = none
 entries (suc room) t =
-    bind (number t) (λ r.
+    bind (numeral t) (λ r.
     let later = before (r .0 ∷ []) (entries room (drop 1 (r .1))) in
     choose (eqb (front (r .1)) 10) (some (r .0 ∷ [], drop 1 (r .1))) (eqb (front (r .1)) 44) later none)
 

@@ -1,12 +1,12 @@
 // Lines of numbers, read from bytes. No entry: the crates above call it.
-use text_tokens::Number;
+use text_tokens::Numeral;
 use text_tokens::Place;
 use text_tokens::byte_at;
-use text_tokens::read_number;
+use text_tokens::read_numeral;
 use text_tokens::skip_key;
 ghost use mathlib.Core.Path.{_≡_};
 ghost use lib.ListN.{length, drop};
-ghost use Rattle.text_tokens.specs.Told.{number-told};
+ghost use Rattle.text_tokens.specs.Told.{numeral-told};
 ghost use Rattle.text_lines.specs.Reading.{entries, entries-or-none, line-of, row, value};
 ghost use Rattle.text_lines.specs.Told.{row-told, Listed};
 
@@ -23,7 +23,7 @@ fn read_entries(text: &[u8], at: usize, out: &mut [u32]) -> Entries
     let mut at = at;
     let mut count = 0;
     while count < out.len() {
-        let Number::Read(value, next) = read_number(text, at) else {
+        let Numeral::Read(value, next) = read_numeral(text, at) else {
             return Entries::Malformed;
         };
         out[count] = value;
@@ -74,12 +74,12 @@ pub fn read_row(text: &[u8], at: usize, key: &[u8], out: &mut [u32]) -> Place
 }
 
 // A line of one number.
-pub fn read_value(text: &[u8], at: usize, key: &[u8]) -> Number
-    ensures { λ r. ⌜ value (now (key .entry)) (drop at (now (text .entry))) ≡ number-told (now (text .entry)) r ⌝ }
+pub fn read_value(text: &[u8], at: usize, key: &[u8]) -> Numeral
+    ensures { λ r. ⌜ value (now (key .entry)) (drop at (now (text .entry))) ≡ numeral-told (now (text .entry)) r ⌝ }
 {
     let mut one = [0u32; 1];
     let Place::At(next) = read_row(text, at, key, &mut one) else {
-        return Number::Missing;
+        return Numeral::Missing;
     };
-    Number::Read(one[0], next)
+    Numeral::Read(one[0], next)
 }

@@ -6,7 +6,7 @@ use Prim.Native.Nat.{ℕ}
 use Prim.Native.String.{String, _++_}
 use Rattle.theory.specs.Question.{Question, question}
 use Rattle.text_decimal.specs.Text.{ascii, line}
-use Rattle.text_question.specs.Question.{legs-lines, written}
+use Rattle.text_question.specs.Question.{legs-lines, text-of}
 use Rattle.text_question.specs.Reading.{read}
 
 abbrev far : ℕ
@@ -18,8 +18,8 @@ T = question 3 100 3 (0 ∷ 5 ∷ 1 ∷ 1 ∷ 0 ∷ 5 ∷ 5 ∷ 1 ∷ 0 ∷ []) 
 abbrev pub T-text : List ℕ
 T-text = ascii "k=3\nallowance=100\nlocations=3\ndepot=0\nlegs=0,5,1\nlegs=1,0,5\nlegs=5,1,0\nlatest=4294967295,4294967295,4294967295\nround=1,2\n"
 
-pub T-written : written T ≡ T-text
-unfolding written legs-lines line
+pub T-written : text-of T ≡ T-text
+unfolding text-of legs-lines line
 T-written = refl
 
 pub T-read : read T-text ≡ some T

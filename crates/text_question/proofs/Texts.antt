@@ -13,7 +13,7 @@ use Rattle.theory.specs.Question.{Question}
 use Rattle.text_decimal.specs.Decimal.{digits}
 use Rattle.text_decimal.specs.Text.{ascii, further, listed, line, Small}
 use Rattle.text_decimal.proofs.Digits.{digits-some}
-use Rattle.text_question.specs.Question.{tabled, written, Held}
+use Rattle.text_question.specs.Question.{tabled, text-of, Held}
 use Rattle.text_tables.specs.Tables.{tables-of}
 use Rattle.text_question.specs.Reading.{Heading, header, ended, question-of, read}
 use Rattle.text_lines.specs.Reading.{line-of}
@@ -25,8 +25,8 @@ nothing-left : {A : Type 0} (a b : A) (t : List ℕ) → ended a t ≡ some b �
 nothing-left a b [] e = (refl, Option·some-injective a b e)
 nothing-left a b (x ∷ t) e = absurd (Option·none-ne-some b e)
 
-question-sound : (t : List ℕ) (q : Question) → length t ≤ 60000 → question-of t ≡ some q → (t ≡ written q) × Held q
-unfolding question-of written
+question-sound : (t : List ℕ) (q : Question) → length t ≤ 60000 → question-of t ≡ some q → (t ≡ text-of q) × Held q
+unfolding question-of text-of
 question-sound t q l e =
     first-read (header t) _ q e λ h h-read e₁.
     first-read (tables-of (h .0 .locations) (h .1)) _ q e₁ λ g g-read e₂.
@@ -39,7 +39,7 @@ question-sound t q l e =
     let start : Heading = record { k = h .0 .k; allowance = h .0 .allowance; locations = g .0 .locations; depot = h .0 .depot } in
     let first : t ≡ headed start (h .1) = rw (g-is .1) (h-is .text) in
     let text = first ∙ ap (headed start) (g-is .0 ∙ rw x) in
-    subst (λ (p : Question). (t ≡ written p) × Held p) (n .1) (
+    subst (λ (p : Question). (t ≡ text-of p) × Held p) (n .1) (
       text,
       record {
         some-location = rw (g-is .1) (h-is .some-location);
@@ -66,15 +66,15 @@ line-room : (key xs : List ℕ) → 2 * length xs ≤ length (line key xs)
 unfolding line
 line-room key xs = omega (arith, length-append key (listed xs ++ (10 ∷ [])), length-append (listed xs) (10 ∷ []), listed-room xs)
 
-few-stops : (q : Question) → length (written q) ≤ 60000 → length (q .route) ≤ 30000
-unfolding written
+few-stops : (q : Question) → length (text-of q) ≤ 60000 → length (q .route) ≤ 30000
+unfolding text-of
 few-stops q h = omega (arith, simp length-append at h, line-room (ascii "round=") (q .route))
 
 last-line : (key : List ℕ) (room : ℕ) (xs : List ℕ) → Small xs → length xs ≤ room → line-of key room (line key xs) ≡ some (xs, [])
 last-line key room xs h l = ap (line-of key room) (sym (append-nil (line key xs))) ∙ line-complete key room xs [] h l
 
-question-complete : (q : Question) → Held q → question-of (written q) ≡ some q
-unfolding question-of bind written
+question-complete : (q : Question) → Held q → question-of (text-of q) ≡ some q
+unfolding question-of bind text-of
 question-complete q h =
     let round = line (ascii "round=") (q .route) in
     let start : Heading = record { k = q .k; allowance = q .allowance; locations = q .trip .tables .locations; depot = q .trip .depot } in
@@ -85,21 +85,21 @@ question-complete q h =
     )
 
 -- THE LAW: "at most 60,000 bytes, 96 locations. Numbers have 1 to 10 digits, no leading zero (0 itself is allowed), at most 4294967295; each line ends in LF."
-pub read-exactly : (t : List ℕ) (q : Question) → (read t ≡ some q) ↔ ((t ≡ written q) × Held q)
+pub read-exactly : (t : List ℕ) (q : Question) → (read t ≡ some q) ↔ ((t ≡ text-of q) × Held q)
 unfolding read
-read-exactly t q = (λ e. sound (leb (length t) 60000) refl e, λ h. rw (h .0, le-leb (length (written q)) 60000 (h .1 .short)) (question-complete q (h .1)))
+read-exactly t q = (λ e. sound (leb (length t) 60000) refl e, λ h. rw (h .0, le-leb (length (text-of q)) 60000 (h .1 .short)) (question-complete q (h .1)))
   where
-    sound : (b : Bool) → leb (length t) 60000 ≡ b → cond b (question-of t) none ≡ some q → (t ≡ written q) × Held q
+    sound : (b : Bool) → leb (length t) 60000 ≡ b → cond b (question-of t) none ≡ some q → (t ≡ text-of q) × Held q
     sound true i e = question-sound t q (leb-true (length t) 60000 i) e
     sound false i e = absurd (Option·none-ne-some q e)
 
-pub read-written : (q : Question) → Held q → read (written q) ≡ some q
-read-written q h = read-exactly (written q) q .1 (refl, h)
+pub read-text-of : (q : Question) → Held q → read (text-of q) ≡ some q
+read-text-of q h = read-exactly (text-of q) q .1 (refl, h)
 
 -- Two questions that a text can hold have the same text only if they are the same.
-pub written-injective : (p q : Question) → Held p → Held q → written p ≡ written q → p ≡ q
-written-injective p q h k e = Option·some-injective p q (sym (read-written p h) ∙ ap read e ∙ read-written q k)
+pub text-of-injective : (p q : Question) → Held p → Held q → text-of p ≡ text-of q → p ≡ q
+text-of-injective p q h k e = Option·some-injective p q (sym (read-text-of p h) ∙ ap read e ∙ read-text-of q k)
 
 -- A text that is not read is no question's.
-pub malformed : (t : List ℕ) → read t ≡ none → (q : Question) → Held q → written q ≡ t → ⊥
-malformed t n q h e = Option·none-ne-some q (sym n ∙ ap read (sym e) ∙ read-written q h)
+pub malformed : (t : List ℕ) → read t ≡ none → (q : Question) → Held q → text-of q ≡ t → ⊥
+malformed t n q h e = Option·none-ne-some q (sym n ∙ ap read (sym e) ∙ read-text-of q h)

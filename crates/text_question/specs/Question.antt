@@ -17,8 +17,8 @@ abbrev pub tabled : Tables → List ℕ → List ℕ
 tabled T r = legs-lines (T .locations) (T .locations) (T .legs) ++ (line (ascii "latest=") (T .latest) ++ r)
 
 -- The lines in the order of document 01's example. "An empty round is `round=`."
-unfoldable pub written : Question → List ℕ
-written q =
+unfoldable pub text-of : Question → List ℕ
+text-of q =
     line (ascii "k=") (q .k ∷ [])
     ++ (line (ascii "allowance=") (q .allowance ∷ [])
     ++ (line (ascii "locations=") (q .trip .tables .locations ∷ [])
@@ -38,4 +38,4 @@ pub record Held (q : Question) : Type 0 where
   pub tables : HeldTables (q .trip .tables)
   pub small-header : Small (q .k ∷ q .allowance ∷ q .trip .depot ∷ [])
   pub small-route : Small (q .route)
-  pub short : length (written q) ≤ 60000
+  pub short : length (text-of q) ≤ 60000

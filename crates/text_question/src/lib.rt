@@ -3,7 +3,7 @@ use text_lines::Entries;
 use text_lines::read_line;
 use text_lines::read_value;
 use text_tables::read_tables;
-use text_tokens::Number;
+use text_tokens::Numeral;
 use text_tokens::Place;
 ghost use mathlib.Core.Path.{_≡_};
 ghost use Rattle.theory.specs.Tables.{tables};
@@ -34,17 +34,17 @@ pub enum Reading {
 fn read_header(text: &[u8]) -> Start
     ensures { λ r. ⌜ header (now (text .entry)) ≡ start-told (now (text .entry)) r ⌝ }
 {
-    let Number::Read(k, after_k) = read_value(text, 0, b"k=") else {
+    let Numeral::Read(k, after_k) = read_value(text, 0, b"k=") else {
         return Start::Malformed;
     };
-    let Number::Read(allowance, after_allowance) = read_value(text, after_k, b"allowance=") else {
+    let Numeral::Read(allowance, after_allowance) = read_value(text, after_k, b"allowance=") else {
         return Start::Malformed;
     };
-    let Number::Read(locations, after_locations) = read_value(text, after_allowance, b"locations=")
+    let Numeral::Read(locations, after_locations) = read_value(text, after_allowance, b"locations=")
     else {
         return Start::Malformed;
     };
-    let Number::Read(depot, rest) = read_value(text, after_locations, b"depot=") else {
+    let Numeral::Read(depot, rest) = read_value(text, after_locations, b"depot=") else {
         return Start::Malformed;
     };
     if locations < 1 {

@@ -11,7 +11,7 @@ use borrow.Author.Tests.{ltb-true, ltb-false, leb-true, leb-false, eqb-true, eqb
 use lib.Seq.{append-snoc}
 use Rattle.text_decimal.specs.Decimal.{digits, leading-within}
 use Rattle.text_decimal.proofs.Digits.{leading-none, digits-one, digits-more, leading-digits}
-use Rattle.text_tokens.specs.Tokens.{front, digit, digits-after, number}
+use Rattle.text_tokens.specs.Tokens.{front, digit, digits-after, numeral}
 
 -- The byte in front is the digit's, where the digit is one.
 pub digit-front : (t : List ℕ) → digit t < 10 → front t ≡ 48 + digit t
@@ -60,8 +60,8 @@ after-sound v (b ∷ t) w r p q e = go (leb 10 (digit (b ∷ t))) (ltb 429496729
         let l = ih (omega arith) (ltb-false _ _ j) (rw (i, j) at e) in
         (digits-longer v (b ∷ t) p d ∙ l .0, l .1)
 
-pub number-sound : (t : List ℕ) (w : ℕ) (r : List ℕ) → number t ≡ some (w, r) → (t ≡ digits w ++ r) × (w ≤ 4294967295)
-unfolding number
+pub number-sound : (t : List ℕ) (w : ℕ) (r : List ℕ) → numeral t ≡ some (w, r) → (t ≡ digits w ++ r) × (w ≤ 4294967295)
+unfolding numeral
 number-sound t w r e = go (eqb (digit t) 0) (ltb (digit t) 10) refl refl
   where
     go : (x y : Bool) → eqb (digit t) 0 ≡ x → ltb (digit t) 10 ≡ y → (t ≡ digits w ++ r) × (w ≤ 4294967295)
@@ -80,13 +80,13 @@ after-step : (v d : ℕ) (t : List ℕ) → d < 10 → v * 10 + d ≤ 4294967295
 unfolding digits-after
 after-step v d t h k = rw (digit-of d t h, lt-leb 10 d h, le-ltb 4294967295 (v * 10 + d) k)
 
-number-one : (d : ℕ) (t : List ℕ) → 0 < d → d < 10 → number ((48 + d) ∷ t) ≡ digits-after d t
-unfolding number
+number-one : (d : ℕ) (t : List ℕ) → 0 < d → d < 10 → numeral ((48 + d) ∷ t) ≡ digits-after d t
+unfolding numeral
 number-one d t p h = rw (digit-of d t h, ne-eqb d 0 (omega arith), lt-ltb d 10 h)
 
 -- A number begins with a digit.
-pub number-front : (t : List ℕ) (w : ℕ) (r : List ℕ) → number t ≡ some (w, r) → 48 ≤ front t
-unfolding number
+pub number-front : (t : List ℕ) (w : ℕ) (r : List ℕ) → numeral t ≡ some (w, r) → 48 ≤ front t
+unfolding numeral
 number-front t w r e = go (eqb (digit t) 0) (ltb (digit t) 10) refl refl
   where
     go : (x y : Bool) → eqb (digit t) 0 ≡ x → ltb (digit t) 10 ≡ y → 48 ≤ front t
@@ -95,16 +95,16 @@ number-front t w r e = go (eqb (digit t) 0) (ltb (digit t) 10) refl refl
     go false false i j = absurd (Option·none-ne-some (w, r) (rw (i, j) at e))
 
 -- Digits are read up to the last one, and on.
-number-on : (f w : ℕ) (t : List ℕ) → 0 < w → w ≤ f → w ≤ 4294967295 → number (leading-within f w ++ t) ≡ digits-after w t
+number-on : (f w : ℕ) (t : List ℕ) → 0 < w → w ≤ f → w ≤ 4294967295 → numeral (leading-within f w ++ t) ≡ digits-after w t
 unfolding leading-within
 number-on zero w t p q h = absurd (omega arith)
 number-on (suc f) zero t p q h = absurd (omega arith)
 number-on (suc f) (suc m) t p q h =
-    ap number (append-snoc (leading-within f (suc m / 10)) (48 + suc m % 10) t) ∙ go (ltb (suc m) 10) refl (number-on f (suc m / 10) ((48 + suc m % 10) ∷ t))
+    ap numeral (append-snoc (leading-within f (suc m / 10)) (48 + suc m % 10) t) ∙ go (ltb (suc m) 10) refl (number-on f (suc m / 10) ((48 + suc m % 10) ∷ t))
   where
     go : (b : Bool) → ltb (suc m) 10 ≡ b →
-        (0 < suc m / 10 → suc m / 10 ≤ f → suc m / 10 ≤ 4294967295 → number (leading-within f (suc m / 10) ++ ((48 + suc m % 10) ∷ t)) ≡ digits-after (suc m / 10) ((48 + suc m % 10) ∷ t)) →
-        number (leading-within f (suc m / 10) ++ ((48 + suc m % 10) ∷ t)) ≡ digits-after (suc m) t
+        (0 < suc m / 10 → suc m / 10 ≤ f → suc m / 10 ≤ 4294967295 → numeral (leading-within f (suc m / 10) ++ ((48 + suc m % 10) ∷ t)) ≡ digits-after (suc m / 10) ((48 + suc m % 10) ∷ t)) →
+        numeral (leading-within f (suc m / 10) ++ ((48 + suc m % 10) ∷ t)) ≡ digits-after (suc m) t
     go true e ih =
         let l : suc m < 10 = ltb-true (suc m) 10 e in
         let z : suc m / 10 ≡ 0 = omega arith in
@@ -121,10 +121,10 @@ unfolding digits-after
 after-none w [] h = refl
 after-none w (b ∷ t) h = rw (le-leb 10 (digit (b ∷ t)) h)
 
-number-zero : (t : List ℕ) → number (digits 0 ++ t) ≡ some (0, t)
-unfolding number
+number-zero : (t : List ℕ) → numeral (digits 0 ++ t) ≡ some (0, t)
+unfolding numeral
 number-zero t = rw (digits-one 0 (omega arith)) (rw (digit-of 0 t (omega arith)))
 
-pub number-complete : (w : ℕ) (t : List ℕ) → w ≤ 4294967295 → 10 ≤ digit t → number (digits w ++ t) ≡ some (w, t)
+pub number-complete : (w : ℕ) (t : List ℕ) → w ≤ 4294967295 → 10 ≤ digit t → numeral (digits w ++ t) ≡ some (w, t)
 number-complete zero t h d = number-zero t
 number-complete (suc w) t h d = rw (← leading-digits (suc w) (omega arith)) (number-on (suc w) (suc w) t (omega arith) (omega arith) h ∙ after-none (suc w) t d)

@@ -9,7 +9,7 @@ use lib.ListN.{length, getD, drop, drop-of-length-le}
 use lib.Seq.{drop-cons, drop-drop}
 use borrow.Author.Tests.{lt-ltb, le-ltb, le-leb, lt-leb, eq-eqb, ne-eqb}
 use Rattle.text_tokens.proofs.Numbers.{digit-front}
-use Rattle.text_tokens.specs.Tokens.{front, digit, digits-after, number, after}
+use Rattle.text_tokens.specs.Tokens.{front, digit, digits-after, numeral, after}
 
 pub front-place : (t : List ℕ) (at : ℕ) → front (drop at t) ≡ getD t at 0
 front-place [] zero = refl
@@ -75,14 +75,14 @@ unfolding after
 key-whole key s i h = rw (drop-of-length-le key {i = i} h)
 
 -- A number at a place: 0, a longer one, or none.
-pub number-zero-at : (t : List ℕ) (at : ℕ) → digit (drop at t) ≡ 0 → number (drop at t) ≡ some (0, drop (at + 1) t)
-unfolding number
+pub number-zero-at : (t : List ℕ) (at : ℕ) → digit (drop at t) ≡ 0 → numeral (drop at t) ≡ some (0, drop (at + 1) t)
+unfolding numeral
 number-zero-at t at e = rw (e, drop-next t at)
 
-pub number-longer : (t : List ℕ) (at d : ℕ) → d ≡ digit (drop at t) → (d ≡ 0 → ⊥) → d < 10 → number (drop at t) ≡ digits-after d (drop (at + 1) t)
-unfolding number
+pub number-longer : (t : List ℕ) (at d : ℕ) → d ≡ digit (drop at t) → (d ≡ 0 → ⊥) → d < 10 → numeral (drop at t) ≡ digits-after d (drop (at + 1) t)
+unfolding numeral
 number-longer t at d e n h = rw (← e, ne-eqb d 0 n, lt-ltb d 10 h, drop-next t at)
 
-pub number-none : (t : List ℕ) → 10 ≤ digit t → number t ≡ none
-unfolding number
+pub number-none : (t : List ℕ) → 10 ≤ digit t → numeral t ≡ none
+unfolding numeral
 number-none t h = rw (ne-eqb (digit t) 0 (omega arith), le-ltb (digit t) 10 h)

@@ -30,9 +30,9 @@ digits-after v (b ∷ t) =
     let longer = digits-after value t in
     choose (leb 10 (digit (b ∷ t))) (some (v, b ∷ t)) (ltb 4294967295 value) none longer
 
-unfoldable pub number : List ℕ → Option (ℕ × List ℕ)
+unfoldable pub numeral : List ℕ → Option (ℕ × List ℕ)
 unfolding digit digits-after
-number t =
+numeral t =
     let longer = digits-after (digit t) (drop 1 t) in
     choose (eqb (digit t) 0) (some (0, drop 1 t)) (ltb (digit t) 10) longer none
 

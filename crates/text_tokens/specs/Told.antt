@@ -3,14 +3,14 @@ use mathlib.Core.List.{List}
 use mathlib.Core.Option.{Option, none, some}
 use Prim.Native.Nat.{ℕ}
 use lib.ListN.{drop}
-use Rattle.text_tokens.specs.declared.Number.{Number}
-use Rattle.text_tokens.specs.declared.Number.the-variants as N
+use Rattle.text_tokens.specs.declared.Numeral.{Numeral}
+use Rattle.text_tokens.specs.declared.Numeral.the-variants as N
 use Rattle.text_tokens.specs.declared.Place.{Place}
 use Rattle.text_tokens.specs.declared.Place.the-variants as P
 
-abbrev pub number-told : List ℕ → Number → Option (ℕ × List ℕ)
-number-told t N.Missing = none
-number-told t (N.Read v next) = some (v, drop next t)
+abbrev pub numeral-told : List ℕ → Numeral → Option (ℕ × List ℕ)
+numeral-told t N.Missing = none
+numeral-told t (N.Read v next) = some (v, drop next t)
 
 abbrev pub place-told : List ℕ → Place → Option (List ℕ)
 place-told t P.Nowhere = none

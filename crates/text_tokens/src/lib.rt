@@ -2,11 +2,11 @@
 ghost use mathlib.Core.Path.{_≡_};
 ghost use Prim.Native.Nat.{_≤_};
 ghost use lib.ListN.{drop};
-ghost use Rattle.text_tokens.specs.Tokens.{front, digit, digits-after, number, after};
-ghost use Rattle.text_tokens.specs.Told.{number-told, place-told};
+ghost use Rattle.text_tokens.specs.Tokens.{front, digit, digits-after, numeral, after};
+ghost use Rattle.text_tokens.specs.Told.{numeral-told, place-told};
 
 // A number and the place after it.
-pub enum Number {
+pub enum Numeral {
     Read(u32, usize),
     Missing,
 }
@@ -42,9 +42,9 @@ fn digit_at(text: &[u8], at: usize) -> u64
 }
 
 // The number that begins with `first`, whose further digits stand at `at`.
-fn read_digits(text: &[u8], at: usize, first: u64) -> Number
+fn read_digits(text: &[u8], at: usize, first: u64) -> Numeral
     requires { ⌜ first ≤ 9 ⌝ }
-    ensures { λ r. ⌜ digits-after first (drop at (now (text .entry))) ≡ number-told (now (text .entry)) r ⌝ }
+    ensures { λ r. ⌜ digits-after first (drop at (now (text .entry))) ≡ numeral-told (now (text .entry)) r ⌝ }
 {
     let mut value = first;
     let mut at = at;
@@ -52,26 +52,26 @@ fn read_digits(text: &[u8], at: usize, first: u64) -> Number
     while digit < 10 {
         value = value * 10 + digit;
         if value > 4294967295 {
-            return Number::Missing;
+            return Numeral::Missing;
         }
         at += 1;
         digit = digit_at(text, at);
     }
-    Number::Read(value as u32, at)
+    Numeral::Read(value as u32, at)
 }
 
 // The number at a place.
-pub fn read_number(text: &[u8], at: usize) -> Number
-    ensures { λ r. ⌜ number (drop at (now (text .entry))) ≡ number-told (now (text .entry)) r ⌝ }
+pub fn read_numeral(text: &[u8], at: usize) -> Numeral
+    ensures { λ r. ⌜ numeral (drop at (now (text .entry))) ≡ numeral-told (now (text .entry)) r ⌝ }
 {
     let first = digit_at(text, at);
     if first == 0 {
-        return Number::Read(0, at + 1);
+        return Numeral::Read(0, at + 1);
     }
     if first < 10 {
         return read_digits(text, at + 1, first);
     }
-    Number::Missing
+    Numeral::Missing
 }
 
 // The place after a key.

@@ -11,7 +11,7 @@ use Rattle.theory.specs.Scan.{Reply, scan-from}
 use Rattle.theory.specs.Moves.{Pattern, patterns, Rising, binomial, cut-sets, candidates}
 use Rattle.theory.specs.Route.{Problem, count, tour-length, reconnected, timely, feasible}
 use Rattle.theory.specs.Polish.{Demand3, polish}
-use Rattle.theory.specs.Refusals.{Rule, some, cut-count, leg-table, deadline-list, leg-sizes, known-stops, stop-count, room, refusal}
+use Rattle.theory.specs.Refusals.{Rule, any, cut-count, leg-table, deadline-list, leg-sizes, known-stops, stop-count, room, refusal}
 use Rattle.theory.specs.Runs.{T, far}
 use Rattle.theory.proofs.Route.{feasible-iff}
 use Rattle.theory.proofs.Refusals.{taken}
@@ -80,7 +80,7 @@ T-rules =
     cut-count 3 ∷ leg-table 3 T-legs ∷ deadline-list 3 (far ∷ far ∷ far ∷ []) ∷ leg-sizes T-legs ∷ known-stops 3 0 (1 ∷ 2 ∷ []) ∷ stop-count 2 ∷ room 5 5 ∷ []
 
 refusing : (n : ℕ) → refusal T-rules ≡ suc n → ⊥
-unfolding T-rules T-legs some
+unfolding T-rules T-legs any
 refusing n e = let z : refusal T-rules ≡ 0 = taken T-rules (refl, (refl, (refl, (refl, (refl, (refl, (refl, tt))))))) in omega arith
 
 -- ---- a case in which one improvement is not enough

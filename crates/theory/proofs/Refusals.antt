@@ -8,7 +8,7 @@ use native.Mathlib.Omega.{arith}
 use lib.Dec.{eqb, leb}
 use lib.ListN.{length}
 use borrow.Author.Tests.{eqb-true, eqb-false, leb-true}
-use Rattle.theory.specs.Refusals.{Rule, number, some, order, either, rules-of, first-in, refusal}
+use Rattle.theory.specs.Refusals.{Rule, number, any, order, either, rules-of, first-in, refusal}
 
 -- No rule applies.
 abbrev pub Passes : List Rule → Type 0
@@ -17,9 +17,9 @@ Passes (r ∷ rs) = (r .1 ≡ false) × Passes rs
 
 -- Each rule's number stands in the order; 0 does not.
 unfoldable pub known : List Rule → Bool
-unfolding some
+unfolding any
 known [] = true
-known (r ∷ rs) = some (eqb (r .0)) order && known rs
+known (r ∷ rs) = any (eqb (r .0)) order && known rs
 
 -- Of the numbers ns, n is given: a rule with that number applies, and none whose number stands earlier does.
 pub record Refused (ns : List ℕ) (rs : List Rule) (n : ℕ) : Type 0 where
@@ -115,23 +115,23 @@ decided (n ∷ ns) rs z = by (settled n rs (first-in ns rs) z) (decided ns rs z)
 
 -- ---- the laws
 
-stands : (rs : List Rule) → known rs ≡ true → (r : Rule) → List·Memᴰ r rs → some (eqb (r .0)) order ≡ true
+stands : (rs : List Rule) → known rs ≡ true → (r : Rule) → List·Memᴰ r rs → any (eqb (r .0)) order ≡ true
 unfolding known
 stands [] k r i = absurd (List·Memᴰ·not-nil i)
 stands (s ∷ rs) k r i =
-    let b = and-eq-true-iff (some (eqb (s .0)) order) (known rs) .0 k in
+    let b = and-eq-true-iff (any (eqb (s .0)) order) (known rs) .0 k in
     ⊎-elim (λ e. rw e (b .0)) (stands rs (b .1) r) (List·Memᴰ·cases-cons i)
 
 not-zero : (rs : List Rule) → known rs ≡ true → Numbered rs
-unfolding some
+unfolding any
 not-zero rs k r i z = true≢false (sym (rw z at (stands rs k r i)))
 
-listed : (x : ℕ) (l : List ℕ) → some (eqb x) l ≡ true → List·Memᴰ x l
-unfolding some
+listed : (x : ℕ) (l : List ℕ) → any (eqb x) l ≡ true → List·Memᴰ x l
+unfolding any
 listed x [] h = absurd (true≢false (sym h))
 listed x (y ∷ l) h = by (eqb x y) refl (listed x l) h
   where
-    by : (b : Bool) → eqb x y ≡ b → (some (eqb x) l ≡ true → List·Memᴰ x l) → (b || some (eqb x) l) ≡ true → List·Memᴰ x (y ∷ l)
+    by : (b : Bool) → eqb x y ≡ b → (any (eqb x) l ≡ true → List·Memᴰ x l) → (b || any (eqb x) l) ≡ true → List·Memᴰ x (y ∷ l)
     by true e f h = List·Memᴰ·head (eqb-true x y e)
     by false e f h = List·Memᴰ·tail (f h)
 

@@ -11,22 +11,22 @@ returns c = simp (ne-eqb _ _ (c .if1 .taken))
 returns-2 : tie.Need-returns-2
 returns-2 c = simp (eq-eqb _ _ (c .before .if1 .left), ne-eqb _ _ (c .if2 .taken))
 
-some-beyond-requires : tie.Need-some-beyond-requires
-some-beyond-requires c κs = search needs
+any-beyond-requires : tie.Need-any-beyond-requires
+any-beyond-requires c κs = search needs
 
 returns-3 : tie.Need-returns-3
-returns-3 c = simp (eq-eqb _ _ (c .before .before .before .if1 .left), eq-eqb _ _ (c .before .before .if2 .left), sym (c .before .some-beyond .ensures) ∙ c .if3 .taken)
+returns-3 c = simp (eq-eqb _ _ (c .before .before .before .if1 .left), eq-eqb _ _ (c .before .before .if2 .left), sym (c .before .any-beyond .ensures) ∙ c .if3 .taken)
 
-some-other-requires : tie.Need-some-other-requires
-some-other-requires c κs = search needs
+any-other-requires : tie.Need-any-other-requires
+any-other-requires c κs = search needs
 
 returns-4 : tie.Need-returns-4
 returns-4 c =
     simp (
       eq-eqb _ _ (c .before .before .before .before .before .if1 .left),
       eq-eqb _ _ (c .before .before .before .before .if2 .left),
-      sym (c .before .before .before .some-beyond .ensures) ∙ c .before .before .if3 .left,
-      sym (c .before .some-other .ensures) ∙ c .if4 .taken,
+      sym (c .before .before .before .any-beyond .ensures) ∙ c .before .before .if3 .left,
+      sym (c .before .any-other .ensures) ∙ c .if4 .taken,
     )
 
 strictly-rising-requires : tie.Need-strictly-rising-requires
@@ -37,8 +37,8 @@ returns-5 c =
     simp (
       eq-eqb _ _ (c .before .before .before .before .before .before .if1 .left),
       eq-eqb _ _ (c .before .before .before .before .before .if2 .left),
-      sym (c .before .before .before .before .some-beyond .ensures) ∙ c .before .before .before .if3 .left,
-      sym (c .before .before .some-other .ensures) ∙ c .before .if4 .left,
+      sym (c .before .before .before .before .any-beyond .ensures) ∙ c .before .before .before .if3 .left,
+      sym (c .before .before .any-other .ensures) ∙ c .before .if4 .left,
     )
     (c .strictly-rising .ensures)
 
@@ -48,9 +48,9 @@ k-opt-is-doable-spec =
     (tie.spec
     returns
     returns-2
-    some-beyond-requires
+    any-beyond-requires
     returns-3
-    some-other-requires
+    any-other-requires
     returns-4
     strictly-rising-requires
     returns-5)

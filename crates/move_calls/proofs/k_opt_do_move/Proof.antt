@@ -37,7 +37,7 @@ use denote.Triple.Spec.{Meets, tripleOf}
 use denote.Triple.Table.{entered, cited}
 use denote.Triple.Clauses.{Lasts, ensured, lasts}
 use denote.Triple.Walked.{says, Stays, stay-none, stay-none-slice, gave-slice, walkOf, Walks, ends-at, walked, goes-none, goes-none-slice, goes-gave-slice, walk-meets}
-use Rattle.move_points.specs.CutPoints.{Holds, Sized, rounds-of, positions-of}
+use Rattle.move_points.specs.CutPoints.{HoldsCuts, Sized, rounds-of, positions-of}
 use Rattle.move_calls.specs.Entries.{DoMoveReply}
 use Rattle.move_points.specs.declared.CutPoint.{CutPoint}
 use Rattle.move_points.specs.declared.CutNumbers.{CutNumbers}
@@ -114,8 +114,8 @@ module _ {M : Type 1} (𝓤 : URA M) (H : Heap 𝓤) (A : Atoms 𝓤) (W : Given
       goes = qed W ((‵ (flft κ₀ q₀) ⊛ ‵ ftrue) ∷ ‵ (owns (ShrSlice (named 0) κ₀ T.the-row ∷ []) (s, tt) (v ∷ [], tt)) ∷ []) ∵ join ! $ frame ! $ done !
 
   -- of `cut_numbers`' `ensured`, the clause alone
-  held-of : (h : CutNumbers) → ent 𝓤 (ensured 𝓤 H A nums.ended (nums.clauses 𝓤 H A mem run) (κ₀, tt) (s, tt) tt h) (fact 𝓤 (Holds (now s) h))
-  held-of h = exE 𝓤 _ (λ ws. snd∗ 𝓤 (sem 𝓤 H A (lasts nums.ended (κ₀, tt) (s, tt) ws)) (fact 𝓤 (Holds (now s) h)))
+  held-of : (h : CutNumbers) → ent 𝓤 (ensured 𝓤 H A nums.ended (nums.clauses 𝓤 H A mem run) (κ₀, tt) (s, tt) tt h) (fact 𝓤 (HoldsCuts (now s) h))
+  held-of h = exE 𝓤 _ (λ ws. snd∗ 𝓤 (sem 𝓤 H A (lasts nums.ended (κ₀, tt) (s, tt) ws)) (fact 𝓤 (HoldsCuts (now s) h)))
 
   module _ (h : CutNumbers) (w : Val) where
     abbrev args : Args do-move.signature (κ₁, (κ₂, tt))
@@ -163,7 +163,7 @@ module _ {M : Type 1} (𝓤 : URA M) (H : Heap 𝓤) (A : Atoms 𝓤) (W : Given
         use2 W (raw (Nums 𝓤 H A mem run .pre to-nums) ⊛ ‵ Own) to-nums-and-kept $ split ! $
         calls-at ! fm (Nums 𝓤 H A mem run) known-nums to-nums (and-then ! (load ! (from ! (stop !)) (look ! 19 refl)) (no-more !)) (λ w.
         use1 W (later (some (λ (h : CutNumbers). ((‵ (flft κ₀ q₀) ⊛ ‵ ftrue) ⊛ ‵ (N.the-row .own h (w ∷ []))) ⊛ raw (ensured 𝓤 H A nums.ended (nums.clauses 𝓤 H A mem run) (κ₀, tt) (s, tt) tt h)))) (id⊢ 𝓤 _) $ await ! tt $ pick ! (λ h.
-        split ! $ move ! (1 ∷ []) $ use1 W (raw (fact 𝓤 (Holds (now s) h))) (held-of h) $ heard ! (Holds (now s) h) (λ held. split ! $ move ! (1 ∷ []) $
+        split ! $ move ! (1 ∷ []) $ use1 W (raw (fact 𝓤 (HoldsCuts (now s) h))) (held-of h) $ heard ! (HoldsCuts (now s) h) (λ held. split ! $ move ! (1 ∷ []) $
         peeks ! N.the-row (Is N.the-row) (shows 𝓤 H A N.the-row) h (w ∷ []) (λ is-h. land ! (from ! (stop !)) (init ! 14 refl (LL.lawful N.the-type N′.the-laws 𝓤 H A W .typed h _ is-h .0)) $ drop ! $
         -- route and journal are lent on
         assigns ! (addr ! (from ! (fld ! refl (hop ! (look-in ! 17 (sub ! 0 refl (whole !))) (stop !))))) (from ! (stop !)) (init ! 11 refl (tt, tt)) $

@@ -36,7 +36,7 @@ use denote.Triple.Spec.{Meets, tripleOf}
 use denote.Triple.Table.{entered, cited}
 use denote.Triple.Clauses.{ensured, lasts}
 use denote.Triple.Walked.{says, Stays, stay-none, stay-none-slice, walkOf, Walks, ends-at, walked, goes-none, goes-none-slice, walk-meets}
-use Rattle.move_points.specs.CutPoints.{Holds, Sized, rounds-of, positions-of}
+use Rattle.move_points.specs.CutPoints.{HoldsCuts, Sized, rounds-of, positions-of}
 use Rattle.move_calls.specs.Entries.{DoableReply}
 use Rattle.move_points.specs.declared.CutPoint.{CutPoint}
 use Rattle.move_points.specs.declared.CutNumbers.{CutNumbers}
@@ -104,8 +104,8 @@ module _ {M : Type 1} (𝓤 : URA M) (H : Heap 𝓤) (A : Atoms 𝓤) (W : Given
       goes = qed W ((‵ (flft κ q) ⊛ ‵ ftrue) ∷ ‵ (owns (ShrSlice (named 0) κ T.the-row ∷ []) (s, tt) (v ∷ [], tt)) ∷ []) ∵ join ! $ frame ! $ done !
 
   -- of `cut_numbers`' `ensured`, the clause alone
-  held-of : (h : CutNumbers) → ent 𝓤 (ensured 𝓤 H A nums.ended (nums.clauses 𝓤 H A mem run) (κ, tt) (s, tt) tt h) (fact 𝓤 (Holds (now s) h))
-  held-of h = exE 𝓤 _ (λ ws. snd∗ 𝓤 (sem 𝓤 H A (lasts nums.ended (κ, tt) (s, tt) ws)) (fact 𝓤 (Holds (now s) h)))
+  held-of : (h : CutNumbers) → ent 𝓤 (ensured 𝓤 H A nums.ended (nums.clauses 𝓤 H A mem run) (κ, tt) (s, tt) tt h) (fact 𝓤 (HoldsCuts (now s) h))
+  held-of h = exE 𝓤 _ (λ ws. snd∗ 𝓤 (sem 𝓤 H A (lasts nums.ended (κ, tt) (s, tt) ws)) (fact 𝓤 (HoldsCuts (now s) h)))
 
   module _ (h : CutNumbers) (w : Val) where
     abbrev args : Args doable.signature tt
@@ -150,7 +150,7 @@ module _ {M : Type 1} (𝓤 : URA M) (H : Heap 𝓤) (A : Atoms 𝓤) (W : Given
         use2 W (raw (Nums 𝓤 H A mem run .pre to-nums) ⊛ ‵ Own) to-nums-and-kept $ split ! $
         calls-at ! fm (Nums 𝓤 H A mem run) known-nums to-nums (and-then ! (load ! (from ! (stop !)) (look ! 4 refl)) (no-more !)) (λ w.
         use1 W (later (some (λ (h : CutNumbers). ((‵ (flft κ q) ⊛ ‵ ftrue) ⊛ ‵ (N.the-row .own h (w ∷ []))) ⊛ raw (ensured 𝓤 H A nums.ended (nums.clauses 𝓤 H A mem run) (κ, tt) (s, tt) tt h)))) (id⊢ 𝓤 _) $ await ! tt $ pick ! (λ h.
-        split ! $ move ! (1 ∷ []) $ use1 W (raw (fact 𝓤 (Holds (now s) h))) (held-of h) $ heard ! (Holds (now s) h) (λ held. split ! $ move ! (1 ∷ []) $
+        split ! $ move ! (1 ∷ []) $ use1 W (raw (fact 𝓤 (HoldsCuts (now s) h))) (held-of h) $ heard ! (HoldsCuts (now s) h) (λ held. split ! $ move ! (1 ∷ []) $
         peeks ! N.the-row (Is N.the-row) (shows 𝓤 H A N.the-row) h (w ∷ []) (λ is-h. land ! (from ! (stop !)) (init ! 3 refl (LL.lawful N.the-type N′.the-laws 𝓤 H A W .typed h _ is-h .0)) $ drop ! $
         nothing ! $ owned ! N.the-row (Is N.the-row) (LL.makes N.the-type N′.the-plain 𝓤 H A) h _ is-h $ fjoin ! $
         owned ! usize (Is usize) (uint-makes 𝓤 H A W w64) n _ (refl, n-fits) $ fjoin ! $ owned ! usize (Is usize) (uint-makes 𝓤 H A W w64) round _ (refl, round-fits) $ fjoin ! $ owned ! usize (Is usize) (uint-makes 𝓤 H A W w64) pattern _ (refl, pattern-fits) $ fjoin ! $ owned ! usize (Is usize) (uint-makes 𝓤 H A W w64) k _ (refl, k-fits) $ fjoin ! $

@@ -37,7 +37,7 @@ use denote.Triple.Spec.{Meets, tripleOf}
 use denote.Triple.Table.{entered, cited}
 use denote.Triple.Clauses.{ensured, lasts}
 use denote.Triple.Walked.{says, Stays, stay-none-slice, walkOf, Walks, ends-at, walked, goes-none-slice, walk-meets}
-use Rattle.move_points.specs.CutPoints.{cut-at, numbers-of, Holds}
+use Rattle.move_points.specs.CutPoints.{cut-at, numbers-of, HoldsCuts}
 use Rattle.move_points.specs.declared.CutPoint.{CutPoint}
 use Rattle.move_points.specs.declared.CutNumbers.{CutNumbers}
 use Rattle.move_points.proofs.Numbers.{held-by}
@@ -132,7 +132,7 @@ module _ {M : Type 1} (𝓤 : URA M) (H : Heap 𝓤) (A : Atoms 𝓤) (W : Given
   found : (i : ℕ) (r : CutPoint) → ent 𝓤 (ensured 𝓤 H A cut.ended (cut.clauses 𝓤 H A mem run) (κ, tt) (s, (i, tt)) tt r) (fact 𝓤 (r ≡ cut-at (now s) i))
   found i r = exE 𝓤 _ (λ ws. snd∗ 𝓤 (sem 𝓤 H A (lasts cut.ended (κ, tt) (s, (i, tt)) ws)) (fact 𝓤 (r ≡ cut-at (now s) i)))
 
-  exits : (r : CutNumbers) (u : Val) → Holds (now s) r → ent 𝓤 (⋆ 𝓤 H A (‵ (N.the-row .own r (u ∷ [])) ∷ (‵ (flft κ q) ⊛ ‵ ftrue) ∷ ‵ Own ∷ [])) (Post u)
+  exits : (r : CutNumbers) (u : Val) → HoldsCuts (now s) r → ent 𝓤 (⋆ 𝓤 H A (‵ (N.the-row .own r (u ∷ [])) ∷ (‵ (flft κ q) ⊛ ‵ ftrue) ∷ ‵ Own ∷ [])) (Post u)
   exits r u h =
       qed W (‵ (N.the-row .own r (u ∷ [])) ∷ (‵ (flft κ q) ⊛ ‵ ftrue) ∷ ‵ Own ∷ []) ∵
       suffices ! _ (ends-at 𝓤 H A f.ended stayed (f.clauses 𝓤 H A mem run) W (((κ, tt), (q, tt), tt, (s, tt), at), tt) u r (tt, tt) (tt, tt)) $ says ! h $

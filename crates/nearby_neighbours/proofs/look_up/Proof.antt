@@ -23,12 +23,12 @@ find-neighbours-requires c κs = search needs
 add-table : tie.Need-add-table
 add-table c =
     let s = c .before .before .before .before .before .before .before .before in
-    omega (arith, c .before .before .find-neighbours .ensures .number-is, neighbours-few (s .args .distances .now) (s .args .n) (s .args .count) (s .args .cut), s .pre .most)
+    omega (arith, c .before .before .find-neighbours .ensures .size-is, neighbours-few (s .args .distances .now) (s .args .n) (s .args .count) (s .args .cut), s .pre .most)
 
 cast-table : tie.Need-cast-table
 cast-table c =
     let s = c .before .before .before .before .before .before .before .before in
-    omega (arith, c .before .before .find-neighbours .ensures .number-is, neighbours-few (s .args .distances .now) (s .args .n) (s .args .count) (s .args .cut), s .pre .most)
+    omega (arith, c .before .before .find-neighbours .ensures .size-is, neighbours-few (s .args .distances .now) (s .args .n) (s .args .count) (s .args .cut), s .pre .most)
 
 mul-table : tie.Need-mul-table
 mul-table c = search needs
@@ -44,7 +44,7 @@ returns c =
     let s = c .before .before .before .before .before .before .before .before in
     let q = c .before .before .find-neighbours in
     rw (q .ensures .table-is)
-    (looked-up (s .args .distances .now) (s .args .n) (s .args .count) (s .args .cut) (s .args .table .now) (s .pre .known .few) (s .pre .most) (s .pre .known .origin-known) (s .pre .memo) (q .result) (q .ensures .number-is))
+    (looked-up (s .args .distances .now) (s .args .n) (s .args .count) (s .args .cut) (s .args .table .now) (s .pre .known .few) (s .pre .most) (s .pre .known .origin-known) (s .pre .memo) (q .result) (q .ensures .size-is))
 
 returns-2 : tie.Need-returns-2
 returns-2 c =

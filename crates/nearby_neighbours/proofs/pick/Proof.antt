@@ -12,11 +12,11 @@ use Rattle.nearby_neighbours.proofs.pick.Statement.{statement}
 use Rattle.nearby_neighbours.proofs.pick.Tie as tie
 
 abbrev Inv-loop : tie.InvT-loop
-Inv-loop row low high own₀ number₀ i₀ own number i =
-    (number ≤ i) × (i ≤ length row) × (length own ≡ length own₀) × (take number own ++ passing (between low high) (drop i row) ≡ passing (between low high) row)
+Inv-loop row low high own₀ size₀ i₀ own size i =
+    (size ≤ i) × (i ≤ length row) × (length own ≡ length own₀) × (take size own ++ passing (between low high) (drop i row) ≡ passing (between low high) row)
 
 abbrev μ-loop : tie.MeasureT-loop
-μ-loop row low high own₀ number₀ i₀ own number i = length row - i
+μ-loop row low high own₀ size₀ i₀ own size i = length row - i
 
 loop-holds : tie.Need-loop-holds Inv-loop μ-loop
 loop-holds c = search needs
@@ -50,10 +50,10 @@ loop-again c =
     let s = c .before .before .before .before .before .before in
     let l = c .before .before .before .loop in
     let t = between (s .args .low) (s .args .high) in (
-      rw (c .counted .ensures) (counted-most (t (getD (s .args .row .now) (l .i) 0)) (l .number) (l .i) (l .inv .0)),
+      rw (c .counted .ensures) (counted-most (t (getD (s .args .row .now) (l .i) 0)) (l .size) (l .i) (l .inv .0)),
       omega arith,
-      length-set (l .own) (l .number) _ ∙ l .inv .2,
-      rw (c .counted .ensures) (picked-next t (s .args .row .now) (l .own) (l .number) (l .i) (l .inv .0) (omega arith) (omega (arith, l .inv .2, s .pre .0)) (l .inv .3)),
+      length-set (l .own) (l .size) _ ∙ l .inv .2,
+      rw (c .counted .ensures) (picked-next t (s .args .row .now) (l .own) (l .size) (l .i) (l .inv .0) (omega arith) (omega (arith, l .inv .2, s .pre .0)) (l .inv .3)),
     )
 
 same-length : tie.Need-same-length Inv-loop μ-loop
@@ -65,7 +65,7 @@ returns c =
     let l = c .before .loop in
     record {
       within = omega (arith, l .inv .0, l .inv .1, l .inv .2, s .pre .0);
-      list-is = picked-all (between (s .args .low) (s .args .high)) (s .args .row .now) (l .own) (l .number) (l .i) (omega arith) (l .inv .3);
+      list-is = picked-all (between (s .args .low) (s .args .high)) (s .args .row .now) (l .own) (l .size) (l .i) (omega arith) (l .inv .3);
     }
 
 pub pick-spec : {M : Type 1} → statement M

@@ -7,7 +7,7 @@ use Rattle.theory.specs.Tables.{problem, trip}
 use Rattle.pair_loop.specs.PairLoop.{reply-of, pass}
 use Rattle.pair_loop.specs.Parts.{Going}
 use Rattle.pair_loop.proofs.Steps.{pass-left, pass-first, pass-ended, pass-tried, pass-stopped}
-use Rattle.pair_loop.proofs.Progress.{going-after-row}
+use Rattle.pair_loop.proofs.Progress.{going-after-sweep}
 use native.Mathlib.Omega.{arith}
 use borrow.Author.Needs.{needs}
 use borrow.Author.Tests.{not-true, not-false}
@@ -36,8 +36,8 @@ loop-holds c =
 add-loop : tie.Need-add-loop Inv-loop μ-loop
 add-loop c = search needs
 
-try-row-requires : tie.Need-try-row-requires Inv-loop μ-loop
-try-row-requires c κs =
+try-sweep-requires : tie.Need-try-sweep-requires Inv-loop μ-loop
+try-sweep-requires c κs =
     let l = c .before .before .loop in
     record { so-far = l .inv .0; inside = omega (arith, c .before .loop-test .taken) }
 
@@ -49,7 +49,7 @@ returns c =
     let s = c .before .before .before .before .before .before .before .before .before .before .before in
     let l = c .before .before .before .before .before .before .before .loop in
     let h : l .i + 1 < length (s .args .route .now) = omega (arith, l .inv .1, c .before .before .before .before .before .before .loop-test .taken) in
-    pass-stopped (P s) (s .args .allowance) (length (s .args .route .now)) (reply-of (l .passed) (l .route)) _ (l .i) (l .inv .1) h (c .before .before .before .before .try-row .ensures) (not-true _ (c .if1 .taken)) ∙ l .inv .3
+    pass-stopped (P s) (s .args .allowance) (length (s .args .route .now)) (reply-of (l .passed) (l .route)) _ (l .i) (l .inv .1) h (c .before .before .before .before .try-sweep .ensures) (not-true _ (c .if1 .taken)) ∙ l .inv .3
 
 add-i : tie.Need-add-i Inv-loop μ-loop
 add-i c = search needs
@@ -62,8 +62,8 @@ loop-again c =
     let s = c .before .before .before .before .before .before .before .before .before .before .before in
     let l = c .before .before .before .before .before .before .before .loop in
     let h : l .i + 1 < length (s .args .route .now) = omega (arith, l .inv .1, c .before .before .before .before .before .before .loop-test .taken) in
-    let e = c .before .before .before .before .try-row .ensures in
-    let k = going-after-row (P s) (s .args .allowance) (l .inv .0) (length (l .route)) (l .i) e (not-false _ (c .if1 .left)) in
+    let e = c .before .before .before .before .try-sweep .ensures in
+    let k = going-after-sweep (P s) (s .args .allowance) (l .inv .0) (length (l .route)) (l .i) e (not-false _ (c .if1 .left)) in
     (k .0, k .1 ∙ l .inv .1, omega (arith, h), pass-tried (P s) (s .args .allowance) (length (s .args .route .now)) (reply-of (l .passed) (l .route)) _ (l .i) (l .inv .1) h e ∙ l .inv .3)
 
 same-length-2 : tie.Need-same-length-2 Inv-loop μ-loop
@@ -84,7 +84,7 @@ try-pass-spec =
     μ-loop
     loop-holds
     add-loop
-    try-row-requires
+    try-sweep-requires
     same-length
     returns
     add-i

@@ -4,21 +4,21 @@ use borrow.Author.Needs.{needs}
 use Rattle.refusals.proofs.check_known_rounds.Statement.{statement}
 use Rattle.refusals.proofs.check_known_rounds.Tie as tie
 
-some-unknown-requires : tie.Need-some-unknown-requires
-some-unknown-requires c κs = search needs
+any-unknown-requires : tie.Need-any-unknown-requires
+any-unknown-requires c κs = search needs
 
 returns : tie.Need-returns
-returns c = simp (sym (c .before .some-unknown .ensures) ∙ c .if1 .taken)
+returns c = simp (sym (c .before .any-unknown .ensures) ∙ c .if1 .taken)
 
-some-unknown-requires-2 : tie.Need-some-unknown-requires-2
-some-unknown-requires-2 c κs = search needs
+any-unknown-requires-2 : tie.Need-any-unknown-requires-2
+any-unknown-requires-2 c κs = search needs
 
 returns-2 : tie.Need-returns-2
-returns-2 c = simp (sym (c .before .before .before .some-unknown .ensures) ∙ c .before .before .if1 .left, sym (c .before .some-unknown2 .ensures) ∙ c .if2 .taken)
+returns-2 c = simp (sym (c .before .before .before .any-unknown .ensures) ∙ c .before .before .if1 .left, sym (c .before .any-unknown2 .ensures) ∙ c .if2 .taken)
 
 returns-3 : tie.Need-returns-3
-returns-3 c = simp (sym (c .before .before .before .some-unknown .ensures) ∙ c .before .before .if1 .left, sym (c .before .some-unknown2 .ensures) ∙ c .if2 .left)
+returns-3 c = simp (sym (c .before .before .before .any-unknown .ensures) ∙ c .before .before .if1 .left, sym (c .before .any-unknown2 .ensures) ∙ c .if2 .left)
 
 pub check-known-rounds-spec : {M : Type 1} → statement M
 check-known-rounds-spec =
-    tie.close (tie.spec some-unknown-requires returns some-unknown-requires-2 returns-2 returns-3)
+    tie.close (tie.spec any-unknown-requires returns any-unknown-requires-2 returns-2 returns-3)

@@ -23,8 +23,8 @@ returns-4 : tie.Need-returns-4
 returns-4 c =
     simp (le-ltb _ _ (c .before .before .before .if1 .left), le-ltb _ _ (c .before .before .if2 .left), le-ltb _ _ (c .before .if3 .left), ne-eqb _ _ (c .if4 .taken))
 
-some-no-number-requires : tie.Need-some-no-number-requires
-some-no-number-requires c κs = search needs
+any-no-number-requires : tie.Need-any-no-number-requires
+any-no-number-requires c κs = search needs
 
 returns-5 : tie.Need-returns-5
 returns-5 c =
@@ -34,7 +34,7 @@ returns-5 c =
       le-ltb _ _ (d .before .before .if2 .left),
       le-ltb _ _ (d .before .if3 .left),
       eq-eqb _ _ (d .if4 .left),
-      sym (c .before .some-no-number .ensures) ∙ c .if5 .taken,
+      sym (c .before .any-no-number .ensures) ∙ c .if5 .taken,
     )
 
 returns-6 : tie.Need-returns-6
@@ -45,7 +45,7 @@ returns-6 c =
       le-ltb _ _ (d .before .before .if2 .left),
       le-ltb _ _ (d .before .if3 .left),
       eq-eqb _ _ (d .if4 .left),
-      sym (c .before .some-no-number .ensures) ∙ c .if5 .left,
+      sym (c .before .any-no-number .ensures) ∙ c .if5 .left,
     )
 
 pub check-nearby-input-spec : {M : Type 1} → statement M
@@ -57,6 +57,6 @@ check-nearby-input-spec =
     returns-3
     mul-if4
     returns-4
-    some-no-number-requires
+    any-no-number-requires
     returns-5
     returns-6)

@@ -9,23 +9,23 @@ use Rattle.refusals.proofs.check_round_lists.Tie as tie
 returns : tie.Need-returns
 returns c = simp (lt-ltb _ _ (c .if1 .taken))
 
-some-beyond-requires : tie.Need-some-beyond-requires
-some-beyond-requires c κs = search needs
+any-beyond-requires : tie.Need-any-beyond-requires
+any-beyond-requires c κs = search needs
 
 returns-2 : tie.Need-returns-2
-returns-2 c = simp (le-ltb _ _ (c .before .before .if1 .left), sym (c .before .some-beyond .ensures) ∙ c .if2 .taken)
+returns-2 c = simp (le-ltb _ _ (c .before .before .if1 .left), sym (c .before .any-beyond .ensures) ∙ c .if2 .taken)
 
 returns-3 : tie.Need-returns-3
 returns-3 c =
     let d = c .before in
-    simp (le-ltb _ _ (d .before .before .if1 .left), sym (d .before .some-beyond .ensures) ∙ d .if2 .left, ne-eqb _ _ (c .if3 .taken))
+    simp (le-ltb _ _ (d .before .before .if1 .left), sym (d .before .any-beyond .ensures) ∙ d .if2 .left, ne-eqb _ _ (c .if3 .taken))
 
 returns-4 : tie.Need-returns-4
 returns-4 c =
     let d = c .before .before in
     simp (
       le-ltb _ _ (d .before .before .if1 .left),
-      sym (d .before .some-beyond .ensures) ∙ d .if2 .left,
+      sym (d .before .any-beyond .ensures) ∙ d .if2 .left,
       eq-eqb _ _ (c .before .if3 .left),
       ne-eqb _ _ (c .if4 .taken),
     )
@@ -33,7 +33,7 @@ returns-4 c =
 all-stops-requires : tie.Need-all-stops-requires
 all-stops-requires c κs =
     let d = c .before .before in
-    rounds-short (d .before .before .before .before .before .before .args .lengths .now) (d .before .before .if1 .left) (sym (d .before .some-beyond .ensures) ∙ d .if2 .left)
+    rounds-short (d .before .before .before .before .before .before .args .lengths .now) (d .before .before .if1 .left) (sym (d .before .any-beyond .ensures) ∙ d .if2 .left)
 
 returns-5 : tie.Need-returns-5
 returns-5 c =
@@ -41,7 +41,7 @@ returns-5 c =
     let d = e .before .before in
     simp (
       le-ltb _ _ (d .before .before .if1 .left),
-      sym (d .before .some-beyond .ensures) ∙ d .if2 .left,
+      sym (d .before .any-beyond .ensures) ∙ d .if2 .left,
       eq-eqb _ _ (e .before .if3 .left),
       eq-eqb _ _ (e .if4 .left),
       sym (c .before .all-stops .ensures),
@@ -54,7 +54,7 @@ returns-6 c =
     let d = e .before .before in
     simp (
       le-ltb _ _ (d .before .before .if1 .left),
-      sym (d .before .some-beyond .ensures) ∙ d .if2 .left,
+      sym (d .before .any-beyond .ensures) ∙ d .if2 .left,
       eq-eqb _ _ (e .before .if3 .left),
       eq-eqb _ _ (e .if4 .left),
       sym (c .before .all-stops .ensures),
@@ -66,7 +66,7 @@ check-round-lists-spec =
     tie.close
     (tie.spec
     returns
-    some-beyond-requires
+    any-beyond-requires
     returns-2
     returns-3
     returns-4

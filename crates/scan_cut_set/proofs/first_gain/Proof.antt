@@ -19,7 +19,7 @@ late-behind-requires : tie.Need-late-behind-requires
 late-behind-requires c κs =
     let s = c .before .before .before .before .before .before .before .before in
     let k = s .pre .searchable .cut-set in
-    record { some = omega (arith, k .least); within = omega (arith, last-cut (s .args .cuts .now) (s .args .route .now) k, k .short, s .pre .latenesses .places); places = s .pre .latenesses .places }
+    record { not-empty = omega (arith, k .least); within = omega (arith, last-cut (s .args .cuts .now) (s .args .route .now) k, k .short, s .pre .latenesses .places); places = s .pre .latenesses .places }
 
 threshold-requires : tie.Need-threshold-requires
 threshold-requires c κs = search needs

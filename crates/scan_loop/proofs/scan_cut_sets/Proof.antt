@@ -11,8 +11,8 @@ use native.Mathlib.Omega.{arith}
 use Rattle.theory.specs.Tables.{problem, pattern-rows, trip, Trip}
 use Rattle.theory.proofs.Polishing.{Polishing}
 use Rattle.scan_joints.specs.JointTable.{Padded}
-use Rattle.scan_shared.specs.Kept.{Opened}
-use Rattle.scan_shared.proofs.Keeping.{no-cells}
+use Rattle.scan_shared.specs.Prepared.{Opened}
+use Rattle.scan_shared.proofs.Preparing.{no-cells}
 use Rattle.scan_taking.specs.Candidate.{candidate}
 use Rattle.scan_taking.specs.Measure.{Measured}
 use Rattle.scan_loop.proofs.Scanning.{starts, below, same-size, timed}

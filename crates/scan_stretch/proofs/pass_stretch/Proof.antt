@@ -46,7 +46,7 @@ same-length c = search needs
 returns-2 : tie.Need-returns-2
 returns-2 c =
     let s = c .before .before .before .before .before in
-    rw (c .without-gain2 .ensures) (passed-through (s .args .stops) (s .args .patterns) (s .args .cuts .now) (s .args .left) _ (s .pre .some) (c .before .before .passed-patterns .ensures) (c .before .if1 .left))
+    rw (c .without-gain2 .ensures) (passed-through (s .args .stops) (s .args .patterns) (s .args .cuts .now) (s .args .left) _ (s .pre .not-empty) (c .before .before .passed-patterns .ensures) (c .before .if1 .left))
 
 pub pass-stretch-spec : {M : Type 1} → statement M
 pass-stretch-spec =

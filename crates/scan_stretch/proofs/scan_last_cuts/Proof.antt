@@ -8,8 +8,8 @@ use borrow.Author.Needs.{needs}
 use Rattle.theory.specs.Tables.{trip}
 use Rattle.theory.specs.Moves.{Pattern}
 use Rattle.costs.specs.RouteCosts.{last-cut}
-use Rattle.scan_shared.specs.Filling.{KeptNow}
-use Rattle.scan_shared.proofs.Keeping.{zero-at}
+use Rattle.scan_shared.specs.Filling.{PreparedNow}
+use Rattle.scan_shared.proofs.Preparing.{zero-at}
 use Rattle.scan_stretch.specs.Stretch.{Listed, Going}
 use Rattle.scan_stretch.proofs.Stretching.{last-most, keepable, starts-bare, triable-on, kept-on}
 use Rattle.scan_stretch.proofs.scan_last_cuts.Statement.{statement}
@@ -18,16 +18,16 @@ use Rattle.scan_stretch.proofs.scan_last_cuts.Tie as tie
 abbrev Inv-loop : tie.InvT-loop
 Inv-loop locations legs latest depot rows patterns route forward backward lateness cuts₀ joint₀ left entries exits inside low dues₀ zero examined₀ cuts joint dues examined =
     ((ps : List Pattern) → Listed (length cuts₀) patterns rows ps → Going (trip locations legs latest depot) ps route cuts₀ left cuts joint dues examined)
-    × KeptNow locations legs depot route cuts₀ rows patterns entries exits inside low
+    × PreparedNow locations legs depot route cuts₀ rows patterns entries exits inside low
 
 abbrev μ-loop : tie.MeasureT-loop
 μ-loop locations legs latest depot rows patterns route forward backward lateness cuts₀ joint₀ left entries exits inside low dues₀ zero examined₀ cuts joint dues examined = length route + 1 - last-cut cuts
 
-fill-kept-requires : tie.Need-fill-kept-requires Inv-loop μ-loop
-fill-kept-requires c κs = keepable (c .before .before .before .before .before .before .before .before .before .pre .hopeful) (c .before .before .before .before .before .before .before .before .before .pre .first)
+prepare-requires : tie.Need-prepare-requires Inv-loop μ-loop
+prepare-requires c κs = keepable (c .before .before .before .before .before .before .before .before .before .pre .hopeful) (c .before .before .before .before .before .before .before .before .before .pre .first)
 
 loop-holds : tie.Need-loop-holds Inv-loop μ-loop
-loop-holds c = (λ ps w. starts-bare (c .before .before .before .before .before .before .before .before .before .before .pre .hopeful) ps (c .before .before .before .before .before .before .before .before .before .before .args .left), c .fill-kept .ensures)
+loop-holds c = (λ ps w. starts-bare (c .before .before .before .before .before .before .before .before .before .before .pre .hopeful) ps (c .before .before .before .before .before .before .before .before .before .before .args .left), c .prepare .ensures)
 
 take-step-requires : tie.Need-take-step-requires Inv-loop μ-loop
 take-step-requires c κs =
@@ -84,7 +84,7 @@ scan-last-cuts-spec =
     (tie.spec
     Inv-loop
     μ-loop
-    fill-kept-requires
+    prepare-requires
     loop-holds
     take-step-requires
     enum-known-step

@@ -3,7 +3,7 @@ use Prim.Native.Nat.{_≤_, _-_}
 use mathlib.Core.Path.{_≡_, refl, sym, _∙_}
 use mathlib.Core.Option.{some}
 use lib.ListN.{length, drop, length-set}
-use Rattle.text_tokens.specs.Tokens.{number}
+use Rattle.text_tokens.specs.Tokens.{numeral}
 use Rattle.text_tokens.proofs.Places.{front-within}
 use Rattle.text_lines.specs.Reading.{entries}
 use Rattle.text_lines.proofs.Places.{to-come, entries-begin, entries-full, entries-break, entry-last, entry-more, entry-breaks}
@@ -21,14 +21,14 @@ abbrev μ-loop : tie.MeasureT-loop
 
 -- The number that was taken apart.
 number-read : (c : tie.After-value Inv-loop μ-loop) →
-    number (drop (c .before .before .before .before .loop .at) (c .before .before .before .before .before .before .before .args .text .now)) ≡ some (c .value .given .0 .0, drop (c .value .given .0 .1 .0) (c .before .before .before .before .before .before .before .args .text .now))
-number-read c = rw (c .value .given .1) at (c .before .before .read-number .ensures)
+    numeral (drop (c .before .before .before .before .loop .at) (c .before .before .before .before .before .before .before .args .text .now)) ≡ some (c .value .given .0 .0, drop (c .value .given .0 .1 .0) (c .before .before .before .before .before .before .before .args .text .now))
+number-read c = rw (c .value .given .1) at (c .before .before .read-numeral .ensures)
 
 loop-holds : tie.Need-loop-holds Inv-loop μ-loop
 loop-holds c = (omega arith, refl, entries-begin (c .before .before .args .out .now) (drop (c .before .before .args .at) (c .before .before .args .text .now)))
 
-read-number-requires : tie.Need-read-number-requires Inv-loop μ-loop
-read-number-requires c κs = search needs
+read-numeral-requires : tie.Need-read-numeral-requires Inv-loop μ-loop
+read-numeral-requires c κs = search needs
 
 enum-known-value : tie.Need-enum-known-value Inv-loop μ-loop
 enum-known-value c = search needs
@@ -42,7 +42,7 @@ same-length c = search needs
 returns : tie.Need-returns Inv-loop μ-loop
 returns c =
     let l = c .before .before .before .before .loop in
-    record { reads = l .inv .2 ∙ entries-break (l .out) (drop (l .at) (c .before .before .before .before .before .before .before .args .text .now)) (l .count) (rw (c .enum-told .given .1) at (c .before .before .read-number .ensures)); within = omega arith }
+    record { reads = l .inv .2 ∙ entries-break (l .out) (drop (l .at) (c .before .before .before .before .before .before .before .args .text .now)) (l .count) (rw (c .enum-told .given .1) at (c .before .before .read-numeral .ensures)); within = omega arith }
 
 mul-out : tie.Need-mul-out Inv-loop μ-loop
 mul-out c = search needs
@@ -117,7 +117,7 @@ read-entries-spec =
     Inv-loop
     μ-loop
     loop-holds
-    read-number-requires
+    read-numeral-requires
     enum-known-value
     enum-told
     same-length

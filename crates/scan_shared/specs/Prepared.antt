@@ -1,4 +1,4 @@
--- What is kept of the first cuts.
+-- What is prepared for the first cuts.
 use mathlib.Core.Path.{_≡_}
 use mathlib.Core.List.{List}
 use Prim.Native.Nat.{ℕ, suc, _-_, _*_, _^_, _≤_, _<_}
@@ -14,16 +14,16 @@ use Rattle.scan_shared.specs.Bound.{chain-by, class, fixed-by, opened, l
 abbrev pub shared : ℕ → List ℕ → ℕ → List ℕ → List ℕ → ℕ → ℕ → ℕ
 shared locations legs depot route pre = fixed-by (leg locations legs) (placed-in (opened pre) route) (last-state pre) (head-end (legs-only locations legs depot) route (opened pre))
 
--- What is kept of it: where the states before P are entered and left and the legs inside them, the least cost of each class of rows, and in place 20 the cost
+-- What is prepared for it: where the states before P are entered and left and the legs inside them, the least cost of each class of rows, and in place 20 the cost
 -- of the standing row.
-pub record Kept (locations : ℕ) (legs : List ℕ) (depot : ℕ) (route pre rows : List ℕ) (count : ℕ) (entries exits inside low : List ℕ) : Type 0 where
+pub record Prepared (locations : ℕ) (legs : List ℕ) (depot : ℕ) (route pre rows : List ℕ) (count : ℕ) (entries exits inside low : List ℕ) : Type 0 where
   pub entry : (s : ℕ) → s < last-state pre → getD entries s 0 ≡ first-of (placed-in (opened pre) route s) 0
   pub exit : (s : ℕ) → s < last-state pre → getD exits s 0 ≡ last-of 0 (placed-in (opened pre) route s)
   pub within : (s : ℕ) → s < last-state pre → getD inside s 0 ≡ inner (leg locations legs) (placed-in (opened pre) route s)
   pub standing : getD low 20 0 ≡ chain-by (shared locations legs depot route pre) 9 (standing-row (suc (length pre)))
   pub least : (i : ℕ) → i < count → getD low (class (last-state pre) 9 (row rows i)) 0 ≤ chain-by (shared locations legs depot route pre) 9 (row rows i)
 
--- Places for what is kept.
+-- Places for what is prepared.
 pub record Places (entries exits inside low : List ℕ) : Type 0 where
   pub ends : EndPlaces entries exits inside
   pub low-places : length low ≡ 21

@@ -1,17 +1,17 @@
--- `refusals::some_no_number` meets its contract. The invariant: the test of the whole is that of the rest. Assumes nothing.
+-- `refusals::any_no_number` meets its contract. The invariant: the test of the whole is that of the rest. Assumes nothing.
 use Prim.Native.Nat.{_≤_, _-_}
 use mathlib.Core.Path.{_≡_, refl}
 use lib.Ieee.{nan}
 use lib.ListN.{length, drop}
-use Rattle.theory.specs.Refusals.{some, no-number}
-use Rattle.refusals.proofs.Tests.{some-more, some-here, some-none, differs, equals}
+use Rattle.theory.specs.Refusals.{any, no-number}
+use Rattle.refusals.proofs.Tests.{any-more, any-here, any-none, differs, equals}
 use native.Mathlib.Omega.{arith}
 use borrow.Author.Needs.{needs}
-use Rattle.refusals.proofs.some_no_number.Statement.{statement}
-use Rattle.refusals.proofs.some_no_number.Tie as tie
+use Rattle.refusals.proofs.any_no_number.Statement.{statement}
+use Rattle.refusals.proofs.any_no_number.Tie as tie
 
 abbrev Inv-loop : tie.InvT-loop
-Inv-loop distances i₀ i = (i ≤ length distances) × (some no-number distances ≡ some no-number (drop i distances))
+Inv-loop distances i₀ i = (i ≤ length distances) × (any no-number distances ≡ any no-number (drop i distances))
 
 abbrev μ-loop : tie.MeasureT-loop
 μ-loop distances i₀ i = length distances - i
@@ -29,7 +29,7 @@ returns : tie.Need-returns Inv-loop μ-loop
 returns c =
     let s = c .before .before .before .before in
     let l = c .before .before .before .loop in
-    some-here nan no-number (s .args .distances .now) (l .i) (c .before .before .loop-test .taken) (differs _ (c .if1 .taken)) (l .inv .1)
+    any-here nan no-number (s .args .distances .now) (l .i) (c .before .before .loop-test .taken) (differs _ (c .if1 .taken)) (l .inv .1)
 
 add-i : tie.Need-add-i Inv-loop μ-loop
 add-i c = search needs
@@ -41,16 +41,16 @@ loop-again : tie.Need-loop-again Inv-loop μ-loop
 loop-again c =
     let s = c .before .before .before .before in
     let l = c .before .before .before .loop in
-    (omega arith, some-more nan no-number (s .args .distances .now) (l .i) (c .before .before .loop-test .taken) (equals _ (c .if1 .left)) (l .inv .1))
+    (omega arith, any-more nan no-number (s .args .distances .now) (l .i) (c .before .before .loop-test .taken) (equals _ (c .if1 .left)) (l .inv .1))
 
 returns-2 : tie.Need-returns-2 Inv-loop μ-loop
 returns-2 c =
     let s = c .before .before in
     let l = c .before .loop in
-    some-none no-number (s .args .distances .now) (l .i) (c .loop-test .left) (l .inv .1)
+    any-none no-number (s .args .distances .now) (l .i) (c .loop-test .left) (l .inv .1)
 
-pub some-no-number-spec : {M : Type 1} → statement M
-some-no-number-spec =
+pub any-no-number-spec : {M : Type 1} → statement M
+any-no-number-spec =
     tie.close
     (tie.spec
     Inv-loop

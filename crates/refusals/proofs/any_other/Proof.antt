@@ -1,21 +1,22 @@
--- `refusals::some_above` meets its contract. The invariant: the test of the whole is that of the rest. Assumes nothing.
+-- `refusals::any_other` meets its contract. The invariant: the test of the whole is that of the rest. Assumes nothing.
 use Prim.Native.Nat.{_≤_, _-_}
-use mathlib.Core.Path.{_≡_, refl}
-use lib.Dec.{ltb}
+use mathlib.Core.Path.{_≡_, refl, ap}
+use mathlib.Core.Bool.{not}
+use lib.Dec.{eqb}
 use lib.ListN.{length, drop}
-use borrow.Author.Tests.{lt-ltb, le-ltb}
-use Rattle.theory.specs.Refusals.{some}
-use Rattle.refusals.proofs.Tests.{some-more, some-here, some-none}
+use borrow.Author.Tests.{ne-eqb, eq-eqb}
+use Rattle.theory.specs.Refusals.{any}
+use Rattle.refusals.proofs.Tests.{any-more, any-here, any-none}
 use native.Mathlib.Omega.{arith}
 use borrow.Author.Needs.{needs}
-use Rattle.refusals.proofs.some_above.Statement.{statement}
-use Rattle.refusals.proofs.some_above.Tie as tie
+use Rattle.refusals.proofs.any_other.Statement.{statement}
+use Rattle.refusals.proofs.any_other.Tie as tie
 
 abbrev Inv-loop : tie.InvT-loop
-Inv-loop entries limit i₀ i = (i ≤ length entries) × (some (λ x. ltb limit x) entries ≡ some (λ x. ltb limit x) (drop i entries))
+Inv-loop rounds round i₀ i = (i ≤ length rounds) × (any (λ x. not (eqb x round)) rounds ≡ any (λ x. not (eqb x round)) (drop i rounds))
 
 abbrev μ-loop : tie.MeasureT-loop
-μ-loop entries limit i₀ i = length entries - i
+μ-loop rounds round i₀ i = length rounds - i
 
 loop-holds : tie.Need-loop-holds Inv-loop μ-loop
 loop-holds c = (omega arith, refl)
@@ -30,7 +31,7 @@ returns : tie.Need-returns Inv-loop μ-loop
 returns c =
     let s = c .before .before .before .before in
     let l = c .before .before .before .loop in
-    some-here 0 (λ x. ltb (s .args .limit) x) (s .args .entries .now) (l .i) (c .before .before .loop-test .taken) (lt-ltb _ _ (c .if1 .taken)) (l .inv .1)
+    any-here 0 (λ x. not (eqb x (s .args .round))) (s .args .rounds .now) (l .i) (c .before .before .loop-test .taken) (ap not (ne-eqb _ _ (c .if1 .taken))) (l .inv .1)
 
 add-i : tie.Need-add-i Inv-loop μ-loop
 add-i c = search needs
@@ -42,16 +43,16 @@ loop-again : tie.Need-loop-again Inv-loop μ-loop
 loop-again c =
     let s = c .before .before .before .before in
     let l = c .before .before .before .loop in
-    (omega arith, some-more 0 (λ x. ltb (s .args .limit) x) (s .args .entries .now) (l .i) (c .before .before .loop-test .taken) (le-ltb _ _ (c .if1 .left)) (l .inv .1))
+    (omega arith, any-more 0 (λ x. not (eqb x (s .args .round))) (s .args .rounds .now) (l .i) (c .before .before .loop-test .taken) (ap not (eq-eqb _ _ (c .if1 .left))) (l .inv .1))
 
 returns-2 : tie.Need-returns-2 Inv-loop μ-loop
 returns-2 c =
     let s = c .before .before in
     let l = c .before .loop in
-    some-none (λ x. ltb (s .args .limit) x) (s .args .entries .now) (l .i) (c .loop-test .left) (l .inv .1)
+    any-none (λ x. not (eqb x (s .args .round))) (s .args .rounds .now) (l .i) (c .loop-test .left) (l .inv .1)
 
-pub some-above-spec : {M : Type 1} → statement M
-some-above-spec =
+pub any-other-spec : {M : Type 1} → statement M
+any-other-spec =
     tie.close
     (tie.spec
     Inv-loop

@@ -1,4 +1,4 @@
--- A last cut that leaves no room for a gain.
+-- A last cut that can hold no gain.
 use mathlib.Core.Path.{_≡_}
 use mathlib.Core.Bool.{false}
 use mathlib.Core.List.{List, [], _∷_, _++_}

@@ -1,10 +1,10 @@
--- `scan_shared::fill_kept` meets its contract. Assumes nothing.
+-- `scan_shared::prepare` meets its contract. Assumes nothing.
 use Rattle.scan_joints.proofs.Ends.{ends-fillable}
-use Rattle.scan_shared.proofs.Keeping.{joinable, few, fixable, keeps}
+use Rattle.scan_shared.proofs.Preparing.{joinable, few, fixable, keeps}
 use native.Mathlib.Omega.{arith}
 use borrow.Author.Needs.{needs}
-use Rattle.scan_shared.proofs.fill_kept.Statement.{statement}
-use Rattle.scan_shared.proofs.fill_kept.Tie as tie
+use Rattle.scan_shared.proofs.prepare.Statement.{statement}
+use Rattle.scan_shared.proofs.prepare.Tie as tie
 
 sub-p : tie.Need-sub-p
 sub-p c = search needs
@@ -45,8 +45,8 @@ returns c =
     let s = c .before .before .before .before .before .before .before .before .before .before .before .before .before .before .before .before .before .before .before .before in
     keeps (s .pre) (c .before .before .before .before .before .before .before .before .before .before .before .before .before .fill-ends .ensures) _ (c .before .before .before .before .before .before .before .before .before .before .before .before .head-end .ensures) (c .before .before .before .before .before .before .before .fill-fixed .ensures) (c .before .before .fill-low .ensures) _ (c .standing-cost .ensures)
 
-pub fill-kept-spec : {M : Type 1} → statement M
-fill-kept-spec =
+pub prepare-spec : {M : Type 1} → statement M
+prepare-spec =
     tie.close
     (tie.spec
     sub-p

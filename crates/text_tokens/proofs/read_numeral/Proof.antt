@@ -1,11 +1,11 @@
--- `text_tokens::read_number` meets its contract. Assumes nothing.
+-- `text_tokens::read_numeral` meets its contract. Assumes nothing.
 use mathlib.Core.Path.{sym, _∙_}
 use lib.ListN.{drop}
 use Rattle.text_tokens.proofs.Places.{digit-within, number-zero-at, number-longer, number-none}
 use native.Mathlib.Omega.{arith}
 use borrow.Author.Needs.{needs}
-use Rattle.text_tokens.proofs.read_number.Statement.{statement}
-use Rattle.text_tokens.proofs.read_number.Tie as tie
+use Rattle.text_tokens.proofs.read_numeral.Statement.{statement}
+use Rattle.text_tokens.proofs.read_numeral.Tie as tie
 
 digit-at-requires : tie.Need-digit-at-requires
 digit-at-requires c κs = search needs
@@ -31,8 +31,8 @@ returns-2 c =
 returns-3 : tie.Need-returns-3
 returns-3 c = number-none (drop (c .before .before .before .before .args .at) (c .before .before .before .before .args .text .now)) (omega (arith, c .before .before .digit-at .ensures))
 
-pub read-number-spec : {M : Type 1} → statement M
-read-number-spec =
+pub read-numeral-spec : {M : Type 1} → statement M
+read-numeral-spec =
     tie.close
     (tie.spec
     digit-at-requires

@@ -1,21 +1,21 @@
--- `refusals::some_beyond` meets its contract. The invariant: the test of the whole is that of the rest. Assumes nothing.
+-- `refusals::any_above` meets its contract. The invariant: the test of the whole is that of the rest. Assumes nothing.
 use Prim.Native.Nat.{_≤_, _-_}
 use mathlib.Core.Path.{_≡_, refl}
 use lib.Dec.{ltb}
 use lib.ListN.{length, drop}
 use borrow.Author.Tests.{lt-ltb, le-ltb}
-use Rattle.theory.specs.Refusals.{some}
-use Rattle.refusals.proofs.Tests.{some-more, some-here, some-none}
+use Rattle.theory.specs.Refusals.{any}
+use Rattle.refusals.proofs.Tests.{any-more, any-here, any-none}
 use native.Mathlib.Omega.{arith}
 use borrow.Author.Needs.{needs}
-use Rattle.refusals.proofs.some_beyond.Statement.{statement}
-use Rattle.refusals.proofs.some_beyond.Tie as tie
+use Rattle.refusals.proofs.any_above.Statement.{statement}
+use Rattle.refusals.proofs.any_above.Tie as tie
 
 abbrev Inv-loop : tie.InvT-loop
-Inv-loop cuts n i₀ i = (i ≤ length cuts) × (some (λ x. ltb n x) cuts ≡ some (λ x. ltb n x) (drop i cuts))
+Inv-loop entries limit i₀ i = (i ≤ length entries) × (any (λ x. ltb limit x) entries ≡ any (λ x. ltb limit x) (drop i entries))
 
 abbrev μ-loop : tie.MeasureT-loop
-μ-loop cuts n i₀ i = length cuts - i
+μ-loop entries limit i₀ i = length entries - i
 
 loop-holds : tie.Need-loop-holds Inv-loop μ-loop
 loop-holds c = (omega arith, refl)
@@ -30,7 +30,7 @@ returns : tie.Need-returns Inv-loop μ-loop
 returns c =
     let s = c .before .before .before .before in
     let l = c .before .before .before .loop in
-    some-here 0 (λ x. ltb (s .args .n) x) (s .args .cuts .now) (l .i) (c .before .before .loop-test .taken) (lt-ltb _ _ (c .if1 .taken)) (l .inv .1)
+    any-here 0 (λ x. ltb (s .args .limit) x) (s .args .entries .now) (l .i) (c .before .before .loop-test .taken) (lt-ltb _ _ (c .if1 .taken)) (l .inv .1)
 
 add-i : tie.Need-add-i Inv-loop μ-loop
 add-i c = search needs
@@ -42,16 +42,16 @@ loop-again : tie.Need-loop-again Inv-loop μ-loop
 loop-again c =
     let s = c .before .before .before .before in
     let l = c .before .before .before .loop in
-    (omega arith, some-more 0 (λ x. ltb (s .args .n) x) (s .args .cuts .now) (l .i) (c .before .before .loop-test .taken) (le-ltb _ _ (c .if1 .left)) (l .inv .1))
+    (omega arith, any-more 0 (λ x. ltb (s .args .limit) x) (s .args .entries .now) (l .i) (c .before .before .loop-test .taken) (le-ltb _ _ (c .if1 .left)) (l .inv .1))
 
 returns-2 : tie.Need-returns-2 Inv-loop μ-loop
 returns-2 c =
     let s = c .before .before in
     let l = c .before .loop in
-    some-none (λ x. ltb (s .args .n) x) (s .args .cuts .now) (l .i) (c .loop-test .left) (l .inv .1)
+    any-none (λ x. ltb (s .args .limit) x) (s .args .entries .now) (l .i) (c .loop-test .left) (l .inv .1)
 
-pub some-beyond-spec : {M : Type 1} → statement M
-some-beyond-spec =
+pub any-above-spec : {M : Type 1} → statement M
+any-above-spec =
     tie.close
     (tie.spec
     Inv-loop

@@ -1,4 +1,4 @@
--- `pair_loop::try_row` meets its contract. The invariant: what is left of the row makes the row of what stands. Assumes nothing.
+-- `pair_loop::try_sweep` meets its contract. The invariant: what is left of the row makes the row of what stands. Assumes nothing.
 use mathlib.Core.Path.{_≡_, refl, sym, ap, _∙_}
 use mathlib.Core.Bool.{cond}
 use mathlib.Core.Logic.{⊎-elim}
@@ -6,14 +6,14 @@ use Prim.Native.Nat.{_+_, _-_, _≤_, _<_}
 use lib.ListN.{length}
 use Rattle.theory.specs.Route.{Problem}
 use Rattle.theory.specs.Tables.{problem, Timed, trip}
-use Rattle.pair_loop.specs.PairLoop.{so-far, row, reply-of}
+use Rattle.pair_loop.specs.PairLoop.{so-far, sweep, reply-of}
 use Rattle.pair_loop.proofs.Reading.{before-known}
-use Rattle.pair_loop.proofs.Steps.{row-left, row-first, row-spent, row-ended, row-tried, going-is, counted-one, counted-none, at-most-one}
+use Rattle.pair_loop.proofs.Steps.{sweep-left, sweep-first, sweep-spent, sweep-ended, sweep-tried, going-is, counted-one, counted-none, at-most-one}
 use Rattle.pair_reversal.proofs.Trying.{tried-timed}
 use native.Mathlib.Omega.{arith}
 use borrow.Author.Needs.{needs}
-use Rattle.pair_loop.proofs.try_row.Statement.{statement}
-use Rattle.pair_loop.proofs.try_row.Tie as tie
+use Rattle.pair_loop.proofs.try_sweep.Statement.{statement}
+use Rattle.pair_loop.proofs.try_sweep.Tie as tie
 
 abbrev Inv-loop : tie.InvT-loop
 Inv-loop allowance locations legs latest depot i route₀ examined₀ accepted₀ a b j₀ route examined accepted j =
@@ -25,8 +25,8 @@ Inv-loop allowance locations legs latest depot i route₀ examined₀ accepted�
     × (accepted ≤ examined)
     × (a < locations)
     × (b < locations)
-    × (row-left (problem (trip locations legs latest depot)) allowance (length route₀) a b i (so-far examined accepted route) j
-    ≡ row (problem (trip locations legs latest depot)) allowance (length route₀) (so-far examined₀ accepted₀ route₀) i)
+    × (sweep-left (problem (trip locations legs latest depot)) allowance (length route₀) a b i (so-far examined accepted route) j
+    ≡ sweep (problem (trip locations legs latest depot)) allowance (length route₀) (so-far examined₀ accepted₀ route₀) i)
 
 abbrev μ-loop : tie.MeasureT-loop
 μ-loop allowance locations legs latest depot i route₀ examined₀ accepted₀ a b j₀ route examined accepted j =
@@ -37,10 +37,10 @@ P s = problem (trip (s .args .locations) (s .args .legs .now) (s .args .latest .
 
 -- The row from what was handed in.
 from-start : (s : tie.Start Inv-loop μ-loop) →
-    row (P s) (s .args .allowance) (length (s .args .route .now)) (so-far (s .args .so-far .examined) (s .args .so-far .accepted) (s .args .route .now)) (s .args .i)
-    ≡ row (P s) (s .args .allowance) (length (s .args .route .now)) (reply-of (s .args .so-far) (s .args .route .now)) (s .args .i)
+    sweep (P s) (s .args .allowance) (length (s .args .route .now)) (so-far (s .args .so-far .examined) (s .args .so-far .accepted) (s .args .route .now)) (s .args .i)
+    ≡ sweep (P s) (s .args .allowance) (length (s .args .route .now)) (reply-of (s .args .so-far) (s .args .route .now)) (s .args .i)
 from-start s =
-    ap (λ t. row (P s) (s .args .allowance) (length (s .args .route .now)) t (s .args .i)) (sym (going-is (s .args .so-far) (s .args .route .now) (s .pre .so-far .going)))
+    ap (λ t. sweep (P s) (s .args .allowance) (length (s .args .route .now)) t (s .args .i)) (sym (going-is (s .args .so-far) (s .args .route .now) (s .pre .so-far .going)))
 
 stop-before-requires : tie.Need-stop-before-requires Inv-loop μ-loop
 stop-before-requires c κs = search needs
@@ -67,7 +67,7 @@ loop-holds c =
       s .pre .so-far .fewer,
       rw (c .before .stop-before .ensures) (before-known m (s .args .i) h),
       m .stops .known (s .args .i) h,
-      row-first (P s) (s .args .allowance) (length (s .args .route .now)) (so-far (s .args .so-far .examined) (s .args .so-far .accepted) (s .args .route .now)) (s .args .i) (c .before .stop-before .ensures),
+      sweep-first (P s) (s .args .allowance) (length (s .args .route .now)) (so-far (s .args .so-far .examined) (s .args .so-far .accepted) (s .args .route .now)) (s .args .i) (c .before .stop-before .ensures),
     )
 
 same-length : tie.Need-same-length Inv-loop μ-loop
@@ -78,7 +78,7 @@ returns c =
     let s = c .before .before .before .before .before .before .before .before .before in
     let l = c .before .before .loop in
     let h : l .j < length (s .args .route .now) = omega (arith, l .inv .1, c .before .loop-test .taken) in
-    sym (row-spent (P s) (s .args .allowance) (length (s .args .route .now)) _ _ (s .args .i) (l .examined) (l .accepted) (l .route) (l .j) h (c .if1 .taken)) ∙ l .inv .8 ∙ from-start s
+    sym (sweep-spent (P s) (s .args .allowance) (length (s .args .route .now)) _ _ (s .args .i) (l .examined) (l .accepted) (l .route) (l .j) h (c .if1 .taken)) ∙ l .inv .8 ∙ from-start s
 
 add-examined : tie.Need-add-examined Inv-loop μ-loop
 add-examined c = search needs
@@ -114,7 +114,7 @@ loop-again c =
       omega (arith, n, at-most-one (c .before .before .before .try-pair .result), l .inv .5),
       l .inv .6,
       l .inv .7,
-      row-tried (P s) (s .args .allowance) (length (s .args .route .now)) _ _ (s .args .i) (l .examined) (l .accepted) (l .route) (l .j) h e t n ∙ l .inv .8,
+      sweep-tried (P s) (s .args .allowance) (length (s .args .route .now)) _ _ (s .args .i) (l .examined) (l .accepted) (l .route) (l .j) h e t n ∙ l .inv .8,
     )
 
 same-length-2 : tie.Need-same-length-2 Inv-loop μ-loop
@@ -125,10 +125,10 @@ returns-2 c =
     let s = c .before .before .before .before .before .before .before .before in
     let l = c .before .loop in
     let h : length (s .args .route .now) ≤ l .j = omega (arith, l .inv .1, c .loop-test .left) in
-    sym (row-ended (P s) (s .args .allowance) (length (s .args .route .now)) _ _ (s .args .i) (so-far (l .examined) (l .accepted) (l .route)) (l .j) h) ∙ l .inv .8 ∙ from-start s
+    sym (sweep-ended (P s) (s .args .allowance) (length (s .args .route .now)) _ _ (s .args .i) (so-far (l .examined) (l .accepted) (l .route)) (l .j) h) ∙ l .inv .8 ∙ from-start s
 
-pub try-row-spec : {M : Type 1} → statement M
-try-row-spec =
+pub try-sweep-spec : {M : Type 1} → statement M
+try-sweep-spec =
     tie.close
     (tie.spec
     Inv-loop

@@ -24,8 +24,8 @@ use Rattle.scan_joints.proofs.Rows.{set-small, row-read}
 use Rattle.scan_joints.proofs.Ends.{inside-is, inside-small, entry-known, exit-known, head-below}
 use Rattle.scan_joints.proofs.Chain as Chain
 use Rattle.scan_shared.specs.Bound.{chain-by, class, exit-of, fixed-by, opened}
-use Rattle.scan_shared.specs.Kept.{Kept, Opened}
-use Rattle.scan_shared.specs.Filling.{fixed-cell, Fixable, FixedTable, LowOf, Keepable, KeptNow}
+use Rattle.scan_shared.specs.Prepared.{Prepared, Opened}
+use Rattle.scan_shared.specs.Filling.{fixed-cell, Fixable, FixedTable, LowOf, Preparable, PreparedNow}
 use Rattle.scan_shared.proofs.Padding as Padding
 
 -- ---- the first cuts and the last
@@ -81,7 +81,7 @@ chain-small J a (b ∷ bs) h = omega (arith, h (16 * a + b), chain-small J b bs 
 -- ---- what is kept
 
 module _ {locations : ℕ} {legs : List ℕ} {depot : ℕ} {r forwards backwards cuts rows : List ℕ} {count : ℕ} {entries₀ exits₀ inside₀ low₀ : List ℕ}
-    (given : Keepable locations legs depot r forwards backwards cuts rows count entries₀ exits₀ inside₀ low₀) where
+    (given : Preparable locations legs depot r forwards backwards cuts rows count entries₀ exits₀ inside₀ low₀) where
   pub joinable : Joinable locations legs depot r forwards backwards cuts (replicate 160 0)
   joinable =
       record { measurable = given .cut .measurable; forwards = given .cut .forwards; backwards = given .cut .backwards; cut-set = given .cut .cut-set; padded = no-cells }
@@ -175,7 +175,7 @@ module _ {locations : ℕ} {legs : List ℕ} {depot : ℕ} {r forwards backwards
       v-small : v ≤ 2 ^ 43
       v-small = omega (arith, v-is, chain-small table 9 (standing-row (length cuts)) (t .padded .small), four)
 
-      kept-at : (pre : List ℕ) → opened pre ≡ cuts → suc (length pre) ≡ length cuts → Kept locations legs depot r pre rows count entries exits inside (set low 20 v)
+      kept-at : (pre : List ℕ) → opened pre ≡ cuts → suc (length pre) ≡ length cuts → Prepared locations legs depot r pre rows count entries exits inside (set low 20 v)
       kept-at pre o n =
           let pe : 2 * (length pre - 1) ≡ 2 * (length cuts - 2) = omega arith in
           record {
@@ -186,7 +186,7 @@ module _ {locations : ℕ} {legs : List ℕ} {depot : ℕ} {r forwards backwards
             least = λ i h. rw (o, pe) (least-is i h);
           }
 
-      pub keeps : KeptNow locations legs depot r cuts rows count entries exits inside (set low 20 v)
+      pub keeps : PreparedNow locations legs depot r cuts rows count entries exits inside (set low 20 v)
       keeps =
           record {
             places = record {
@@ -194,5 +194,5 @@ module _ {locations : ℕ} {legs : List ℕ} {depot : ℕ} {r forwards backwards
               low-places = length-set low 20 v ∙ w .places;
               low-small = λ c. set-small low 20 v c (2 ^ 43) v-small (λ n. omega (arith, w .small c));
             };
-            kept = kept-at (first-cuts cuts) (sym (cuts-opened cuts (few .0) (given .first))) (omega (arith, first-many cuts, few .0));
+            prepared = kept-at (first-cuts cuts) (sym (cuts-opened cuts (few .0) (given .first))) (omega (arith, first-many cuts, few .0));
           }

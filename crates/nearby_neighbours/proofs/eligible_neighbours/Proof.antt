@@ -1,12 +1,12 @@
--- `nearby_neighbours::kept_neighbours` meets its contract. Assumes nothing.
+-- `nearby_neighbours::eligible_neighbours` meets its contract. Assumes nothing.
 use mathlib.Core.Path.{ap}
 use Prim.Native.Nat.{_+_, _-_, _*_, _≤_}
 use native.Mathlib.Omega.{arith}
 use lib.ListN.{length, getD}
 use borrow.Author.Needs.{needs}
 use Rattle.nearby_neighbours.proofs.Memo.{neighbours-few, head-small, held-row, kept-are}
-use Rattle.nearby_neighbours.proofs.kept_neighbours.Statement.{statement}
-use Rattle.nearby_neighbours.proofs.kept_neighbours.Tie as tie
+use Rattle.nearby_neighbours.proofs.eligible_neighbours.Statement.{statement}
+use Rattle.nearby_neighbours.proofs.eligible_neighbours.Tie as tie
 
 look-up-requires : tie.Need-look-up-requires
 look-up-requires c κs = search needs
@@ -98,8 +98,8 @@ returns c =
     let t = q .last .1 .1 .1 .1 .0 in
     kept-are (s .args .distances .now) (s .args .n) (s .args .count) (s .args .cut) t (q .ensures .held) (s .args .m) (s .args .missing) _ _ (q .ensures .memo) (c .before .before .pick .ensures)
 
-pub kept-neighbours-spec : {M : Type 1} → statement M
-kept-neighbours-spec =
+pub eligible-neighbours-spec : {M : Type 1} → statement M
+eligible-neighbours-spec =
     tie.close
     (tie.spec
     look-up-requires

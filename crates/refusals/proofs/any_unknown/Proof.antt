@@ -1,18 +1,18 @@
--- `refusals::some_unknown` meets its contract. The invariant: the test of the whole is that of the rest. Assumes nothing.
+-- `refusals::any_unknown` meets its contract. The invariant: the test of the whole is that of the rest. Assumes nothing.
 use Prim.Native.Nat.{_≤_, _-_}
 use mathlib.Core.Path.{_≡_, refl}
 use lib.Dec.{leb}
 use lib.ListN.{length, drop}
 use borrow.Author.Tests.{le-leb, lt-leb}
-use Rattle.theory.specs.Refusals.{some}
-use Rattle.refusals.proofs.Tests.{some-more, some-here, some-none}
+use Rattle.theory.specs.Refusals.{any}
+use Rattle.refusals.proofs.Tests.{any-more, any-here, any-none}
 use native.Mathlib.Omega.{arith}
 use borrow.Author.Needs.{needs}
-use Rattle.refusals.proofs.some_unknown.Statement.{statement}
-use Rattle.refusals.proofs.some_unknown.Tie as tie
+use Rattle.refusals.proofs.any_unknown.Statement.{statement}
+use Rattle.refusals.proofs.any_unknown.Tie as tie
 
 abbrev Inv-loop : tie.InvT-loop
-Inv-loop stops locations i₀ i = (i ≤ length stops) × (some (λ x. leb locations x) stops ≡ some (λ x. leb locations x) (drop i stops))
+Inv-loop stops locations i₀ i = (i ≤ length stops) × (any (λ x. leb locations x) stops ≡ any (λ x. leb locations x) (drop i stops))
 
 abbrev μ-loop : tie.MeasureT-loop
 μ-loop stops locations i₀ i = length stops - i
@@ -33,7 +33,7 @@ returns : tie.Need-returns Inv-loop μ-loop
 returns c =
     let s = c .before .before .before .before in
     let l = c .before .before .before .loop in
-    some-here 0 (λ x. leb (s .args .locations) x) (s .args .stops .now) (l .i) (c .before .before .loop-test .taken) (le-leb _ _ (c .if1 .taken)) (l .inv .1)
+    any-here 0 (λ x. leb (s .args .locations) x) (s .args .stops .now) (l .i) (c .before .before .loop-test .taken) (le-leb _ _ (c .if1 .taken)) (l .inv .1)
 
 add-i : tie.Need-add-i Inv-loop μ-loop
 add-i c = search needs
@@ -45,16 +45,16 @@ loop-again : tie.Need-loop-again Inv-loop μ-loop
 loop-again c =
     let s = c .before .before .before .before in
     let l = c .before .before .before .loop in
-    (omega arith, some-more 0 (λ x. leb (s .args .locations) x) (s .args .stops .now) (l .i) (c .before .before .loop-test .taken) (lt-leb _ _ (c .if1 .left)) (l .inv .1))
+    (omega arith, any-more 0 (λ x. leb (s .args .locations) x) (s .args .stops .now) (l .i) (c .before .before .loop-test .taken) (lt-leb _ _ (c .if1 .left)) (l .inv .1))
 
 returns-2 : tie.Need-returns-2 Inv-loop μ-loop
 returns-2 c =
     let s = c .before .before in
     let l = c .before .loop in
-    some-none (λ x. leb (s .args .locations) x) (s .args .stops .now) (l .i) (c .loop-test .left) (l .inv .1)
+    any-none (λ x. leb (s .args .locations) x) (s .args .stops .now) (l .i) (c .loop-test .left) (l .inv .1)
 
-pub some-unknown-spec : {M : Type 1} → statement M
-some-unknown-spec =
+pub any-unknown-spec : {M : Type 1} → statement M
+any-unknown-spec =
     tie.close
     (tie.spec
     Inv-loop

@@ -1,4 +1,4 @@
--- `scan_bound::has_room` meets its contract: where its tests fail, no pattern gains. Assumes nothing.
+-- `scan_bound::is_promising` meets its contract: where its tests fail, no pattern gains. Assumes nothing.
 use mathlib.Core.Path.{refl, ap}
 use mathlib.Core.Bool.{true, false, true≢false}
 use Prim.Native.Nat.{_+_}
@@ -6,8 +6,8 @@ use lib.ListN.{getD}
 use Rattle.scan_bound.proofs.Testing.{two-last, stops-known, start-known, stop-known, head-known, spanned, span-small, into-fits, out-fits, gains-none}
 use native.Mathlib.Omega.{arith}
 use borrow.Author.Needs.{needs}
-use Rattle.scan_bound.proofs.has_room.Statement.{statement}
-use Rattle.scan_bound.proofs.has_room.Tie as tie
+use Rattle.scan_bound.proofs.is_promising.Statement.{statement}
+use Rattle.scan_bound.proofs.is_promising.Tie as tie
 
 element-copy-out-if1 : tie.Need-element-copy-out-if1
 element-copy-out-if1 c = search needs
@@ -121,8 +121,8 @@ returns-3 c = λ e.
     (c .before .before .before .before .before .before .least-into .ensures) (ap (λ v. getD (s .args .low .now) 19 0 + v) (c .before .before .before .route-distance3 .ensures .is)) (c .before .before .least-out2 .ensures) (omega (arith, c .before .before .before .before .before .before .before .before .before .before .before .before .before .before .before .if1 .left)) (omega (arith, c .before .before .before .before .before .if2 .left))
     _ _ (c .before .inner .ensures) (c .inner2 .ensures) e
 
-pub has-room-spec : {M : Type 1} → statement M
-has-room-spec =
+pub is-promising-spec : {M : Type 1} → statement M
+is-promising-spec =
     tie.close
     (tie.spec
     element-copy-out-if1
