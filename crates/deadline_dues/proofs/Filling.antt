@@ -17,7 +17,7 @@ use Rattle.deadlines.specs.Stays.{Stays}
 use Rattle.deadlines.proofs.Stays.{stayed-along}
 use Rattle.scan_joints.proofs.States.{part-at, halves}
 use Rattle.deadline_dues.specs.Due.{Due, SegmentDues, Spannable}
-use Rattle.deadline_dues.specs.Dues.{DuesFillable, BySegment, SegmentsDue, stay-of, StaysTold, StaysOf, DuesOf}
+use Rattle.deadline_dues.specs.Dues.{DuesFillable, BySegment, SegmentsDue, stay-of, StaysAsked, StaysTold, StaysOf, DuesOf}
 
 pub none-placed : (of : ℕ → ℕ → ℕ → Type 0) (D : List ℕ) → length D ≡ 9 → BySegment of 0 D
 none-placed of D h = record { places = h; each = λ i l m. absurd (omega arith) }
@@ -84,6 +84,20 @@ dues-of C cs r D cut-set w =
         Due C (reverse-if b (slice (getD cs (i - 1) 0) (getD cs i 0) r)) (getD D s 0)
     of s i true h e d = let f : s ≡ 2 * i - 2 + 1 = omega arith in rw f (d .turned)
     of s i false h e d = let f : s ≡ 2 * i - 2 = omega arith in rw f (d .as-it-stands)
+
+-- The stays at the cuts rise, and are small.
+pub stays-asked : (service cs r stayed S : List ℕ) → CutSet (length cs) (length r) cs → Stays service r stayed → length S ≡ 9 → ((s : ℕ) → getD S s 0 ≤ 512 * 1000000) → StaysAsked stayed cs S
+stays-asked service cs r stayed S cut-set stays places brief =
+    record {
+      places = places;
+      brief = brief;
+      least = omega (arith, cut-set .least);
+      most = cut-set .most;
+      stay-places = stays .places;
+      within = λ i h. omega (arith, cut-below cs r cut-set i h, cut-set .short);
+      rises = λ i l h. omega (arith, stayed-along stays (getD cs (i - 1) 0) (getD cs i 0) (omega (arith, segment-filled cs r cut-set i l h)) (cut-below cs r cut-set i h));
+      small = λ i h. omega (arith, stays .small (getD cs i 0) (cut-below cs r cut-set i h), cut-below cs r cut-set i h, cut-set .short);
+    }
 
 -- The service of the states is that of their segments, reversed or not.
 pub stays-of : (service cs r stayed S : List ℕ) → CutSet (length cs) (length r) cs → Stays service r stayed → StaysTold stayed cs S → StaysOf service cs r S

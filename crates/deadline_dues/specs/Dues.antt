@@ -119,3 +119,13 @@ pub record DuesReached (C : Clock) (route cuts dues : List ℕ) : Type 0 where
   pub places : length dues ≡ 9
   pub reach : getD dues 8 0 ≡ getD cuts (length cuts - 1) 0
   pub due : SegmentsDue C cuts route (length cuts - 1) dues
+
+-- The same with the service of the states, and places for it.
+pub record StatesTimable (T : Tables) (route backward-sums stayed cuts dues stays : List ℕ) : Type 0 where
+  pub reachable : DuesReachable T route backward-sums stayed cuts dues
+  pub stay-places : length stays ≡ 9
+  pub brief : (s : ℕ) → getD stays s 0 ≤ 512 * 1000000
+
+pub record StatesTimed (T : Tables) (route cuts dues stays : List ℕ) : Type 0 where
+  pub reached : DuesReached (clock-by T) route cuts dues
+  pub stays : StaysOf (T .service) cuts route stays

@@ -16,7 +16,7 @@ ghost use lib.ListN.{length, getD, set};
 ghost use Rattle.theory.specs.Tables.{clock-by, tables};
 ghost use Rattle.deadline_dues.specs.Due.{OwnDueAsked, OwnDue, WayBackAsked, WayBack, Growable, GrowableTo, Spannable, SegmentDues};
 ghost use Rattle.deadline_dues.specs.Parts.{HeadTimed, HeadClock};
-ghost use Rattle.deadline_dues.specs.Dues.{in-time, is-in-time, Puttable, DuesFillable, SegmentsDue, DuesReachable, DuesReached, StaysAsked, StaysTold, RowTimed};
+ghost use Rattle.deadline_dues.specs.Dues.{in-time, is-in-time, Puttable, DuesFillable, SegmentsDue, DuesReachable, DuesReached, StaysAsked, StaysTold, StatesTimable, StatesTimed, RowTimed};
 
 // ---- the dues of one segment, grown stop by stop
 
@@ -236,7 +236,7 @@ fn stretch_dues(
 }
 
 // The dues of every middle segment, from those held of the cut sets before with the same first cuts.
-pub fn reach_dues(
+fn reach_dues(
     locations: usize,
     legs: &[u32],
     latest: &[u32],
@@ -283,7 +283,7 @@ pub fn reach_dues(
 }
 
 // The service of the stops of each middle segment, for both of its states.
-pub fn state_stays(stayed: &[u64; CUT_PLACES], cuts: &[usize], stays: &mut [u64; DUE_PLACES])
+fn state_stays(stayed: &[u64; CUT_PLACES], cuts: &[usize], stays: &mut [u64; DUE_PLACES])
     requires { ⌜ StaysAsked (now stayed) (now cuts) (now stays) ⌝ }
     ensures { λ _. ⌜ StaysTold (now (stayed .entry)) (now (cuts .entry)) (now (stays .exit)) ⌝ }
 {
@@ -295,6 +295,28 @@ pub fn state_stays(stayed: &[u64; CUT_PLACES], cuts: &[usize], stays: &mut [u64;
         put_dues(stays, i, stay, stay);
         i += 1;
     }
+}
+
+// The dues and the service of every state.
+pub fn time_states(
+    locations: usize,
+    legs: &[u32],
+    latest: &[u32],
+    service: &[u32],
+    route: &[u32],
+    backward: &[u64; STOPS],
+    stayed: &[u64; CUT_PLACES],
+    cuts: &[usize],
+    dues: &mut [u64; DUE_PLACES],
+    stays: &mut [u64; DUE_PLACES],
+)
+    requires { ⌜ StatesTimable (tables locations (now legs) (now latest) (now service)) (now route) (now backward) (now stayed) (now cuts) (now dues) (now stays) ⌝ }
+    ensures { λ _. ⌜ StatesTimed (tables locations (now (legs .entry)) (now (latest .entry)) (now (service .entry))) (now (route .entry)) (now (cuts .entry)) (now (dues .exit)) (now (stays .exit)) ⌝ }
+{
+    reach_dues(
+        locations, legs, latest, service, route, backward, stayed, cuts, dues,
+    );
+    state_stays(stayed, cuts, stays);
 }
 
 // Whether the middle of a candidate is left in time.

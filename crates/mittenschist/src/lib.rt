@@ -91,16 +91,17 @@ pub fn route_feasible(
     locations: usize,
     legs: &[u32],
     latest: &[u32],
+    service: &[u32],
     depot: u32,
     route: &[u32],
 ) -> Feasibility
-    ensures { λ r. ⌜ FeasibleReply (trip locations (now (legs .entry)) (now (latest .entry)) depot) (now (route .entry)) r ⌝ }
+    ensures { λ r. ⌜ FeasibleReply (trip locations (now (legs .entry)) (now (latest .entry)) (now (service .entry)) depot) (now (route .entry)) r ⌝ }
 {
-    let refused = refusals::check_problem(locations, legs, latest, depot, route);
+    let refused = refusals::check_problem(locations, legs, latest, service, depot, route);
     if refused != 0 {
         return Feasibility::Refused(refused);
     }
-    let answer = deadlines::check_deadlines(locations, legs, latest, depot, route);
+    let answer = deadlines::check_deadlines(locations, legs, latest, service, depot, route);
     Feasibility::Checked(answer)
 }
 
@@ -112,17 +113,19 @@ pub extern "C" fn mittenschist_polish_route(
     locations: usize,
     legs: &[u32],
     latest: &[u32],
+    service: &[u32],
     depot: u32,
     route: &mut [u32],
     result: &mut [u64],
 ) -> u32
-    ensures { λ r. ⌜ PolishReply (question k allowance locations (now (legs .entry)) (now (latest .entry)) depot (now (route .entry))) (now (result .entry)) r (now (route .exit)) (now (result .exit)) ⌝ }
+    ensures { λ r. ⌜ PolishReply (question k allowance locations (now (legs .entry)) (now (latest .entry)) (now (service .entry)) depot (now (route .entry))) (now (result .entry)) r (now (route .exit)) (now (result .exit)) ⌝ }
 {
     let refused = refusal_rules::polish_refusal(
         k,
         locations,
         legs,
         latest,
+        service,
         depot,
         &route[..],
         result.len(),
@@ -130,7 +133,7 @@ pub extern "C" fn mittenschist_polish_route(
     if refused != 0 {
         return refused;
     }
-    let answer = polishing::polish_route(k, allowance, locations, legs, latest, depot, route);
+    let answer = polishing::polish_route(k, allowance, locations, legs, latest, service, depot, route);
     polishing::put_polished(answer, result);
     0
 }
@@ -221,13 +224,14 @@ pub extern "C" fn mittenschist_route_feasible(
     locations: usize,
     legs: &[u32],
     latest: &[u32],
+    service: &[u32],
     depot: u32,
     route: &[u32],
     result: &mut [u64],
 ) -> u32
-    ensures { λ r. ⌜ FeasibleWritten (trip locations (now (legs .entry)) (now (latest .entry)) depot) (now (route .entry)) (now (result .entry)) r (now (result .exit)) ⌝ }
+    ensures { λ r. ⌜ FeasibleWritten (trip locations (now (legs .entry)) (now (latest .entry)) (now (service .entry)) depot) (now (route .entry)) (now (result .entry)) r (now (result .exit)) ⌝ }
 {
-    let answer = route_feasible(locations, legs, latest, depot, route);
+    let answer = route_feasible(locations, legs, latest, service, depot, route);
     entry_results::put_feasibility(answer, route.len(), result)
 }
 
@@ -280,13 +284,14 @@ pub extern "C" fn mittenschist_run_list_k_opt(
     locations: usize,
     legs: &[u32],
     latest: &[u32],
+    service: &[u32],
     stops: &mut [u32],
     lengths: &[usize],
     depots: &[u32],
     pins: &[u8],
     result: &mut [u64],
 ) -> u32
-    ensures { λ r. ⌜ RunReply k allowance (tables locations (now (legs .entry)) (now (latest .entry))) (fleet (now (stops .entry)) (now (lengths .entry)) (now (depots .entry)) (now (pins .entry))) (now (result .entry)) r (now (stops .exit)) (now (result .exit)) ⌝ }
+    ensures { λ r. ⌜ RunReply k allowance (tables locations (now (legs .entry)) (now (latest .entry)) (now (service .entry))) (fleet (now (stops .entry)) (now (lengths .entry)) (now (depots .entry)) (now (pins .entry))) (now (result .entry)) r (now (stops .exit)) (now (result .exit)) ⌝ }
 {
     let lent = result.len();
     let refused = refusal_rules::run_refusal(
@@ -294,6 +299,7 @@ pub extern "C" fn mittenschist_run_list_k_opt(
         locations,
         legs,
         latest,
+        service,
         &stops[..],
         lengths,
         depots,
@@ -309,6 +315,7 @@ pub extern "C" fn mittenschist_run_list_k_opt(
         locations,
         legs,
         latest,
+        service,
         stops,
         lengths,
         depots,

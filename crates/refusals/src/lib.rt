@@ -151,7 +151,7 @@ pub fn check_leg_table(locations: usize, legs: &[u32]) -> u32
 }
 
 pub fn check_deadline_list(locations: usize, latest: &[u32]) -> u32
-    ensures { λ r. ⌜ r ≡ number (deadline-list locations (now (latest .entry))) ⌝ }
+    ensures { λ r. ⌜ r ≡ number (deadline-list locations (now (latest .entry)) (now (service .entry))) ⌝ }
 {
     if latest.len() != locations {
         return 2;
@@ -253,7 +253,7 @@ pub fn check_journal_length(n: usize, journal: usize) -> u32
 
 // The tables, in the one order.
 pub fn check_tables(locations: usize, legs: &[u32], latest: &[u32]) -> u32
-    ensures { λ r. ⌜ r ≡ refusal (table-rules (tables locations (now (legs .entry)) (now (latest .entry)))) ⌝ }
+    ensures { λ r. ⌜ r ≡ refusal (table-rules (tables locations (now (legs .entry)) (now (latest .entry)) (now (service .entry)))) ⌝ }
 {
     let bad_table = check_leg_table(locations, legs);
     let bad_latest = check_deadline_list(locations, latest);
@@ -266,10 +266,11 @@ pub fn check_problem(
     locations: usize,
     legs: &[u32],
     latest: &[u32],
+    service: &[u32],
     depot: u32,
     route: &[u32],
 ) -> u32
-    ensures { λ r. ⌜ r ≡ refusal (problem-rules (trip locations (now (legs .entry)) (now (latest .entry)) depot) (now (route .entry))) ⌝ }
+    ensures { λ r. ⌜ r ≡ refusal (problem-rules (trip locations (now (legs .entry)) (now (latest .entry)) (now (service .entry)) depot) (now (route .entry))) ⌝ }
 {
     let bad_tables = check_tables(locations, legs, latest);
     let bad_stops = check_known_stops(locations, depot, route);

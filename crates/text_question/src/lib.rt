@@ -72,8 +72,8 @@ pub fn read_question(
     latest: &mut [u32],
     stops: &mut [u32],
 ) -> Reading
-    requires { ⌜ Places (tables 96 (now legs) (now latest)) (now stops) ⌝ }
-    ensures { λ r. ⌜ Answered (now (text .entry)) (tables 96 (now (legs .exit)) (now (latest .exit))) (now (stops .exit)) r ⌝ }
+    requires { ⌜ Places (tables 96 (now legs) (now latest) (now service)) (now stops) ⌝ }
+    ensures { λ r. ⌜ Answered (now (text .entry)) (tables 96 (now (legs .exit)) (now (latest .exit)) (now (service .exit))) (now (stops .exit)) r ⌝ }
 {
     if text.len() > 60000 {
         return Reading::Malformed;

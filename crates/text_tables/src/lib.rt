@@ -34,8 +34,8 @@ pub fn read_tables(
     legs: &mut [u32],
     latest: &mut [u32],
 ) -> Place
-    requires { ⌜ Sized (tables locations (now legs) (now latest)) ⌝ }
-    ensures { λ r. ⌜ tables-of locations (drop at (now (text .entry))) ≡ tables-told (now (text .entry)) (tables locations (now (legs .exit)) (now (latest .exit))) r ⌝ }
+    requires { ⌜ Sized (tables locations (now legs) (now latest) (now service)) ⌝ }
+    ensures { λ r. ⌜ tables-of locations (drop at (now (text .entry))) ≡ tables-told (now (text .entry)) (tables locations (now (legs .exit)) (now (latest .exit)) (now (service .exit))) r ⌝ }
 {
     let Place::At(next) = read_rows(text, at, locations, legs) else {
         return Place::Nowhere;

@@ -6,7 +6,7 @@ use Rattle.mittenschist.proofs.mittenschist_polish_route.Statement.{sta
 use Rattle.mittenschist.proofs.mittenschist_polish_route.Tie as tie
 
 abbrev question-at : tie.Start → Question
-question-at s = question (s .args .k) (s .args .allowance) (s .args .locations) (s .args .legs .now) (s .args .latest .now) (s .args .depot) (s .args .route .now)
+question-at s = question (s .args .k) (s .args .allowance) (s .args .locations) (s .args .legs .now) (s .args .latest .now) (s .args .service .now) (s .args .depot) (s .args .route .now)
 
 polish-refusal-requires : tie.Need-polish-refusal-requires
 polish-refusal-requires c κs = search needs

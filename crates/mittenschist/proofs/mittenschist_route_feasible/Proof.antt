@@ -6,7 +6,7 @@ use Rattle.mittenschist.proofs.mittenschist_route_feasible.Statement.{s
 use Rattle.mittenschist.proofs.mittenschist_route_feasible.Tie as tie
 
 abbrev trip-at : tie.Start → Trip
-trip-at s = trip (s .args .locations) (s .args .legs .now) (s .args .latest .now) (s .args .depot)
+trip-at s = trip (s .args .locations) (s .args .legs .now) (s .args .latest .now) (s .args .service .now) (s .args .depot)
 
 route-feasible-requires : tie.Need-route-feasible-requires
 route-feasible-requires c κs = search needs

@@ -6,7 +6,7 @@ use Rattle.mittenschist.proofs.mittenschist_run_list_k_opt.Statement.{s
 use Rattle.mittenschist.proofs.mittenschist_run_list_k_opt.Tie as tie
 
 abbrev tables-at : tie.Start → Tables
-tables-at s = tables (s .args .locations) (s .args .legs .now) (s .args .latest .now)
+tables-at s = tables (s .args .locations) (s .args .legs .now) (s .args .latest .now) (s .args .service .now)
 
 abbrev fleet-at : tie.Start → Fleet
 fleet-at s = fleet (s .args .stops .now) (s .args .lengths .now) (s .args .depots .now) (s .args .pins .now)

@@ -6,7 +6,7 @@ use Rattle.mittenschist.proofs.route_feasible.Statement.{statement}
 use Rattle.mittenschist.proofs.route_feasible.Tie as tie
 
 abbrev trip-at : tie.Start → Trip
-trip-at s = trip (s .args .locations) (s .args .legs .now) (s .args .latest .now) (s .args .depot)
+trip-at s = trip (s .args .locations) (s .args .legs .now) (s .args .latest .now) (s .args .service .now) (s .args .depot)
 
 check-problem-requires : tie.Need-check-problem-requires
 check-problem-requires c κs = search needs

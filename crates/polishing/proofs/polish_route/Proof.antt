@@ -52,7 +52,7 @@ polish-rows-requires : tie.Need-polish-rows-requires
 polish-rows-requires c κs =
     let e = c .before .before .before .before .before .enumerate-reconnections in
     let s = c .before .before .before .before .before .before .before .before .before .before .before in
-    polishable (s .args .k) (e .result) _ _ _ _ (record { least = s .pre .least; most = s .pre .most }) (e .ensures) (trip (s .args .locations) (s .args .legs .now) (s .args .latest .now) (s .args .depot)) (s .args .route .now) (s .pre)
+    polishable (s .args .k) (e .result) _ _ _ _ (record { least = s .pre .least; most = s .pre .most }) (e .ensures) (trip (s .args .locations) (s .args .legs .now) (s .args .latest .now) (s .args .service .now) (s .args .depot)) (s .args .route .now) (s .pre)
 
 same-length : tie.Need-same-length
 same-length c = search needs

@@ -11,13 +11,13 @@ use Rattle.run.proofs.run_list_k_opt_in_phase.Tie as tie
 
 abbrev Inv-loop : tie.InvT-loop
 Inv-loop k allowance locations legs latest stops₀ lengths depots pins result₀ left₀ at₀ i₀ stops result left at i =
-    Running k allowance (tables locations legs latest) (fleet stops₀ lengths depots pins) result₀ stops result left at i
+    Running k allowance (tables locations legs latest service) (fleet stops₀ lengths depots pins) result₀ stops result left at i
 
 abbrev μ-loop : tie.MeasureT-loop
 μ-loop k allowance locations legs latest stops₀ lengths depots pins result₀ left₀ at₀ i₀ stops result left at i = length lengths - i
 
 abbrev lent : tie.Start Inv-loop μ-loop → Tables
-lent s = tables (s .args .locations) (s .args .legs .now) (s .args .latest .now)
+lent s = tables (s .args .locations) (s .args .legs .now) (s .args .latest .now) (s .args .service .now)
 
 abbrev boats : tie.Start Inv-loop μ-loop → Fleet
 boats s = fleet (s .args .stops .now) (s .args .lengths .now) (s .args .depots .now) (s .args .pins .now)

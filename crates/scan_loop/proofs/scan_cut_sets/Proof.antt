@@ -23,8 +23,8 @@ use Rattle.scan_loop.proofs.scan_cut_sets.Tie as tie
 abbrev Inv-loop : tie.InvT-loop
 Inv-loop k allowance locations legs latest depot orders masks rows route₀ forward₀ backward₀ joint₀ lateness₀ longest₀ cut₀ examined₀ accepted₀ route forward backward joint lateness longest cut examined accepted =
     (length cut ≡ 5)
-    × Polishing (problem (trip locations legs latest depot)) (pattern-rows k orders masks) k allowance route₀ (take k cut) examined accepted route
-    × Measured (trip locations legs latest depot) route forward backward longest lateness
+    × Polishing (problem (trip locations legs latest service depot)) (pattern-rows k orders masks) k allowance route₀ (take k cut) examined accepted route
+    × Measured (trip locations legs latest service depot) route forward backward longest lateness
     × Padded joint
     × Opened (take k cut)
 
@@ -32,7 +32,7 @@ abbrev μ-loop : tie.MeasureT-loop
 μ-loop k allowance locations legs latest depot orders masks rows route₀ forward₀ backward₀ joint₀ lateness₀ longest₀ cut₀ examined₀ accepted₀ route forward backward joint lateness longest cut examined accepted = allowance - examined
 
 abbrev lent : tie.Start Inv-loop μ-loop → Trip
-lent s = trip (s .args .locations) (s .args .legs .now) (s .args .latest .now) (s .args .depot)
+lent s = trip (s .args .locations) (s .args .legs .now) (s .args .latest .now) (s .args .service .now) (s .args .depot)
 
 measure-requires : tie.Need-measure-requires Inv-loop μ-loop
 measure-requires c κs =

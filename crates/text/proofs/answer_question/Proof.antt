@@ -8,7 +8,7 @@ use Rattle.text.proofs.answer_question.Statement.{statement}
 use Rattle.text.proofs.answer_question.Tie as tie
 
 abbrev question-at : tie.Start → Question
-question-at s = question (s .args .k) (s .args .allowance) (s .args .locations) (s .args .legs .now) (s .args .latest .now) (s .args .depot) (s .args .stops .now)
+question-at s = question (s .args .k) (s .args .allowance) (s .args .locations) (s .args .legs .now) (s .args .latest .now) (s .args .service .now) (s .args .depot) (s .args .stops .now)
 
 question-refusal-requires : tie.Need-question-refusal-requires
 question-refusal-requires c κs = search needs

@@ -161,7 +161,7 @@ returns-6 c =
       reads =
           rw (
             front-part (n * n) (s .args .legs .now) (read .last .1 .1 .1 .0) (cells h) (read .kept .1 .1 .1 .0),
-            front-part n (s .args .latest .now) (read .last .1 .1 .1 .1 .0) (omega (arith, few h)) (read .kept .1 .1 .1 .1 .0),
+            front-part n (s .args .latest .now) (s .args .service .now) (read .last .1 .1 .1 .1 .0) (omega (arith, few h)) (read .kept .1 .1 .1 .1 .0),
           )
           (question-read (s .args .text .now) (h .before .before .before .if1 .left) (header-is h) (tables-are (c .before .before .before .before .before .before .before .before .before .before)) (c .before .before .count .given .0 .1 .0) (round-is (c .before .before)) (c .if2 .left));
       within = rw (c .before .before .count .given .1) at (c .before .before .before .before .before .before .read-line .ensures .within);
