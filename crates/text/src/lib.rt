@@ -51,11 +51,28 @@ fn answer_question(
     requires { ⌜ Room (now out) ⌝ }
     ensures { λ r. ⌜ Printed (question-text (question k allowance locations (now (legs .entry)) (now (latest .entry)) (now (service .entry)) depot (now (stops .entry)))) (now (out .entry)) (now (out .exit)) r ⌝ }
 {
-    let refused = refusal_rules::question_refusal(k, locations, legs, latest, service, depot, &stops[..]);
+    let refused = refusal_rules::question_refusal(
+        k,
+        locations,
+        legs,
+        latest,
+        service,
+        depot,
+        &stops[..],
+    );
     if refused != 0 {
         return text_printing::print_refusal(refused, out);
     }
-    let answer = polishing::polish_route(k, allowance, locations, legs, latest, service, depot, stops);
+    let answer = polishing::polish_route(
+        k,
+        allowance,
+        locations,
+        legs,
+        latest,
+        service,
+        depot,
+        stops,
+    );
     print_polished(answer, &stops[..], out)
 }
 
