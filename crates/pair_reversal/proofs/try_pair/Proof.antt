@@ -26,7 +26,7 @@ stop-after-requires c κs = search needs
 
 is-shorter-requires : tie.Need-is-shorter-requires
 is-shorter-requires c κs =
-    let s = c .before .before .before .before .before .before in
+    let s = c .before .before .before .before .before .before .before in
     let m = s .pre .timed .measurable in
     record {
       table = m .table;
@@ -41,7 +41,7 @@ same-length c = search needs
 
 returns : tie.Need-returns
 returns c =
-    let s = c .before .before .before .before .before .before .before .before in
+    let s = c .before .before .before .before .before .before .before .before .before in
     tried-longer (P s) (s .args .a) (s .args .b) (s .args .i) (s .args .j) (s .args .route .now) (c .before .before .stop-after .ensures) (c .before .is-shorter .ensures) (not-true _ (c .if1 .taken))
 
 add-end : tie.Need-add-end
@@ -64,7 +64,7 @@ reverse-requires c κs = search needs
 
 check-deadlines-requires : tie.Need-check-deadlines-requires
 check-deadlines-requires c κs =
-    let s = c .before .before .before .before .before .before .before .before .before .before .before .before .before in
+    let s = c .before .before .before .before .before .before .before .before .before .before .before .before .before .before in
     let h : s .args .i ≤ s .args .j = omega (arith, s .pre .rising) in
     turned-timed (s .args .i) (s .args .j) (s .args .route .now) h (turned-lent (s .args .i) (s .args .j) (s .args .route .now) h (s .pre .inside) (c .before .before .before .reverse .ensures)) (s .pre .timed)
 
@@ -94,7 +94,7 @@ returns-2 c =
     let told = c .before .before .before .before in
     let check = told .before .before in
     let u = check .before .before .before .before in
-    let s = u .before .before .before .before .before .before .before .before .before .before in
+    let s = u .before .before .before .before .before .before .before .before .before .before .before in
     let h : s .args .i ≤ s .args .j = omega (arith, s .pre .rising) in
     let turn = turned-lent (s .args .i) (s .args .j) (s .args .route .now) h (s .pre .inside) (u .reverse .ensures) in
     let back = turned-again (s .args .i) (s .args .j) (s .args .route .now) h (s .pre .inside) turn (c .before .before .reverse2 .ensures) in
@@ -110,7 +110,7 @@ returns-3 : tie.Need-returns-3
 returns-3 c =
     let check = c .before .before in
     let u = check .before .before .before .before in
-    let s = u .before .before .before .before .before .before .before .before .before .before in
+    let s = u .before .before .before .before .before .before .before .before .before .before .before in
     let h : s .args .i ≤ s .args .j = omega (arith, s .pre .rising) in
     let turn = turned-lent (s .args .i) (s .args .j) (s .args .route .now) h (s .pre .inside) (u .reverse .ensures) in
     tried-kept (P s) (s .args .a) (s .args .b) (s .args .i) (s .args .j) (s .args .route .now) (u .before .before .before .before .stop-after .ensures) (u .before .before .before .is-shorter .ensures) (not-false _ (u .before .before .if1 .left)) turn (kept-told (timetable-of (P s)) (s .args .depot) _ (c .enum-told2 .given .1) (check .check-deadlines .ensures))
