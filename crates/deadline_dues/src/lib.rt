@@ -314,7 +314,15 @@ pub fn time_states(
     ensures { λ _. ⌜ StatesTimed (tables locations (now (legs .entry)) (now (latest .entry)) (now (service .entry))) (now (route .entry)) (now (cuts .entry)) (now (dues .exit)) (now (stays .exit)) ⌝ }
 {
     reach_dues(
-        locations, legs, latest, service, route, backward, stayed, cuts, dues,
+        locations,
+        legs,
+        latest,
+        service,
+        route,
+        backward,
+        stayed,
+        cuts,
+        dues,
     );
     state_stays(stayed, cuts, stays);
 }

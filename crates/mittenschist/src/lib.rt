@@ -133,7 +133,16 @@ pub extern "C" fn mittenschist_polish_route(
     if refused != 0 {
         return refused;
     }
-    let answer = polishing::polish_route(k, allowance, locations, legs, latest, service, depot, route);
+    let answer = polishing::polish_route(
+        k,
+        allowance,
+        locations,
+        legs,
+        latest,
+        service,
+        depot,
+        route,
+    );
     polishing::put_polished(answer, result);
     0
 }

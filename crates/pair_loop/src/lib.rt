@@ -81,7 +81,17 @@ fn try_pass(
     let mut passed = so_far;
     let mut i = 0;
     while i + 1 < route.len() {
-        passed = try_sweep(allowance, locations, legs, latest, service, depot, i, passed, route);
+        passed = try_sweep(
+            allowance,
+            locations,
+            legs,
+            latest,
+            service,
+            depot,
+            i,
+            passed,
+            route,
+        );
         if !passed.finished {
             return passed;
         }
@@ -109,7 +119,16 @@ pub fn pair_loop(
         accepted: 0,
     };
     loop {
-        let passed = try_pass(allowance, locations, legs, latest, service, depot, so_far, route);
+        let passed = try_pass(
+            allowance,
+            locations,
+            legs,
+            latest,
+            service,
+            depot,
+            so_far,
+            route,
+        );
         if !passed.finished {
             return passed;
         }

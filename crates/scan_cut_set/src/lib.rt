@@ -1,6 +1,7 @@
 // The inner step of the scan: the first pattern on a cut set that improves the route and keeps every deadline. No entry: for the scan.
 use deadline_dues::DUE_PLACES;
 use deadline_dues::Timing;
+use deadline_dues::time_states;
 use scan_joints::CELLS;
 use scan_joints::ROW_BYTES;
 use theory::CUT_PLACES;
@@ -119,7 +120,7 @@ pub fn first_gain(
         return limit;
     }
     let mut stays = [0u64; DUE_PLACES];
-    deadline_dues::time_states(
+    time_states(
         locations,
         legs,
         latest,

@@ -1,4 +1,5 @@
 // A route measured: its sums, and what it leaves to its candidates; and an accepted candidate put in its place. No entry: crate scan_loop calls it.
+use deadlines::fill_lateness;
 use theory::CUT_PLACES;
 use theory::STOPS;
 ghost use mathlib.Core.Path.{_≡_};
@@ -26,8 +27,16 @@ pub fn measure(
     costs::forward_sums(locations, legs, route, forward);
     costs::backward_sums(locations, legs, route, backward);
     deadlines::fill_stays(service, route, stayed);
-    deadlines::fill_lateness(
-        locations, legs, latest, service, depot, route, forward, stayed, lateness,
+    fill_lateness(
+        locations,
+        legs,
+        latest,
+        service,
+        depot,
+        route,
+        forward,
+        stayed,
+        lateness,
     )
 }
 
