@@ -16,7 +16,7 @@ fits-at : (c : tie.After-answer) →
 fits-at c =
     let q = c .before .before .before .before .before .before .before .before .before .before .read-question in
     let s = c .before .before .before .before .before .before .before .before .before .before .before .before .before .before .before .before .before .before .before .before .before in
-    fits (s .args .text .now) _ _ (q .ensures) _ _ (c .answer .given .1) (still-lent (s .pre .lent) (q .kept .1 .0) (q .kept .1 .1 .0) (q .kept .1 .1 .1 .0) (q .kept .1 .1 .1 .1 .0))
+    fits (s .args .text .now) (tables 96 (q .last .1 .0) (q .last .1 .1 .0) (q .last .1 .1 .1 .0)) (q .last .1 .1 .1 .1 .0) (q .ensures) _ _ (c .answer .given .1) (still-lent (s .pre .lent) (q .kept .1 .0) (q .kept .1 .1 .0) (q .kept .1 .1 .1 .0) (q .kept .1 .1 .1 .1 .0))
 
 read-question-requires : tie.Need-read-question-requires
 read-question-requires c κs = search needs

@@ -80,10 +80,12 @@ slice-aggregate-read-tables-3 c = sym (length-take-le _ _ (omega (arith, few (c 
 read-tables-requires : tie.Need-read-tables-requires
 read-tables-requires c κs =
     let h = c .before .before .before .before in
+    let s = c .before .before .before .before .before .before .before .before .before .before .before .before .before in
+    let n = h .header .given .0 .0 .locations in
     record {
-      square = record { square = length-take-le _ _ (cells h) };
-      deadlines = length-take-le _ _ (omega (arith, few h));
-      services = length-take-le _ _ (omega (arith, few h));
+      square = record { square = length-take-le (n * n) (s .args .legs .now) (cells h) };
+      deadlines = length-take-le n (s .args .latest .now) (omega (arith, few h));
+      services = length-take-le n (s .args .service .now) (omega (arith, few h));
     }
 
 enum-known-round : tie.Need-enum-known-round
