@@ -2,11 +2,11 @@
 use mathlib.Core.Path.{_≡_, _∙_}
 use mathlib.Core.Bool.{Bool, true, false, cond}
 use mathlib.Core.List.{List}
-use Prim.Native.Nat.{ℕ, _+_, _-_, _*_, _/_, _%_, _≤_, _<_}
+use Prim.Native.Nat.{ℕ, suc, zero, _+_, _-_, _*_, _/_, _%_, _≤_, _<_}
 use native.Mathlib.Decide.{decLt, ℕ-discrete}
 use native.Mathlib.Omega.{arith}
 use lib.Dec.{eqb}
-use lib.ListN.{length, getD, set, length-set}
+use lib.ListN.{length, getD, set, replicate, length-set}
 use lib.Seq.{slice, set-out, getD-set-same, getD-set-other}
 use Rattle.theory.specs.Moves.{total}
 use Rattle.theory.specs.Route.{Clock, reverse-if}
@@ -84,6 +84,11 @@ dues-of C cs r D cut-set w =
         Due C (reverse-if b (slice (getD cs (i - 1) 0) (getD cs i 0) r)) (getD D s 0)
     of s i true h e d = let f : s ≡ 2 * i - 2 + 1 = omega arith in rw f (d .turned)
     of s i false h e d = let f : s ≡ 2 * i - 2 = omega arith in rw f (d .as-it-stands)
+
+pub no-stays : (n s : ℕ) → getD (replicate n 0) s 0 ≤ 512 * 1000000
+no-stays zero s = omega arith
+no-stays (suc n) zero = omega arith
+no-stays (suc n) (suc s) = no-stays n s
 
 -- The stays at the cuts rise, and are small.
 pub stays-asked : (service cs r stayed S : List ℕ) → CutSet (length cs) (length r) cs → Stays service r stayed → length S ≡ 9 → ((s : ℕ) → getD S s 0 ≤ 512 * 1000000) → StaysAsked stayed cs S

@@ -128,4 +128,4 @@ pub record StatesTimable (T : Tables) (route backward-sums stayed cuts dues stay
 
 pub record StatesTimed (T : Tables) (route cuts dues stays : List ℕ) : Type 0 where
   pub reached : DuesReached (clock-by T) route cuts dues
-  pub stays : StaysOf (T .service) cuts route stays
+  pub served : StaysOf (T .service) cuts route stays

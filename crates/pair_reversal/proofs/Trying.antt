@@ -18,7 +18,7 @@ timed-rearranged {T} {r = r} {r′ = r′} same t =
     let m = t .measurable in (
       record {
         measurable = record { table = m .table; depot-known = m .depot-known; stops = stops-rearranged r r′ same (T .tables .locations) (m .stops) };
-        deadlines = t .deadlines;
+        times = t .times;
       },
       as-many r r′ same,
     )

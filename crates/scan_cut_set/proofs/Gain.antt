@@ -9,7 +9,7 @@ use lib.Dec.{ltb, leb}
 use lib.ListN.{length, getD}
 use lib.Seq.{slice}
 use borrow.Author.Tests.{lt-ltb, le-ltb, le-leb, lt-leb}
-use Rattle.theory.specs.Moves.{Pattern}
+use Rattle.theory.specs.Moves.{Pattern, total}
 use Rattle.theory.specs.Route.{Problem, Clock, path, tour-length, reconnected, feasible, on-time}
 use Rattle.theory.specs.Costs.{last-of}
 use Rattle.theory.specs.Scan.{improves}
@@ -20,8 +20,10 @@ use Rattle.deadlines.specs.Lateness.{lateness}
 use Rattle.scan_joints.specs.States.{row, standing-row, Patterned}
 use Rattle.scan_joints.specs.JointTable.{chain, JointOf}
 use Rattle.scan_joints.proofs.Chain.{chain-delta}
-use Rattle.deadline_dues.specs.Parts.{head, middle}
+use Rattle.deadline_dues.specs.Due.{DuesRead}
+use Rattle.deadline_dues.specs.Parts.{head, middle, HeadTimed, HeadClock}
 use Rattle.deadline_dues.specs.Dues.{in-time, StaysOf, DuesOf}
+use Rattle.deadline_dues.proofs.Head.{head-left}
 use Rattle.deadline_dues.proofs.InTime.{row-kept, row-known}
 use Rattle.deadline_dues.proofs.Judged.{candidate-judged}
 use Rattle.scan_cut_set.specs.Gain.{below, due-gain, Searchable, Findable, Chains, NextShorter, Tabled, FirstGain, DueRows, FirstDue}
@@ -143,6 +145,29 @@ module _ {T : Trip} {r cs rows J : List ℕ} {ps : List Pattern} {limit : ℕ}
         early = e;
         first = next;
       }
+
+-- ---- what the step reads
+
+module _ {T : Trip} {r forwards backwards stayed cs : List ℕ} (given : Searchable T r forwards backwards stayed cs) where
+  pub dues-read : DuesRead (T .tables) r backwards stayed
+  dues-read =
+      let m = given .timed .measurable in
+      record { table = m .table; times = given .timed .times; stops = m .stops; backwards = given .backwards; stays = given .stays }
+
+  pub head-timed : HeadTimed (T .tables .locations) (T .tables .legs) (T .depot) r forwards stayed cs
+  unfolding total
+  head-timed =
+      record {
+        measurable = given .timed .measurable;
+        forwards = given .forwards;
+        places = given .stays .places;
+        none = given .stays .each 0 (omega arith);
+        small = given .stays .small;
+        cut-set = given .cut-set;
+      }
+
+  pub clock-told : {v : ℕ} → HeadClock (T .tables .locations) (T .tables .legs) (T .depot) r stayed cs v → v ≡ path (clock-by (T .tables) .step) (T .depot) (head r cs)
+  clock-told h = head-left (T .tables) (given .stays) (given .cut-set) h
 
 -- Once the joint table is filled.
 pub tabled : {T : Trip} {r forwards backwards stayed cs rows J : List ℕ} {ps : List Pattern} {limit : ℕ} →

@@ -7,6 +7,7 @@ use native.Mathlib.Omega.{arith}
 use lib.ListN.{length, getD, set, take, drop, length-take, length-set, drop-of-length-le, take-append-drop}
 use lib.Seq.{take-all, getD-set-same, getD-set-other}
 use Rattle.theory.specs.Moves.{total}
+use Rattle.theory.specs.Tables.{Trip, Timed, Stops}
 use Rattle.theory.proofs.Moves.{total-append}
 use Rattle.theory.proofs.Stops.{as-many, stops-rearranged}
 use Rattle.costs.specs.RouteCosts.{Summable}
@@ -34,8 +35,8 @@ module _ {locations : ℕ} {legs service cuts orders masks : List ℕ} {i : ℕ}
   summable e sums h = record { table = ok .table; stops = rw e (stops-rearranged route _ (same-stops (ok .of)) locations (ok .stops)); places = h }
 
   pub stayable : {last : List ℕ} → last ≡ candidate route cuts orders masks i → StaysFillable service last stayed
-  stayable e =
-      let s = rw e (stops-rearranged route _ (same-stops (ok .of)) locations (ok .stops)) in
+  stayable {last} e =
+      let s : Stops locations last = rw e (stops-rearranged route _ (same-stops (ok .of)) locations (ok .stops)) in
       record {
         few = omega (arith, ok .services, ok .table .few);
         brief = ok .brief;
@@ -46,6 +47,19 @@ module _ {locations : ℕ} {legs service cuts orders masks : List ℕ} {i : ℕ}
 
   pub stays-taken : {last stayed′ : List ℕ} → last ≡ candidate route cuts orders masks i → StaysAnew service last stayed stayed′ → Stays service route stayed → Stays service last stayed′
   stays-taken e a = a .stays route (λ g. ap (total g) e ∙ same-stops (ok .of) g)
+
+-- ---- the stays of a route that is measured
+
+pub stays-fillable : {T : Trip} {r stayed : List ℕ} → Timed T r → length stayed ≡ 513 → StaysFillable (T .tables .service) r stayed
+stays-fillable t places =
+    let m = t .measurable in
+    record {
+      few = omega (arith, t .times .services, m .table .few);
+      brief = t .times .brief;
+      short = m .stops .short;
+      known = λ i h. omega (arith, m .stops .known i h, t .times .services);
+      places = places;
+    }
 
 -- ---- no service
 
