@@ -143,7 +143,7 @@ pub fn run_refusal(
     ensures { λ r. ⌜ r ≡ refusal (run-rules k (tables locations (now (legs .entry)) (now (latest .entry)) (now (service .entry))) (fleet (now (stops .entry)) (now (lengths .entry)) (now (depots .entry)) (now (pins .entry))) lent) ⌝ }
 {
     let bad_k = refusals::check_cut_count(k);
-    let bad_tables = refusals::check_tables(locations, legs, latest);
+    let bad_tables = refusals::check_tables(locations, legs, latest, service);
     let bad_rounds = rounds_refusal(locations, stops, lengths, depots, pins, lent);
     refusals::first(bad_k, refusals::first(bad_tables, bad_rounds))
 }

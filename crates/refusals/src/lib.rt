@@ -3,7 +3,7 @@ ghost use mathlib.Core.Path.{_≡_};
 ghost use mathlib.Core.Bool.{not};
 ghost use Prim.Native.Nat.{_≤_};
 ghost use lib.Dec.{ltb, leb, eqb};
-ghost use Rattle.theory.specs.Refusals.{any, rises, no-number, either, number, cut-count, leg-table, deadline-list, leg-sizes, known-stops, stop-count, pattern-index, cut-positions, room, refusal, table-rules, problem-rules, cut-lists, own-round, journal-length, known-rounds, round-lists, nearby-input};
+ghost use Rattle.theory.specs.Refusals.{any, rises, no-number, either, number, cut-count, leg-table, deadline-list, leg-sizes, service-list, known-stops, stop-count, pattern-index, cut-positions, room, refusal, table-rules, problem-rules, cut-lists, own-round, journal-length, known-rounds, round-lists, nearby-input};
 ghost use Rattle.theory.specs.Moves.{total};
 ghost use Rattle.theory.specs.Tables.{tables, trip};
 ghost use Rattle.patterns.specs.Enumeration.{CutCount};
@@ -151,7 +151,7 @@ pub fn check_leg_table(locations: usize, legs: &[u32]) -> u32
 }
 
 pub fn check_deadline_list(locations: usize, latest: &[u32]) -> u32
-    ensures { λ r. ⌜ r ≡ number (deadline-list locations (now (latest .entry)) (now (service .entry))) ⌝ }
+    ensures { λ r. ⌜ r ≡ number (deadline-list locations (now (latest .entry))) ⌝ }
 {
     if latest.len() != locations {
         return 2;
@@ -164,6 +164,18 @@ pub fn check_leg_sizes(legs: &[u32]) -> u32
 {
     if any_above(legs, 1000000) {
         return 3;
+    }
+    0
+}
+
+pub fn check_service_list(locations: usize, service: &[u32]) -> u32
+    ensures { λ r. ⌜ r ≡ number (service-list locations (now (service .entry))) ⌝ }
+{
+    if service.len() != locations {
+        return 23;
+    }
+    if any_above(service, 1000000) {
+        return 23;
     }
     0
 }
@@ -252,13 +264,14 @@ pub fn check_journal_length(n: usize, journal: usize) -> u32
 }
 
 // The tables, in the one order.
-pub fn check_tables(locations: usize, legs: &[u32], latest: &[u32]) -> u32
+pub fn check_tables(locations: usize, legs: &[u32], latest: &[u32], service: &[u32]) -> u32
     ensures { λ r. ⌜ r ≡ refusal (table-rules (tables locations (now (legs .entry)) (now (latest .entry)) (now (service .entry)))) ⌝ }
 {
     let bad_table = check_leg_table(locations, legs);
     let bad_latest = check_deadline_list(locations, latest);
     let bad_legs = check_leg_sizes(legs);
-    first(bad_table, first(bad_latest, bad_legs))
+    let bad_service = check_service_list(locations, service);
+    first(bad_table, first(bad_latest, first(bad_legs, bad_service)))
 }
 
 // The tables, and then the depot and a route.
@@ -272,7 +285,7 @@ pub fn check_problem(
 ) -> u32
     ensures { λ r. ⌜ r ≡ refusal (problem-rules (trip locations (now (legs .entry)) (now (latest .entry)) (now (service .entry)) depot) (now (route .entry))) ⌝ }
 {
-    let bad_tables = check_tables(locations, legs, latest);
+    let bad_tables = check_tables(locations, legs, latest, service);
     let bad_stops = check_known_stops(locations, depot, route);
     let bad_n = check_stop_count(route.len());
     first(bad_tables, first(bad_stops, bad_n))

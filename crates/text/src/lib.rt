@@ -81,6 +81,7 @@ fn answer_text(
     text: &[u8],
     legs: &mut [u32],
     latest: &mut [u32],
+    service: &mut [u32],
     stops: &mut [u32],
     out: &mut [u8],
 ) -> usize
@@ -101,6 +102,7 @@ fn answer_text(
         locations,
         &legs[..cells],
         &latest[..locations],
+        &service[..locations],
         header.depot,
         &mut stops[..count],
         out,
@@ -119,8 +121,16 @@ pub fn polish_text(text: &[u8]) -> Output
 {
     let mut legs = [0u32; 9216];
     let mut latest = [0u32; 96];
+    let mut service = [0u32; 96];
     let mut stops = [0u32; 30000];
     let mut bytes = [0u8; 6500];
-    let length = answer_text(text, &mut legs, &mut latest, &mut stops, &mut bytes);
+    let length = answer_text(
+        text,
+        &mut legs,
+        &mut latest,
+        &mut service,
+        &mut stops,
+        &mut bytes,
+    );
     Output { bytes, length }
 }

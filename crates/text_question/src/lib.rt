@@ -70,6 +70,7 @@ pub fn read_question(
     text: &[u8],
     legs: &mut [u32],
     latest: &mut [u32],
+    service: &mut [u32],
     stops: &mut [u32],
 ) -> Reading
     requires { ⌜ Places (tables 96 (now legs) (now latest) (now service)) (now stops) ⌝ }
@@ -89,6 +90,7 @@ pub fn read_question(
         locations,
         &mut legs[..cells],
         &mut latest[..locations],
+        &mut service[..locations],
     ) else {
         return Reading::Malformed;
     };
