@@ -1,4 +1,4 @@
-//! One call of polishing: what is handed in, and what document 01 refuses of it.
+//! One call of polishing: what is handed in, and what is refused of it.
 
 use crate::rules::{bad_k, first_refusal, too_many_stops};
 use crate::tables::{listed, Tables};

@@ -1,4 +1,4 @@
-//! One call of the run: what is handed in, and what document 01 refuses of it.
+//! One call of the run: what is handed in, and what is refused of it.
 
 use crate::rules::{bad_k, first_refusal, too_many_stops, MOST_ROUNDS};
 use crate::tables::{listed, Tables};

@@ -1,4 +1,4 @@
-//! Cases that document 01 refuses: a good one, damaged in one or more ways.
+//! Cases that are refused: a good one, damaged in one or more ways.
 
 use super::generate::random_case;
 use crate::cases::polish::{Case, RESULT_PLACES};

@@ -1,4 +1,4 @@
-//! Runs that document 01 refuses: a good one, damaged in one or more ways.
+//! Runs that are refused: a good one, damaged in one or more ways.
 
 use super::generate::random_run;
 use crate::cases::run::{Case, NUMBERS_A_ROUND};
