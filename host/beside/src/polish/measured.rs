@@ -80,10 +80,10 @@ fn busy(random: &mut Random, locations: usize) -> Vec<u32> {
         .collect()
 }
 
-/// At each location up to one leg of a usual length is spent.
+/// At each location up to a minute is spent, so that some orders are on time and some are not.
 pub fn set_service(random: &mut Random, case: &mut Case) {
     for seconds in &mut case.tables.service {
-        *seconds = random.below(600) as u32;
+        *seconds = random.below(60) as u32;
     }
 }
 
