@@ -96,7 +96,7 @@ fn set_service(random: &mut Random, tables: &mut Tables, depot: u32, route: &[u3
     match random.below(8) {
         0..=2 => {}
         3 => each_service(random, tables, |random| random.below(4) as u32),
-        4 => each_service(random, tables, |random| random.below(longest + 2) as u32),
+        4 => each_service(random, tables, |random| random.below(longest + 1) as u32),
         5 => each_service(random, tables, |random| {
             random.pick([0, one, LONGEST_SERVICE])
         }),
@@ -106,9 +106,6 @@ fn set_service(random: &mut Random, tables: &mut Tables, depot: u32, route: &[u3
                 tables.service[stop as usize] = one;
             }
         }
-    }
-    for seconds in &mut tables.service {
-        *seconds = (*seconds).min(LONGEST_SERVICE);
     }
 }
 

@@ -75,7 +75,7 @@ struct Bench {
 struct Best {
     rust: f64,
     new: f64,
-    /// None too where the two reply otherwise: an archive from before service times has another question to answer in the rows that have them.
+    /// None also where the two reply otherwise, since their times are of different work: an archive from before service times knows nothing of them.
     old: Option<f64>,
     apart: bool,
 }
