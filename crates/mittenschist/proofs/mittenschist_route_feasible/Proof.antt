@@ -20,7 +20,7 @@ same-length c = search needs
 returns : tie.Need-returns
 returns c =
     let a = c .before .before .before .before .route-feasible in
-    let s = c .before .before .before .before .before .before .before .before .before in
+    let s = c .before .before .before .before .before .before .before .before .before .before in
     handed-written (trip-at s) (s .args .route .now) (s .args .result .now) (a .result) (a .ensures) _ _ (c .before .before .put-feasibility .ensures)
 
 pub mittenschist-route-feasible-spec : {M : Type 1} → statement M

@@ -20,13 +20,13 @@ same-length c = search needs
 returns : tie.Need-returns
 returns c =
     let r = c .before .run-refusal in
-    let s = c .before .before .before .before .before .before .before .before .before .before in
+    let s = c .before .before .before .before .before .before .before .before .before .before .before in
     run-refused (s .args .k) (s .args .allowance) (tables-at s) (fleet-at s) (s .args .result .now) (r .result) (r .ensures) (c .if1 .taken)
 
 run-list-k-opt-in-phase-requires : tie.Need-run-list-k-opt-in-phase-requires
 run-list-k-opt-in-phase-requires c κs =
     let r = c .before .before .before .run-refusal in
-    let s = c .before .before .before .before .before .before .before .before .before .before .before .before in
+    let s = c .before .before .before .before .before .before .before .before .before .before .before .before .before in
     runnable (s .args .k) (s .args .allowance) (tables-at s) (fleet-at s) (s .args .result .now) (r .result) (r .ensures) (c .before .before .if1 .left)
 
 same-length-2 : tie.Need-same-length-2
@@ -38,7 +38,7 @@ same-length-3 c = search needs
 returns-2 : tie.Need-returns-2
 returns-2 c =
     let r = c .before .before .before .before .before .before .before .before .run-refusal in
-    let s = c .before .before .before .before .before .before .before .before .before .before .before .before .before .before .before .before .before in
+    let s = c .before .before .before .before .before .before .before .before .before .before .before .before .before .before .before .before .before .before in
     has-run (s .args .k) (s .args .allowance) (tables-at s) (fleet-at s) (s .args .result .now) (r .result) (r .ensures) (c .before .before .before .before .before .before .before .if1 .left) _ _ (c .before .before .before .before .run-list-k-opt-in-phase .ensures)
 
 pub mittenschist-run-list-k-opt-spec : {M : Type 1} → statement M
