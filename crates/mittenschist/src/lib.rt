@@ -10,6 +10,7 @@ ghost use Rattle.move_calls.specs.Entries.{DoMoveReply, UndoReply, doable-rules
 ghost use Rattle.moves.specs.Moves.{length-change, pattern-values};
 ghost use Rattle.refusal_rules.specs.Rules.{route-length-rules, pattern-rules, delta-rules};
 ghost use Rattle.mittenschist.specs.Promises.{NextCutSetReply, RouteLengthReply, ReconnectionReply, ReconnectReply, DeltaReply, FeasibleReply, PolishReply, Written, NextCutSetWritten, FeasibleWritten, doable-values, RunReply, NearbyReply, NearbyWritten};
+use polishing::polish_route;
 use theory::CutStep;
 use theory::Feasibility;
 use theory::LengthDelta;
@@ -86,7 +87,7 @@ pub fn delta(
     LengthDelta::Seconds(moves::delta_pattern(k, pattern, cuts, locations, legs, depot, route))
 }
 
-// The deadline check. Refuses 2, 3, 4, 5.
+// The deadline check. Refuses 2, 3, 23, 4, 5.
 pub fn route_feasible(
     locations: usize,
     legs: &[u32],
@@ -105,7 +106,7 @@ pub fn route_feasible(
     Feasibility::Checked(answer)
 }
 
-// Polishes a route. Refuses 1, 2, 3, 4, 5, 21. The result receives 0 finished or 1 spent, examined, accepted, length before, length after.
+// Polishes a route. Refuses 1, 2, 3, 23, 4, 5, 21. The result receives 0 finished or 1 spent, examined, accepted, length before, length after.
 #[no_mangle]
 pub extern "C" fn mittenschist_polish_route(
     k: usize,
@@ -133,16 +134,7 @@ pub extern "C" fn mittenschist_polish_route(
     if refused != 0 {
         return refused;
     }
-    let answer = polishing::polish_route(
-        k,
-        allowance,
-        locations,
-        legs,
-        latest,
-        service,
-        depot,
-        route,
-    );
+    let answer = polish_route(k, allowance, locations, legs, latest, service, depot, route);
     polishing::put_polished(answer, result);
     0
 }
@@ -227,7 +219,7 @@ pub extern "C" fn mittenschist_delta(
     entry_results::put_delta(answer, result)
 }
 
-// A late position, or the number of stops where every deadline is kept. Refuses 2, 3, 4, 5, 21.
+// A late position, or the number of stops where every deadline is kept. Refuses 2, 3, 23, 4, 5, 21.
 #[no_mangle]
 pub extern "C" fn mittenschist_route_feasible(
     locations: usize,
@@ -285,7 +277,7 @@ pub extern "C" fn mittenschist_k_opt_is_doable(
     entry_results::put_doable(answer, result)
 }
 
-// The run over rounds that lie end to end. Refuses 1, 2, 3, 4, 5, 21. The result receives four numbers a round: state, examined, accepted, applied.
+// The run over rounds that lie end to end. Refuses 1, 2, 3, 23, 4, 5, 21. The result receives four numbers a round: state, examined, accepted, applied.
 #[no_mangle]
 pub extern "C" fn mittenschist_run_list_k_opt(
     k: usize,
