@@ -1,7 +1,7 @@
 // One small check for each refusal number: the number where its rule applies to the raw input, else 0. No entry: the crates above call them.
 ghost use mathlib.Core.Path.{_≡_};
 ghost use mathlib.Core.Bool.{not};
-ghost use Prim.Native.Nat.{_≤_};
+ghost use Prim.Native.Nat.{max, _≤_};
 ghost use lib.Dec.{ltb, leb, eqb};
 ghost use Rattle.theory.specs.Refusals.{any, rises, no-number, either, number, cut-count, leg-table, deadline-list, leg-sizes, service-list, known-stops, stop-count, pattern-index, cut-positions, room, refusal, table-rules, problem-rules, cut-lists, own-round, journal-length, known-rounds, round-lists, nearby-input};
 ghost use Rattle.theory.specs.Moves.{total};
@@ -11,18 +11,27 @@ ghost use Rattle.refusals.specs.Rounds.{ShortRounds};
 
 // ---- tests over a list
 
-// Whether an entry is above the limit.
+// The greater of two.
+fn greater(a: u32, b: u32) -> u32
+    ensures { λ r. ⌜ r ≡ max a b ⌝ }
+{
+    if a < b {
+        return b;
+    }
+    a
+}
+
+// Whether an entry is above the limit: by the greatest, so that no turn of the loop leaves it and the compiler takes several entries at a time.
 pub fn any_above(entries: &[u32], limit: u32) -> bool
     ensures { λ r. ⌜ r ≡ any (λ x. ltb limit x) (now (entries .entry)) ⌝ }
 {
+    let mut most = 0u32;
     let mut i = 0;
     while i < entries.len() {
-        if limit < entries[i] {
-            return true;
-        }
+        most = greater(most, entries[i]);
         i += 1;
     }
-    false
+    limit < most
 }
 
 // Whether a stop is not below the locations.
