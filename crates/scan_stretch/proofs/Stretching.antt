@@ -78,9 +78,9 @@ module _ {T : Trip} {ps : List Pattern} {r first : List ℕ} {left : ℕ} {cuts 
     pub triable-on : Triable T rows patterns r forwards backwards late cuts table dues examined left
     triable-on = record { hopeful = hopeful-on; held = rw (going .same) (going .held); behind = going .behind; within = going .within }
 
-    pub kept-on : {entries exits inside low : List ℕ} → PreparedNow (T .tables .locations) (T .tables .legs) (T .depot) r first rows patterns entries exits inside low →
+    pub prepared-on : {entries exits inside low : List ℕ} → PreparedNow (T .tables .locations) (T .tables .legs) (T .depot) r first rows patterns entries exits inside low →
         PreparedNow (T .tables .locations) (T .tables .legs) (T .depot) r cuts rows patterns entries exits inside low
-    kept-on k = record { places = k .places; prepared = rw (going .same) (k .prepared) }
+    prepared-on k = record { places = k .places; prepared = rw (going .same) (k .prepared) }
 
 -- ---- the start
 
@@ -91,8 +91,8 @@ module _ {T : Trip} {rows : List ℕ} {patterns : ℕ} {r forwards backwards lat
   pub few-patterns : patterns ≤ 383
   few-patterns = omega (arith, given .listed .patterned .few, given .listed .many)
 
-  pub keepable : Opened cuts → Preparable (T .tables .locations) (T .tables .legs) (T .depot) r forwards backwards cuts rows patterns (replicate 8 0) (replicate 8 0) (replicate 8 0) (replicate 21 0)
-  keepable o =
+  pub preparable : Opened cuts → Preparable (T .tables .locations) (T .tables .legs) (T .depot) r forwards backwards cuts rows patterns (replicate 8 0) (replicate 8 0) (replicate 8 0) (replicate 21 0)
+  preparable o =
       let w = given .listed .patterned in
       record {
         cut = cut;

@@ -11,7 +11,7 @@ use Rattle.costs.specs.RouteCosts.{last-cut}
 use Rattle.scan_shared.specs.Filling.{PreparedNow}
 use Rattle.scan_shared.proofs.Preparing.{zero-at}
 use Rattle.scan_stretch.specs.Stretch.{Listed, Going}
-use Rattle.scan_stretch.proofs.Stretching.{last-most, keepable, starts-bare, triable-on, kept-on}
+use Rattle.scan_stretch.proofs.Stretching.{last-most, preparable, starts-bare, triable-on, prepared-on}
 use Rattle.scan_stretch.proofs.scan_last_cuts.Statement.{statement}
 use Rattle.scan_stretch.proofs.scan_last_cuts.Tie as tie
 
@@ -24,7 +24,7 @@ abbrev μ-loop : tie.MeasureT-loop
 μ-loop locations legs latest depot rows patterns route forward backward lateness cuts₀ joint₀ left entries exits inside low dues₀ zero examined₀ cuts joint dues examined = length route + 1 - last-cut cuts
 
 prepare-requires : tie.Need-prepare-requires Inv-loop μ-loop
-prepare-requires c κs = keepable (c .before .before .before .before .before .before .before .before .before .pre .hopeful) (c .before .before .before .before .before .before .before .before .before .pre .first)
+prepare-requires c κs = preparable (c .before .before .before .before .before .before .before .before .before .pre .hopeful) (c .before .before .before .before .before .before .before .before .before .pre .first)
 
 loop-holds : tie.Need-loop-holds Inv-loop μ-loop
 loop-holds c = (λ ps w. starts-bare (c .before .before .before .before .before .before .before .before .before .before .pre .hopeful) ps (c .before .before .before .before .before .before .before .before .before .before .args .left), c .prepare .ensures)
@@ -35,7 +35,7 @@ take-step-requires c κs =
     let l = c .before .before .before .before .before .before .before .before .loop in
     let h = s .pre .hopeful in
     let g = l .inv .0 (h .list) (h .listed) in
-    record { triable = triable-on g h; kept = kept-on g h (l .inv .1); zero-places = refl; zero-is = zero-at 21 }
+    record { triable = triable-on g h; prepared = prepared-on g h (l .inv .1); zero-places = refl; zero-is = zero-at 21 }
 
 enum-known-step : tie.Need-enum-known-step Inv-loop μ-loop
 enum-known-step c = search needs
