@@ -31,7 +31,7 @@ const POLISHING: &str = "polishing";
 /// Where the scan counts cut sets passed over, among those of a stretch and a whole stretch, and what is put before it.
 const PASSED: [(&str, &str); 2] = [
     (
-        "examined += over;",
+        "let reached = examined + over;",
         "crate::share::count(hit - cuts[last], hit <= route.len());",
     ),
     (
@@ -133,18 +133,21 @@ fn read(path: &Path) -> Result<String, String> {
     fs::read_to_string(found(path)?).map_err(|fault| format!("{}: {fault}", path.display()))
 }
 
-/// Polishing and the crates that it needs, from the list that names each crate and those it uses, low to high.
+/// Polishing and the crates that it needs, from the list that names each crate and those it uses.
 fn crates_below(list: &str) -> Vec<String> {
-    let mut needed = vec![POLISHING];
     let lines = list.lines().filter(|line| !line.starts_with('#'));
-    for (name, uses) in lines.rev().filter_map(|line| line.split_once(':')) {
-        if needed.contains(&name) {
-            needed.extend(uses.split_whitespace());
+    let listed: Vec<_> = lines.filter_map(|line| line.split_once(':')).collect();
+    let mut needed = vec![POLISHING];
+    let mut at = 0;
+    while at < needed.len() {
+        let own = listed.iter().filter(|(name, _)| *name == needed[at]);
+        let uses: Vec<_> = own.flat_map(|(_, uses)| uses.split_whitespace()).collect();
+        for name in uses {
+            if !needed.contains(&name) {
+                needed.push(name);
+            }
         }
+        at += 1;
     }
-    let listed = list.lines().filter_map(|line| line.split_once(':'));
-    listed
-        .filter(|(name, _)| needed.contains(name))
-        .map(|(name, _)| name.to_string())
-        .collect()
+    needed.into_iter().map(str::to_string).collect()
 }

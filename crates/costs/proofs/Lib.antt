@@ -4,3 +4,7 @@ pub mod Sums
 pub mod Segments
 pub mod Placing
 pub mod Orders
+pub mod PlacedSegment
+pub mod Through
+pub mod Signed
+pub mod LengthDelta

@@ -4,14 +4,16 @@ use mathlib.Core.Bool.{Bool, true, false, cond}
 use mathlib.Core.List.{List, [], _∷_, _++_, reverse, reverse-cons}
 use Prim.Native.Nat.{ℕ, zero, suc, _-_, _≤_, _<_}
 use native.Mathlib.Omega.{arith}
-use native.Mathlib.Decide.{ℕ-discrete}
-use lib.ListN.{length, getD, take, drop, drop-of-length-le}
-use lib.Seq.{slice, slice-cons, take-suc, drop-cons, drop-append-le, length-take-le}
+use native.Mathlib.Decide.{ℕ-discrete, decLt}
+use borrow.Author.Tests.{lt-ltb, le-ltb}
+use lib.ListN.{length, getD, take, drop, drop-of-length-le, take-append-drop}
+use lib.Seq.{slice, slice-cons, take-suc, drop-cons, drop-append-le, length-take-le, drop-length}
 use Rattle.theory.specs.Moves.{Rising}
 use Rattle.theory.specs.Route.{segments, reverse-if}
 use Rattle.theory.specs.Costs.{last-of, first-of}
 use Rattle.theory.specs.Tables.{Stops, CutSet}
 use Rattle.theory.proofs.Delta.{gap}
+use Rattle.costs.specs.RouteCosts.{stop-at, first-cuts}
 
 -- ---- first and last stops
 
@@ -82,6 +84,14 @@ tail-at from (c ∷ d ∷ cs) r h =
     let e : suc (suc (length cs)) - 1 ≡ suc (suc (length cs) - 1) = omega arith in
     rw e (tail-at c (d ∷ cs) r (omega arith))
 
+pub cuts-parted : (cuts : List ℕ) → 1 ≤ length cuts → cuts ≡ first-cuts cuts ++ (getD cuts (length cuts - 1) 0 ∷ [])
+cuts-parted cuts h =
+    let e : suc (length cuts - 1) ≡ length cuts = omega arith in
+    sym (take-append-drop (length cuts - 1) cuts) ∙ ap (λ l. take (length cuts - 1) cuts ++ l) (drop-cons cuts (length cuts - 1) 0 (omega arith) ∙ ap (λ l. getD cuts (length cuts - 1) 0 ∷ l) (ap (λ n. drop n cuts) e ∙ drop-length cuts))
+
+pub first-many : (cuts : List ℕ) → length (first-cuts cuts) ≡ length cuts - 1
+first-many cuts = length-take-le (length cuts - 1) cuts (omega arith)
+
 cut-within : (low n : ℕ) (cs : List ℕ) (i : ℕ) → Rising low cs n → i < length cs → getD cs i 0 ≤ n
 cut-within low n [] i t h = absurd (omega arith)
 cut-within low n (c ∷ cs) zero t h = t .1
@@ -114,13 +124,20 @@ module _ (cs r : List ℕ) (cut-set : CutSet (length cs) (length r) cs) where
   last-cut = cut-below (length cs - 1) (omega (arith, cut-set .least))
 
   -- Cut n makes the depot a the tail's start.
-  pub tail-empty : (a : ℕ) → getD cs (length cs - 1) 0 ≡ length r → a ≡ first-of (getD (segments 0 cs r) (length cs) []) a
+  tail-empty : (a : ℕ) → getD cs (length cs - 1) 0 ≡ length r → a ≡ first-of (getD (segments 0 cs r) (length cs) []) a
   unfolding first-of
   tail-empty a e = rw (tail-at 0 cs r (omega (arith, cut-set .least)), e, drop-of-length-le r {i = length r} (omega arith))
 
-  pub tail-filled : (a : ℕ) → getD cs (length cs - 1) 0 < length r → getD r (getD cs (length cs - 1) 0) 0 ≡ first-of (getD (segments 0 cs r) (length cs) []) a
+  tail-filled : (a : ℕ) → getD cs (length cs - 1) 0 < length r → getD r (getD cs (length cs - 1) 0) 0 ≡ first-of (getD (segments 0 cs r) (length cs) []) a
   unfolding first-of
   tail-filled a h = rw (tail-at 0 cs r (omega (arith, cut-set .least)), drop-cons r (getD cs (length cs - 1) 0) 0 h)
+
+  pub tail-is : (a : ℕ) → stop-at a r (getD cs (length cs - 1) 0) ≡ first-of (getD (segments 0 cs r) (length cs) []) a
+  tail-is a = by (decLt (getD cs (length cs - 1) 0) (length r))
+    where
+      by : Dec (getD cs (length cs - 1) 0 < length r) → stop-at a r (getD cs (length cs - 1) 0) ≡ first-of (getD (segments 0 cs r) (length cs) []) a
+      by (yes h) = rw (lt-ltb _ _ h) (tail-filled a h)
+      by (no n) = rw (le-ltb (getD cs (length cs - 1) 0) (length r) (omega arith)) (tail-empty a (omega (arith, last-cut)))
 
   -- Both are locations.
   module _ (locations a : ℕ) (stops : Stops locations r) (known : a < locations) where

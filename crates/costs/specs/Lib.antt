@@ -1,1 +1,2 @@
 pub mod RouteCosts
+pub mod Deltas

@@ -3,7 +3,8 @@ use mathlib.Core.Path.{_≡_}
 use mathlib.Core.Bool.{Bool, cond}
 use mathlib.Core.List.{List, []}
 use Prim.Native.Nat.{ℕ, _+_, _-_, _*_, _≤_, _<_}
-use lib.ListN.{length, getD}
+use lib.Dec.{ltb}
+use lib.ListN.{length, getD, take}
 use Rattle.theory.specs.Route.{Problem, segments, tour-length}
 use Rattle.theory.specs.Costs.{last-of, first-of, forward, backward}
 use Rattle.theory.specs.Tables.{legs-only, LegTable, Stops}
@@ -83,3 +84,14 @@ head-end P route cuts = last-of (P .depot) (getD (segments 0 cuts route) 0 [])
 
 abbrev pub tail-start : Problem → List ℕ → List ℕ → ℕ
 tail-start P route cuts = first-of (getD (segments 0 cuts route) (length cuts) []) (P .depot)
+
+-- The stop behind a cut at c, or the depot.
+abbrev pub stop-at : ℕ → List ℕ → ℕ → ℕ
+stop-at depot route c = cond (ltb c (length route)) (getD route c 0) depot
+
+-- The first cuts of a cut set, and the last.
+abbrev pub first-cuts : List ℕ → List ℕ
+first-cuts cuts = take (length cuts - 1) cuts
+
+abbrev pub last-cut : List ℕ → ℕ
+last-cut cuts = getD cuts (length cuts - 1) 0

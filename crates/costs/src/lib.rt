@@ -1,13 +1,26 @@
-// The costs of a route, after RouteCosts of the Rust: its length, the running sums of its inner legs and what is read off them. It holds no entry; those
-// are in crate mittenschist.
+// The costs of a route, after RouteCosts of the Rust: its length, the running sums of its inner legs and what is read off them, up to a move's delta. It
+// holds no entry; those are in crate mittenschist.
+use theory::STOPS;
 ghost use mathlib.Core.Path.{_≡_};
 ghost use mathlib.Core.List.{[]};
-ghost use Prim.Native.Nat.{_<_, _≤_};
+ghost use Prim.Native.Nat.{min, _<_, _≤_};
 ghost use lib.ListN.{length, getD};
-ghost use Rattle.theory.specs.Route.{segments};
+ghost use lib.Seq.{slice};
+ghost use Rattle.theory.specs.Route.{segments, reverses, reverse-if};
 ghost use Rattle.theory.specs.Costs.{last-of, first-of, forward, backward};
-ghost use Rattle.theory.specs.Tables.{LegTable, Stops, Measurable, CutSet};
-ghost use Rattle.costs.specs.RouteCosts.{leg, running, KnownLeg, Leg, Length, InnerLeg, Summable, Summed, Spanned, span};
+ghost use Rattle.theory.specs.Tables.{LegTable, Stops, Measurable, CutSet, legs-only};
+ghost use Rattle.costs.specs.RouteCosts.{leg, running, KnownLeg, Leg, Length, InnerLeg, Summable, Summed, Spanned, span, stop-at, RouteCosts};
+ghost use Rattle.costs.specs.Deltas.{PlacedAfter, Costable, Cost, Deltable, delta-of};
+
+// The lesser of two.
+pub fn least(a: u64, b: u64) -> u64
+    ensures { λ r. ⌜ r ≡ min a b ⌝ }
+{
+    if a < b {
+        return a;
+    }
+    b
+}
 
 // The leg between two locations.
 pub fn route_distance(locations: usize, legs: &[u32], from: u32, to: u32) -> u64
@@ -57,7 +70,7 @@ fn running_sums(
     legs: &[u32],
     route: &[u32],
     backwards: bool,
-    sums: &mut [u64; 512],
+    sums: &mut [u64; STOPS],
 )
     requires { ⌜ Summable locations (now legs) (now route) (now sums) ⌝ }
     ensures { λ _. ⌜ Summed (now (route .entry)) (running backwards (leg locations (now (legs .entry))) (now (route .entry))) (now (sums .entry)) (now (sums .exit)) ⌝ }
@@ -73,14 +86,14 @@ fn running_sums(
     }
 }
 
-pub fn forward_sums(locations: usize, legs: &[u32], route: &[u32], sums: &mut [u64; 512])
+pub fn forward_sums(locations: usize, legs: &[u32], route: &[u32], sums: &mut [u64; STOPS])
     requires { ⌜ Summable locations (now legs) (now route) (now sums) ⌝ }
     ensures { λ _. ⌜ Summed (now (route .entry)) (forward (leg locations (now (legs .entry))) (now (route .entry))) (now (sums .entry)) (now (sums .exit)) ⌝ }
 {
     running_sums(locations, legs, route, false, sums);
 }
 
-pub fn backward_sums(locations: usize, legs: &[u32], route: &[u32], sums: &mut [u64; 512])
+pub fn backward_sums(locations: usize, legs: &[u32], route: &[u32], sums: &mut [u64; STOPS])
     requires { ⌜ Summable locations (now legs) (now route) (now sums) ⌝ }
     ensures { λ _. ⌜ Summed (now (route .entry)) (backward (leg locations (now (legs .entry))) (now (route .entry))) (now (sums .entry)) (now (sums .exit)) ⌝ }
 {
@@ -99,22 +112,181 @@ pub fn head_end(depot: u32, route: &[u32], cuts: &[usize]) -> u32
     route[first - 1]
 }
 
+// The stop behind a cut at c; the depot where none is.
+pub fn tail_at(depot: u32, route: &[u32], c: usize) -> u32
+    ensures { λ r. ⌜ r ≡ stop-at depot (now (route .entry)) c ⌝ }
+{
+    if c < route.len() {
+        return route[c];
+    }
+    depot
+}
+
 // The stop after the last cut; cut n makes the depot the tail's start.
 pub fn tail_start(depot: u32, route: &[u32], cuts: &[usize]) -> u32
     requires { ⌜ CutSet (length (now cuts)) (length (now route)) (now cuts) ⌝ }
     ensures { λ r. ⌜ r ≡ first-of (getD (segments 0 (now (cuts .entry)) (now (route .entry))) (length (now (cuts .entry))) []) depot ⌝ }
 {
-    let last = cuts[cuts.len() - 1];
-    if last == route.len() {
-        return depot;
-    }
-    route[last]
+    tail_at(depot, route, cuts[cuts.len() - 1])
 }
 
 // The inner legs of route[start..end], not empty, from the running sums of one direction.
-pub fn inner(sums: &[u64; 512], start: usize, end: usize) -> u64
+pub fn inner(sums: &[u64; STOPS], start: usize, end: usize) -> u64
     requires { ⌜ Spanned (now sums) start end ⌝ }
     ensures { λ r. ⌜ r ≡ span (now (sums .entry)) start end ⌝ }
 {
     sums[end - 1] - sums[start]
+}
+
+// ---- a move's delta, segment by segment
+
+// A segment as it is placed: the seconds from the stop before it up to its last stop, and that stop.
+struct Placed {
+    seconds: u64,
+    last: u32,
+}
+
+// The segment route[start..end] after the stop `previous`.
+fn place(
+    locations: usize,
+    legs: &[u32],
+    route: &[u32],
+    forward: &[u64; STOPS],
+    backward: &[u64; STOPS],
+    start: usize,
+    end: usize,
+    reversed: bool,
+    previous: u32,
+) -> Placed
+    requires { ⌜ RouteCosts locations (now legs) (now route) (now forward) (now backward) ⌝ }
+    requires { ⌜ (start < end) × (end ≤ length (now route)) × (previous < locations) ⌝ }
+    ensures { λ r. ⌜ PlacedAfter locations (now (legs .entry)) previous (reverse-if reversed (slice start end (now (route .entry)))) r ⌝ }
+{
+    let front = route[start];
+    let back = route[end - 1];
+    if reversed {
+        let to_back = route_distance(locations, legs, previous, back);
+        return Placed {
+            seconds: to_back + inner(backward, start, end),
+            last: front,
+        };
+    }
+    let to_front = route_distance(locations, legs, previous, front);
+    Placed {
+        seconds: to_front + inner(forward, start, end),
+        last: back,
+    }
+}
+
+// The segment of a number after the stop `previous`.
+fn place_segment(
+    locations: usize,
+    legs: &[u32],
+    route: &[u32],
+    forward: &[u64; STOPS],
+    backward: &[u64; STOPS],
+    cuts: &[usize],
+    mask: u8,
+    segment: usize,
+    previous: u32,
+) -> Placed
+    requires { ⌜ RouteCosts locations (now legs) (now route) (now forward) (now backward) ⌝ }
+    requires { ⌜ CutSet (length (now cuts)) (length (now route)) (now cuts) ⌝ }
+    requires { ⌜ (1 ≤ segment) × (segment < length (now cuts)) × (previous < locations) ⌝ }
+    ensures { λ r. ⌜ PlacedAfter locations (now (legs .entry)) previous (reverse-if (reverses mask segment) (getD (segments 0 (now (cuts .entry)) (now (route .entry))) segment [])) r ⌝ }
+{
+    let start = cuts[segment - 1];
+    let end = cuts[segment];
+    let reversed = reconnection::should_reverse(mask, segment);
+    place(
+        locations,
+        legs,
+        route,
+        forward,
+        backward,
+        start,
+        end,
+        reversed,
+        previous,
+    )
+}
+
+// From the head's end through the middle segments, placed in an order, to the tail's start.
+fn cost(
+    locations: usize,
+    legs: &[u32],
+    depot: u32,
+    route: &[u32],
+    forward: &[u64; STOPS],
+    backward: &[u64; STOPS],
+    cuts: &[usize],
+    order: &[u8],
+    mask: u8,
+) -> u64
+    requires { ⌜ Costable locations (now legs) depot (now route) (now forward) (now backward) (now cuts) (now order) ⌝ }
+    ensures { λ r. ⌜ Cost (legs-only locations (now (legs .entry)) depot) (now (route .entry)) (now (cuts .entry)) (now (order .entry)) mask r ⌝ }
+{
+    let mut total = 0u64;
+    let mut previous = head_end(depot, route, cuts);
+    let mut position = 1;
+    while position < cuts.len() {
+        let segment = order[position] as usize;
+        let placed = place_segment(
+            locations,
+            legs,
+            route,
+            forward,
+            backward,
+            cuts,
+            mask,
+            segment,
+            previous,
+        );
+        total += placed.seconds;
+        previous = placed.last;
+        position += 1;
+    }
+    let to = tail_start(depot, route, cuts);
+    total + route_distance(locations, legs, previous, to)
+}
+
+// The length after a move minus the length before it: below 0 it improves.
+pub fn delta(
+    locations: usize,
+    legs: &[u32],
+    depot: u32,
+    route: &[u32],
+    forward: &[u64; STOPS],
+    backward: &[u64; STOPS],
+    cuts: &[usize],
+    order: &[u8],
+    mask: u8,
+) -> i64
+    requires { ⌜ Deltable locations (now legs) depot (now route) (now forward) (now backward) (now cuts) (now order) mask ⌝ }
+    ensures { λ r. ⌜ r ≡ delta-of (legs-only locations (now (legs .entry)) depot) (now (route .entry)) (now (cuts .entry)) (now (order .entry)) mask ⌝ }
+{
+    let standing = [0u8, 1, 2, 3, 4, 5];
+    let current = cost(
+        locations,
+        legs,
+        depot,
+        route,
+        forward,
+        backward,
+        cuts,
+        &standing,
+        0,
+    );
+    let proposed = cost(
+        locations,
+        legs,
+        depot,
+        route,
+        forward,
+        backward,
+        cuts,
+        order,
+        mask,
+    );
+    proposed as i64 - current as i64
 }

@@ -6,9 +6,8 @@ use Prim.Native.Nat.{ℕ, _+_, _<_}
 use native.Mathlib.Omega.{arith}
 use lib.Dec.{leb}
 use lib.ListN.{length}
-use Rattle.theory.specs.Route.{Problem, path, on-time}
+use Rattle.theory.specs.Route.{Clock, path, on-time}
 use Rattle.theory.specs.Costs.{last-of, first-of, inner}
-use Rattle.theory.specs.Tables.{problem}
 
 -- To the first stop of a part, then inside it.
 pub path-in : (d : ℕ → ℕ → ℕ) (a : ℕ) (xs : List ℕ) → 0 < length xs → path d a xs ≡ d a (first-of xs 0) + inner d xs
@@ -21,17 +20,10 @@ and-assoc true b c = refl
 and-assoc false b c = refl
 
 -- A part and then another: both are on time exactly when the first is, and the second from where and when the first ends.
-pub on-time-append : (P : Problem) (a t : ℕ) (xs ys : List ℕ) →
-    on-time P a t (xs ++ ys) ≡ (on-time P a t xs && on-time P (last-of a xs) (t + path (P .leg) a xs) ys)
+pub on-time-append : (C : Clock) (a t : ℕ) (xs ys : List ℕ) →
+    on-time C a t (xs ++ ys) ≡ (on-time C a t xs && on-time C (last-of a xs) (t + path (C .leg) a xs) ys)
 unfolding on-time last-of path
-on-time-append P a t [] ys = let e : t + 0 ≡ t = omega arith in rw e
-on-time-append P a t (x ∷ xs) ys =
-    let e : t + P .leg a x + path (P .leg) x xs ≡ t + (P .leg a x + path (P .leg) x xs) = omega arith in
-    rw (on-time-append P x (t + P .leg a x) xs ys, e) (sym (and-assoc (leb (t + P .leg a x) (P .latest x)) (on-time P x (t + P .leg a x) xs) _))
-
--- No depot is read.
-pub any-depot : (locations : ℕ) (legs latest : List ℕ) (depot depot′ a t : ℕ) (xs : List ℕ) →
-    on-time (problem locations legs latest depot) a t xs ≡ on-time (problem locations legs latest depot′) a t xs
-unfolding on-time
-any-depot locations legs latest depot depot′ a t [] = refl
-any-depot locations legs latest depot depot′ a t (x ∷ xs) = rw (any-depot locations legs latest depot depot′ x (t + problem locations legs latest depot .leg a x) xs)
+on-time-append C a t [] ys = let e : t + 0 ≡ t = omega arith in rw e
+on-time-append C a t (x ∷ xs) ys =
+    let e : t + C .leg a x + path (C .leg) x xs ≡ t + (C .leg a x + path (C .leg) x xs) = omega arith in
+    rw (on-time-append C x (t + C .leg a x) xs ys, e) (sym (and-assoc (leb (t + C .leg a x) (C .latest x)) (on-time C x (t + C .leg a x) xs) _))

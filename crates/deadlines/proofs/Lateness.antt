@@ -1,4 +1,5 @@
--- The head of a route is on time exactly up to its first late stop, and its tail, reached sooner, exactly where it is sooner by the lateness. Assumes nothing.
+-- A head is on time up to the longest, and with a longer one nothing keeps every deadline; a tail that is reached sooner is on time exactly where it is sooner by the
+-- lateness. Assumes nothing.
 use mathlib.Core.Path.{_≡_, refl, sym, ap, ap₂, _∙_}
 use mathlib.Core.Bool.{Bool, true, false, _&&_, cond, and-eq-true-iff}
 use mathlib.Core.List.{List, [], _∷_, _++_}
@@ -10,46 +11,46 @@ use lib.ListN.{length, getD, take, drop, length-drop, take-append-drop}
 use lib.Seq.{take-suc, take-take, getD-take, getD-drop, length-take-le}
 use borrow.Author.Tests.{leb-true, le-leb, lt-leb, lt-ltb, le-ltb}
 use Rattle.theory.specs.Moves.{total}
-use Rattle.theory.specs.Route.{Problem, path, arrival, feasible, on-time}
+use Rattle.theory.specs.Route.{Clock, path, arrival, timely, on-time}
 use Rattle.theory.specs.Costs.{last-of}
-use Rattle.theory.proofs.Clock.{feasible-on-time, clock-step, clock-end}
+use Rattle.theory.proofs.Clock.{timely-on-time, clock-step, clock-end}
 use Rattle.theory.proofs.Costs.{path-append}
 use Rattle.theory.proofs.Moves.{total-append}
-use Rattle.theory.proofs.Route.{feasible-iff}
+use Rattle.theory.proofs.Route.{timely-iff}
 use Rattle.costs.proofs.Segments.{last-snoc}
 use Rattle.deadlines.proofs.Along.{on-time-append}
 use Rattle.deadlines.specs.Lateness.{late-by, most, lateness, TooLate, LongestHead}
 
 -- ---- the lateness, stop by stop
 
-pub lateness-end : (P : Problem) (r : List ℕ) (c : ℕ) → length r ≤ c → lateness P r c ≡ 0
+pub lateness-end : (C : Clock) (depot : ℕ) (r : List ℕ) (c : ℕ) → length r ≤ c → lateness C depot r c ≡ 0
 unfolding lateness most
-lateness-end P r c h = let e : length r - c ≡ 0 = omega arith in rw e
+lateness-end C depot r c h = let e : length r - c ≡ 0 = omega arith in rw e
 
-pub lateness-step : (P : Problem) (r : List ℕ) (c : ℕ) → c < length r → lateness P r c ≡ max (late-by P r c) (lateness P r (suc c))
+pub lateness-step : (C : Clock) (depot : ℕ) (r : List ℕ) (c : ℕ) → c < length r → lateness C depot r c ≡ max (late-by C depot r c) (lateness C depot r (suc c))
 unfolding lateness most
-lateness-step P r c h = let e : length r - c ≡ suc (length r - suc c) = omega arith in rw e
+lateness-step C depot r c h = let e : length r - c ≡ suc (length r - suc c) = omega arith in rw e
 
 -- Further on, no stop is later.
-no-later : (P : Problem) (r : List ℕ) (c : ℕ) → lateness P r (suc c) ≤ lateness P r c
-no-later P r c = by (decLt c (length r))
+no-later : (C : Clock) (depot : ℕ) (r : List ℕ) (c : ℕ) → lateness C depot r (suc c) ≤ lateness C depot r c
+no-later C depot r c = by (decLt c (length r))
   where
-    by : Dec (c < length r) → lateness P r (suc c) ≤ lateness P r c
-    by (yes h) = omega (arith, lateness-step P r c h)
-    by (no n) = omega (arith, lateness-end P r (suc c) (omega arith))
+    by : Dec (c < length r) → lateness C depot r (suc c) ≤ lateness C depot r c
+    by (yes h) = omega (arith, lateness-step C depot r c h)
+    by (no n) = omega (arith, lateness-end C depot r (suc c) (omega arith))
 
 -- Where no stop is late, none is from any position on.
-pub none-late : (P : Problem) (r : List ℕ) (c : ℕ) → lateness P r 0 ≡ 0 → lateness P r c ≡ 0
-none-late P r zero e = e
-none-late P r (suc c) e = omega (arith, none-late P r c e, no-later P r c)
+pub none-late : (C : Clock) (depot : ℕ) (r : List ℕ) (c : ℕ) → lateness C depot r 0 ≡ 0 → lateness C depot r c ≡ 0
+none-late C depot r zero e = e
+none-late C depot r (suc c) e = omega (arith, none-late C depot r c e, no-later C depot r c)
 
 -- ---- a tail that is reached sooner
 
-arrival-next : (P : Problem) (r : List ℕ) (c : ℕ) → suc c < length r → arrival P r (suc c) ≡ arrival P r c + P .leg (getD r c 0) (getD r (suc c) 0)
+arrival-next : (C : Clock) (depot : ℕ) (r : List ℕ) (c : ℕ) → suc c < length r → arrival C depot r (suc c) ≡ arrival C depot r c + C .leg (getD r c 0) (getD r (suc c) 0)
 unfolding arrival path
-arrival-next P r c h =
-    let e : last-of (P .depot) (take (suc c) r) ≡ getD r c 0 = rw (take-suc r c 0 (omega arith)) (last-snoc (P .depot) (take c r) (getD r c 0)) in
-    rw (take-suc r (suc c) 0 h, path-append (P .leg) (P .depot) (take (suc c) r) (getD r (suc c) 0 ∷ []), e) (omega arith)
+arrival-next C depot r c h =
+    let e : last-of depot (take (suc c) r) ≡ getD r c 0 = rw (take-suc r c 0 (omega arith)) (last-snoc depot (take c r) (getD r c 0)) in
+    rw (take-suc r (suc c) 0 h, path-append (C .leg) depot (take (suc c) r) (getD r (suc c) 0 ∷ []), e) (omega arith)
 
 test-is : (a b : ℕ) (t : Bool) → (a ≤ b → t ≡ true) → (b < a → t ≡ false) → leb a b ≡ t
 test-is a b t h k = by (decLt b a)
@@ -69,40 +70,40 @@ within-both a b g =
     by l (no n) = rw (le-leb a g (omega arith), lt-leb b g (omega arith))
 
 -- Sooner by g at its first stop, the tail is on time exactly if g is at least its lateness.
-tail-from : (P : Problem) (r : List ℕ) (n c a t g : ℕ) → c + n ≡ length r → (c < length r → t + P .leg a (getD r c 0) + g ≡ arrival P r c) →
-    on-time P a t (drop c r) ≡ leb (lateness P r c) g
+tail-from : (C : Clock) (depot : ℕ) (r : List ℕ) (n c a t g : ℕ) → c + n ≡ length r → (c < length r → t + C .leg a (getD r c 0) + g ≡ arrival C depot r c) →
+    on-time C a t (drop c r) ≡ leb (lateness C depot r c) g
 unfolding late-by
-tail-from P r zero c a t g e h =
+tail-from C depot r zero c a t g e h =
     let k : c ≡ length r = omega arith in
-    rw (k, clock-end P a t r, lateness-end P r (length r) (omega arith)) (sym (le-leb 0 g (omega arith)))
-tail-from P r (suc n) c a t g e h =
+    rw (k, clock-end C a t r, lateness-end C depot r (length r) (omega arith)) (sym (le-leb 0 g (omega arith)))
+tail-from C depot r (suc n) c a t g e h =
     let x = getD r c 0 in
     let here = h (omega arith) in
-    clock-step P a t r c (omega arith)
-    ∙ ap₂ _&&_ first (tail-from P r n (suc c) x (t + P .leg a x) g (omega arith) (λ l. omega (arith, here, arrival-next P r c l)))
-    ∙ sym (ap (λ l. leb l g) (lateness-step P r c (omega arith)) ∙ within-both (late-by P r c) (lateness P r (suc c)) g)
+    clock-step C a t r c (omega arith)
+    ∙ ap₂ _&&_ first (tail-from C depot r n (suc c) x (t + C .leg a x) g (omega arith) (λ l. omega (arith, here, arrival-next C depot r c l)))
+    ∙ sym (ap (λ l. leb l g) (lateness-step C depot r c (omega arith)) ∙ within-both (late-by C depot r c) (lateness C depot r (suc c)) g)
   where
-    first : leb (t + P .leg a (getD r c 0)) (P .latest (getD r c 0)) ≡ leb (late-by P r c) g
+    first : leb (t + C .leg a (getD r c 0)) (C .latest (getD r c 0)) ≡ leb (late-by C depot r c) g
     first =
         let here = h (omega arith) in
-        test-is (t + P .leg a (getD r c 0)) (P .latest (getD r c 0)) (leb (late-by P r c) g)
-        (λ l. le-leb (arrival P r c - P .latest (getD r c 0)) g (omega (arith, here)))
-        (λ l. lt-leb (arrival P r c - P .latest (getD r c 0)) g (omega (arith, here)))
+        test-is (t + C .leg a (getD r c 0)) (C .latest (getD r c 0)) (leb (late-by C depot r c) g)
+        (λ l. le-leb (arrival C depot r c - C .latest (getD r c 0)) g (omega (arith, here)))
+        (λ l. lt-leb (arrival C depot r c - C .latest (getD r c 0)) g (omega (arith, here)))
 
-pub tail-on-time : (P : Problem) (r : List ℕ) (c a t g : ℕ) → c ≤ length r → (c < length r → t + P .leg a (getD r c 0) + g ≡ arrival P r c) →
-    on-time P a t (drop c r) ≡ leb (lateness P r c) g
-tail-on-time P r c a t g l h = tail-from P r (length r - c) c a t g (omega arith) h
+pub tail-on-time : (C : Clock) (depot : ℕ) (r : List ℕ) (c a t g : ℕ) → c ≤ length r → (c < length r → t + C .leg a (getD r c 0) + g ≡ arrival C depot r c) →
+    on-time C a t (drop c r) ≡ leb (lateness C depot r c) g
+tail-on-time C depot r c a t g l h = tail-from C depot r (length r - c) c a t g (omega arith) h
 
 -- ---- a head
 
-module _ (P : Problem) (r : List ℕ) (p : ℕ) (f : LongestHead P r p) (c : ℕ) (l : c ≤ p) where
+module _ (C : Clock) (depot : ℕ) (r : List ℕ) (p : ℕ) (f : LongestHead C depot r p) (c : ℕ) (l : c ≤ p) where
   -- No longer than the longest, a head is on time.
-  pub head-on-time : on-time P (P .depot) 0 (take c r) ≡ true
+  pub head-on-time : on-time C depot 0 (take c r) ≡ true
   unfolding arrival
   head-on-time =
       let long : length (take c r) ≡ c = length-take-le c r (omega (arith, f .within)) in
-      sym (feasible-on-time P (take c r))
-      ∙ feasible-iff P (take c r) .1
+      sym (timely-on-time C depot (take c r))
+      ∙ timely-iff C depot (take c r) .1
       (λ i k.
       let h : i < c = omega (arith, long) in
       rw (take-take (suc i) c r h, getD-take c r i 0 h) (f .in-time i i (omega arith) (omega arith) (omega (arith, f .within))))
@@ -114,33 +115,33 @@ unfolding most
 most-none t from zero h = refl
 most-none t from (suc n) h = omega (arith, h from (omega arith), most-none t (suc from) n (λ i l. h i (omega arith)))
 
-arrival-later : (P : Problem) (r : List ℕ) (i n : ℕ) → i + n < length r → arrival P r i ≤ arrival P r (i + n)
-arrival-later P r i zero h = let e : i + 0 ≡ i = omega arith in rw e (omega arith)
-arrival-later P r i (suc n) h =
+arrival-later : (C : Clock) (depot : ℕ) (r : List ℕ) (i n : ℕ) → i + n < length r → arrival C depot r i ≤ arrival C depot r (i + n)
+arrival-later C depot r i zero h = let e : i + 0 ≡ i = omega arith in rw e (omega arith)
+arrival-later C depot r i (suc n) h =
     let e : i + suc n ≡ suc (i + n) = omega arith in
-    rw e (omega (arith, arrival-later P r i n (omega arith), arrival-next P r (i + n) (omega arith)))
+    rw e (omega (arith, arrival-later C depot r i n (omega arith), arrival-next C depot r (i + n) (omega arith)))
 
-module _ (P : Problem) (r : List ℕ) (kept : feasible P r ≡ true) where
-  pub kept-not-late : lateness P r 0 ≡ 0
+module _ (C : Clock) (depot : ℕ) (r : List ℕ) (kept : timely C depot r ≡ true) where
+  pub kept-not-late : lateness C depot r 0 ≡ 0
   unfolding lateness late-by
-  kept-not-late = most-none (λ i. arrival P r i - P .latest (getD r i 0)) 0 (length r - 0) (λ i h. omega (arith, feasible-iff P r .0 kept i (omega arith)))
+  kept-not-late = most-none (λ i. arrival C depot r i - C .latest (getD r i 0)) 0 (length r - 0) (λ i h. omega (arith, timely-iff C depot r .0 kept i (omega arith)))
 
-  pub kept-head : LongestHead P r (length r)
+  pub kept-head : LongestHead C depot r (length r)
   kept-head =
       record {
         within = omega arith;
-        in-time = λ i j h k l. let e : i + (j - i) ≡ j = omega arith in omega (arith, rw e at (arrival-later P r i (j - i) (omega arith)), feasible-iff P r .0 kept j l);
+        in-time = λ i j h k l. let e : i + (j - i) ≡ j = omega arith in omega (arith, rw e at (arrival-later C depot r i (j - i) (omega arith)), timely-iff C depot r .0 kept j l);
         beyond = λ h. absurd (omega arith);
       }
 
 -- With a longer one, no order of what is behind it keeps every deadline.
-on-time-soon : (P : Problem) (a t : ℕ) (xs : List ℕ) → on-time P a t xs ≡ true → (g : ℕ → ℕ) → ((x : ℕ) → t ≤ P .latest x → g x ≡ 0) → total g xs ≡ 0
+on-time-soon : (C : Clock) (a t : ℕ) (xs : List ℕ) → on-time C a t xs ≡ true → (g : ℕ → ℕ) → ((x : ℕ) → t ≤ C .latest x → g x ≡ 0) → total g xs ≡ 0
 unfolding on-time total
-on-time-soon P a t [] e g h = refl
-on-time-soon P a t (x ∷ xs) e g h =
-    let b = and-eq-true-iff (leb (t + P .leg a x) (P .latest x)) (on-time P x (t + P .leg a x) xs) .0 e in
-    let k = leb-true (t + P .leg a x) (P .latest x) (b .0) in
-    omega (arith, h x (omega arith), on-time-soon P x (t + P .leg a x) xs (b .1) g (λ y m. h y (omega arith)))
+on-time-soon C a t [] e g h = refl
+on-time-soon C a t (x ∷ xs) e g h =
+    let b = and-eq-true-iff (leb (t + C .leg a x) (C .latest x)) (on-time C x (t + C .leg a x) xs) .0 e in
+    let k = leb-true (t + C .leg a x) (C .latest x) (b .0) in
+    omega (arith, h x (omega arith), on-time-soon C x (t + C .leg a x) xs (b .1) g (λ y m. h y (omega arith)))
 
 total-at : (g : ℕ → ℕ) (l : List ℕ) (i : ℕ) → i < length l → g (getD l i 0) ≤ total g l
 unfolding total
@@ -148,9 +149,9 @@ total-at g [] i h = absurd (omega arith)
 total-at g (x ∷ l) zero h = omega arith
 total-at g (x ∷ l) (suc i) h = omega (arith, total-at g l i (omega arith))
 
-module _ (P : Problem) (r : List ℕ) (p : ℕ) (late : TooLate P r p) (rest : List ℕ) (same : (g : ℕ → ℕ) → total g (take p r ++ (getD r p 0 ∷ rest)) ≡ total g r) where
+module _ (C : Clock) (depot : ℕ) (r : List ℕ) (p : ℕ) (late : TooLate C depot r p) (rest : List ℕ) (same : (g : ℕ → ℕ) → total g (take p r ++ (getD r p 0 ∷ rest)) ≡ total g r) where
   abbrev missed : ℕ → ℕ
-  missed x = cond (ltb (P .latest x) (arrival P r p)) 1 0
+  missed x = cond (ltb (C .latest x) (arrival C depot r p)) 1 0
 
   behind : total missed (getD r p 0 ∷ rest) ≡ total missed (drop p r)
   behind =
@@ -164,24 +165,24 @@ module _ (P : Problem) (r : List ℕ) (p : ℕ) (late : TooLate P r p) (rest : L
       let one : missed (getD r j 0) ≡ 1 = rw (lt-ltb _ _ (late .missed)) in
       omega (arith, one, ap missed at, total-at missed (drop p r) (j - p) (simp length-drop (omega (arith, late .least, late .most))))
 
-  none-missed : on-time P (last-of (P .depot) (take p r)) (path (P .leg) (P .depot) (take p r)) (getD r p 0 ∷ rest) ≡ true → total missed (getD r p 0 ∷ rest) ≡ 0
+  none-missed : on-time C (last-of depot (take p r)) (path (C .leg) depot (take p r)) (getD r p 0 ∷ rest) ≡ true → total missed (getD r p 0 ∷ rest) ≡ 0
   unfolding on-time total arrival path
   none-missed e =
       let x = getD r p 0 in
-      let t = path (P .leg) (P .depot) (take p r) + P .leg (last-of (P .depot) (take p r)) x in
-      let b = and-eq-true-iff (leb t (P .latest x)) (on-time P x t rest) .0 e in
-      let k = leb-true t (P .latest x) (b .0) in
-      let reached : arrival P r p ≡ t = rw (take-suc r p 0 (omega (arith, late .least, late .most)), path-append (P .leg) (P .depot) (take p r) (x ∷ [])) (omega arith) in
-      let none : (y : ℕ) → t ≤ P .latest y → missed y ≡ 0 = λ y m. rw (le-ltb (P .latest y) (arrival P r p) (omega (arith, reached, m))) in
-      omega (arith, none x k, on-time-soon P x t rest (b .1) missed none)
+      let t = path (C .leg) depot (take p r) + C .leg (last-of depot (take p r)) x in
+      let b = and-eq-true-iff (leb t (C .latest x)) (on-time C x t rest) .0 e in
+      let k = leb-true t (C .latest x) (b .0) in
+      let reached : arrival C depot r p ≡ t = rw (take-suc r p 0 (omega (arith, late .least, late .most)), path-append (C .leg) depot (take p r) (x ∷ [])) (omega arith) in
+      let none : (y : ℕ) → t ≤ C .latest y → missed y ≡ 0 = λ y m. rw (le-ltb (C .latest y) (arrival C depot r p) (omega (arith, reached, m))) in
+      omega (arith, none x k, on-time-soon C x t rest (b .1) missed none)
 
-  pub head-too-long : feasible P (take p r ++ (getD r p 0 ∷ rest)) ≡ false
-  head-too-long = by (feasible P (take p r ++ (getD r p 0 ∷ rest))) refl
+  pub head-too-long : timely C depot (take p r ++ (getD r p 0 ∷ rest)) ≡ false
+  head-too-long = by (timely C depot (take p r ++ (getD r p 0 ∷ rest))) refl
     where
-      by : (b : Bool) → feasible P (take p r ++ (getD r p 0 ∷ rest)) ≡ b → b ≡ false
+      by : (b : Bool) → timely C depot (take p r ++ (getD r p 0 ∷ rest)) ≡ b → b ≡ false
       by true e =
-          let o = sym (feasible-on-time P (take p r ++ (getD r p 0 ∷ rest)) ∙ on-time-append P (P .depot) 0 (take p r) (getD r p 0 ∷ rest)) ∙ e in
-          let b = and-eq-true-iff (on-time P (P .depot) 0 (take p r)) _ .0 o in
-          let z : 0 + path (P .leg) (P .depot) (take p r) ≡ path (P .leg) (P .depot) (take p r) = omega arith in
+          let o = sym (timely-on-time C depot (take p r ++ (getD r p 0 ∷ rest)) ∙ on-time-append C depot 0 (take p r) (getD r p 0 ∷ rest)) ∙ e in
+          let b = and-eq-true-iff (on-time C depot 0 (take p r)) _ .0 o in
+          let z : 0 + path (C .leg) depot (take p r) ≡ path (C .leg) depot (take p r) = omega arith in
           absurd (omega (arith, behind, some-missed, none-missed (rw z at (b .1))))
       by false e = refl

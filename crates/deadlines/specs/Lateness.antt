@@ -3,14 +3,14 @@ use mathlib.Core.Path.{_≡_}
 use mathlib.Core.List.{List}
 use Prim.Native.Nat.{ℕ, zero, suc, max, _+_, _-_, _*_, _≤_, _<_}
 use lib.ListN.{length, getD, take}
-use Rattle.theory.specs.Route.{Problem, path, arrival}
+use Rattle.theory.specs.Route.{Clock, path, arrival}
 use Rattle.theory.specs.Costs.{forward}
-use Rattle.theory.specs.Tables.{Measurable, Timed}
+use Rattle.theory.specs.Tables.{Measurable, Timed, Trip}
 use Rattle.costs.specs.RouteCosts.{leg, Sums}
 
 -- The seconds by which the stop at position i is reached after its latest; 0 where it is on time.
-unfoldable pub late-by : Problem → List ℕ → ℕ → ℕ
-late-by P r i = arrival P r i - P .latest (getD r i 0)
+unfoldable pub late-by : Clock → (depot : ℕ) → List ℕ → ℕ → ℕ
+late-by C depot r i = arrival C depot r i - C .latest (getD r i 0)
 
 -- The most at the n places from `from` on, 0 where there is none.
 unfoldable pub most : (ℕ → ℕ) → ℕ → ℕ → ℕ
@@ -18,26 +18,26 @@ most t from zero = 0
 most t from (suc n) = max (t from) (most t (suc from) n)
 
 -- The most by which a stop from position c on is late.
-unfoldable pub lateness : Problem → List ℕ → ℕ → ℕ
-lateness P r c = most (late-by P r) c (length r - c)
+unfoldable pub lateness : Clock → (depot : ℕ) → List ℕ → ℕ → ℕ
+lateness C depot r c = most (late-by C depot r) c (length r - c)
 
 -- Position p is reached too late: after the latest second of its stop, or of one behind it.
-pub record TooLate (P : Problem) (r : List ℕ) (p : ℕ) : Type 0 where
+pub record TooLate (C : Clock) (depot : ℕ) (r : List ℕ) (p : ℕ) : Type 0 where
   pub position : ℕ
   pub least : p ≤ position
   pub most : position < length r
-  pub missed : P .latest (getD r position 0) < arrival P r p
+  pub missed : C .latest (getD r position 0) < arrival C depot r p
 
 -- The longest head with which a route may keep every deadline: no position in it is reached too late, the one behind it is.
-pub record LongestHead (P : Problem) (r : List ℕ) (p : ℕ) : Type 0 where
+pub record LongestHead (C : Clock) (depot : ℕ) (r : List ℕ) (p : ℕ) : Type 0 where
   pub within : p ≤ length r
-  pub in-time : (i j : ℕ) → i < p → i ≤ j → j < length r → arrival P r i ≤ P .latest (getD r j 0)
-  pub beyond : p < length r → TooLate P r p
+  pub in-time : (i j : ℕ) → i < p → i ≤ j → j < length r → arrival C depot r i ≤ C .latest (getD r j 0)
+  pub beyond : p < length r → TooLate C depot r p
 
 -- The lateness from each position on, the end included.
-pub record Latenesses (P : Problem) (r table : List ℕ) : Type 0 where
+pub record Latenesses (C : Clock) (depot : ℕ) (r table : List ℕ) : Type 0 where
   pub places : length table ≡ 513
-  pub each : (c : ℕ) → c ≤ length r → getD table c 0 ≡ lateness P r c
+  pub each : (c : ℕ) → c ≤ length r → getD table c 0 ≡ lateness C depot r c
 
 -- A stop of a route with its forward sums.
 pub record Arriving (locations : ℕ) (legs : List ℕ) (depot : ℕ) (route forward-sums : List ℕ) (i : ℕ) : Type 0 where
@@ -66,11 +66,11 @@ pub record LaterFits (most reached deadline : ℕ) : Type 0 where
   pub small : deadline ≤ 4294967295
 
 -- A route with its forward sums, and places for the lateness.
-pub record LatenessFillable (locations : ℕ) (legs latest : List ℕ) (depot : ℕ) (route forward-sums table : List ℕ) : Type 0 where
-  pub timed : Timed locations legs latest depot route
-  pub forwards : Sums route (forward (leg locations legs) route) forward-sums
+pub record LatenessFillable (T : Trip) (route forward-sums table : List ℕ) : Type 0 where
+  pub timed : Timed T route
+  pub forwards : Sums route (forward (leg (T .tables .locations) (T .tables .legs)) route) forward-sums
   pub places : length table ≡ 513
 
-pub record LatenessFilled (P : Problem) (route : List ℕ) (longest : ℕ) (table : List ℕ) : Type 0 where
-  pub head : LongestHead P route longest
-  pub tail : Latenesses P route table
+pub record LatenessFilled (C : Clock) (depot : ℕ) (route : List ℕ) (longest : ℕ) (table : List ℕ) : Type 0 where
+  pub head : LongestHead C depot route longest
+  pub tail : Latenesses C depot route table

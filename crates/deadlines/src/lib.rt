@@ -1,8 +1,10 @@
 // The deadline rule of document 01, checked along a route. It holds no entry; those are in crate mittenschist.
+use theory::CUT_PLACES;
 use theory::Deadline;
+use theory::STOPS;
 ghost use mathlib.Core.Path.{_≡_};
 ghost use Prim.Native.Nat.{min, max, _-_};
-ghost use Rattle.theory.specs.Tables.{problem, Timed};
+ghost use Rattle.theory.specs.Tables.{clock-by, Timed, trip, tables};
 ghost use Rattle.theory.specs.Answers.{Checked};
 ghost use Rattle.deadlines.specs.Lateness.{Arriving, Arrives, LatestOf, LatestIs, LaterFits, LatenessFillable, LatenessFilled};
 
@@ -14,8 +16,8 @@ pub fn check_deadlines(
     depot: u32,
     route: &[u32],
 ) -> Deadline
-    requires { ⌜ Timed locations (now legs) (now latest) depot (now route) ⌝ }
-    ensures { λ r. ⌜ Checked (problem locations (now (legs .entry)) (now (latest .entry)) depot) (now (route .entry)) r ⌝ }
+    requires { ⌜ Timed (trip locations (now legs) (now latest) depot) (now route) ⌝ }
+    ensures { λ r. ⌜ Checked (clock-by (tables locations (now (legs .entry)) (now (latest .entry)))) depot (now (route .entry)) r ⌝ }
 {
     let mut clock = 0u64;
     let mut previous = depot;
@@ -34,22 +36,13 @@ pub fn check_deadlines(
     Deadline::Kept
 }
 
-fn least(a: u64, b: u64) -> u64
-    ensures { λ r. ⌜ r ≡ min a b ⌝ }
-{
-    if a < b {
-        return a;
-    }
-    b
-}
-
 // When the stop at position i is reached, from the running sums.
 pub fn arrival(
     locations: usize,
     legs: &[u32],
     depot: u32,
     route: &[u32],
-    forward: &[u64; 512],
+    forward: &[u64; STOPS],
     i: usize,
 ) -> u64
     requires { ⌜ Arriving locations (now legs) depot (now route) (now forward) i ⌝ }
@@ -58,7 +51,8 @@ pub fn arrival(
     costs::route_distance(locations, legs, depot, route[0]) + forward[i]
 }
 
-fn latest_of(latest: &[u32], stop: u32) -> u64
+// The latest second of a stop.
+pub fn latest_of(latest: &[u32], stop: u32) -> u64
     requires { ⌜ LatestOf (now latest) stop ⌝ }
     ensures { λ r. ⌜ LatestIs (now (latest .entry)) stop r ⌝ }
 {
@@ -84,11 +78,11 @@ pub fn fill_lateness(
     latest: &[u32],
     depot: u32,
     route: &[u32],
-    forward: &[u64; 512],
-    lateness: &mut [u64; 513],
+    forward: &[u64; STOPS],
+    lateness: &mut [u64; CUT_PLACES],
 ) -> usize
-    requires { ⌜ LatenessFillable locations (now legs) (now latest) depot (now route) (now forward) (now lateness) ⌝ }
-    ensures { λ r. ⌜ LatenessFilled (problem locations (now (legs .entry)) (now (latest .entry)) depot) (now (route .entry)) r (now (lateness .exit)) ⌝ }
+    requires { ⌜ LatenessFillable (trip locations (now legs) (now latest) depot) (now route) (now forward) (now lateness) ⌝ }
+    ensures { λ r. ⌜ LatenessFilled (clock-by (tables locations (now (legs .entry)) (now (latest .entry)))) depot (now (route .entry)) r (now (lateness .exit)) ⌝ }
 {
     let mut c = route.len();
     let mut longest = c;
@@ -99,7 +93,7 @@ pub fn fill_lateness(
         let i = c - 1;
         let reached = arrival(locations, legs, depot, route, forward, i);
         let deadline = latest_of(latest, route[i]);
-        soonest = least(soonest, deadline);
+        soonest = costs::least(soonest, deadline);
         if soonest < reached {
             longest = i;
         }

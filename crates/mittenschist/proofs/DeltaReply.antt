@@ -13,7 +13,7 @@ use Rattle.theory.specs.declared.LengthDelta.the-variants.{Refused, Seconds}
 use Rattle.theory.proofs.Refusals.{known}
 use Rattle.theory.proofs.Judged.{measurable-fine, pattern-fine, cuts-fine}
 use Rattle.moves.specs.Moves.{Comparable, length-change}
-use Rattle.judging.specs.Rules.{delta-rules}
+use Rattle.refusal_rules.specs.Rules.{delta-rules}
 use Rattle.mittenschist.specs.Promises.{DeltaReply}
 use Rattle.theory.proofs.Taken.{refused-reply, taken-reply, taken-passes}
 
@@ -30,11 +30,11 @@ module _ (k pattern : ℕ) (cuts : List ℕ) (locations : ℕ) (legs : List ℕ)
     unfolding known
     fine =
         let p = taken-passes (delta-rules k pattern cuts locations legs depot route) number judged refl h in
-        let q = p .1 .1 .1 .1 in
+        let r = p .1 .1 .1 .1 in
         record {
-          cut-set = cuts-fine k (length route) cuts (p .0) (q .0) (q .1 .1 .0);
-          listed = pattern-fine k pattern (q .1 .0);
-          measurable = measurable-fine locations legs depot route (p .1 .0) (p .1 .1 .0) (p .1 .1 .1 .0) (q .0);
+          cut-set = cuts-fine k (length route) cuts (r .0) (p .1 .1 .1 .0) (r .1 .1 .0);
+          listed = pattern-fine k pattern (r .1 .0);
+          measurable = measurable-fine locations legs depot route (p .0) (p .1 .0) (p .1 .1 .0) (p .1 .1 .1 .0);
         }
 
     pub changed : (seconds : ℤ) → seconds ≡ length-change (legs-only locations legs depot) (move-at (patterns k) cuts pattern) route → DeltaReply k pattern cuts locations legs depot route (Seconds seconds)

@@ -8,4 +8,3 @@ pub mod PolishReply
 pub mod Written
 pub mod RunReply
 pub mod NearbyReply
-pub mod Told

@@ -14,9 +14,9 @@ use Rattle.theory.proofs.Taken.{refused-reply, taken-reply, refused-kept, taken
 use Rattle.nearby.specs.Walk.{nearby-sets}
 use Rattle.nearby.specs.Listing.{NearbyInput, Lists}
 use Rattle.nearby.proofs.Judged.{nearby-fine}
-use Rattle.judging.specs.Rules.{nearby-rules, with-room}
-use Rattle.replies.specs.Handed.{Handed}
-use Rattle.replies.proofs.Handing.{handed-done}
+use Rattle.refusal_rules.specs.Rules.{nearby-rules, with-room}
+use Rattle.entry_results.specs.Handed.{Handed}
+use Rattle.entry_results.proofs.Handing.{handed-done}
 use Rattle.mittenschist.specs.Promises.{nearby-values, nearby-places, NearbyReply, NearbyWritten}
 use Rattle.mittenschist.proofs.Written.{nothing-written, values-written}
 

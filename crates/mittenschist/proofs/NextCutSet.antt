@@ -13,10 +13,10 @@ use Rattle.theory.specs.declared.CutStep.{CutStep}
 use Rattle.theory.specs.declared.CutStep.the-variants.{Refused}
 use Rattle.theory.proofs.Refusals.{Passes, known}
 use Rattle.theory.proofs.Judged.{cuts-fine, room-fine}
-use Rattle.cuts.specs.Step.{found, or-kept, Stepped}
-use Rattle.judging.specs.Rules.{next-cut-set-rules, with-room}
-use Rattle.replies.specs.Handed.{Handed}
-use Rattle.replies.proofs.Handing.{handed-done}
+use Rattle.cut_step.specs.Step.{found, or-unmoved, Stepped}
+use Rattle.refusal_rules.specs.Rules.{next-cut-set-rules, with-room}
+use Rattle.entry_results.specs.Handed.{Handed}
+use Rattle.entry_results.proofs.Handing.{handed-done}
 use Rattle.mittenschist.specs.Promises.{NextCutSetReply, step-values, NextCutSetWritten}
 use Rattle.theory.proofs.Taken.{refused-reply, taken-reply, refused-kept, taken-done, taken-passes}
 use Rattle.mittenschist.proofs.Written.{nothing-written, values-written}
@@ -26,7 +26,7 @@ module _ (k n : ℕ) (cuts : List ℕ) (number : ℕ) (judged : number ≡ refus
   refused h =
       record {
         reply-is = refused-reply (next-cut-set-rules k n cuts) number judged (cond (found (next-cuts n cuts)) 1 0 ∷ []) h;
-        cuts-are = refused-kept (next-cut-set-rules k n cuts) number judged (or-kept (next-cuts n cuts) cuts) cuts h;
+        cuts-are = refused-kept (next-cut-set-rules k n cuts) number judged (or-unmoved (next-cuts n cuts) cuts) cuts h;
       }
 
   module _ (h : number ≡ 0) where
@@ -41,7 +41,7 @@ module _ (k n : ℕ) (cuts : List ℕ) (number : ℕ) (judged : number ≡ refus
     stepped answer b cuts′ e s =
         record {
           reply-is = e ∙ ap (λ b. reply 0 (cond b 1 0 ∷ [])) (s .moved) ∙ taken-reply (next-cut-set-rules k n cuts) number judged (cond (found (next-cuts n cuts)) 1 0 ∷ []) h;
-          cuts-are = s .cuts-after ∙ taken-done (next-cut-set-rules k n cuts) number judged (or-kept (next-cuts n cuts) cuts) cuts h;
+          cuts-are = s .cuts-after ∙ taken-done (next-cut-set-rules k n cuts) number judged (or-unmoved (next-cuts n cuts) cuts) cuts h;
         }
 
 module _ (k n : ℕ) (cuts result : List ℕ) (number : ℕ) (judged : number ≡ refusal (with-room (next-cut-set-rules k n cuts) 1 (length result))) where
@@ -52,7 +52,7 @@ module _ (k n : ℕ) (cuts result : List ℕ) (number : ℕ) (judged : number �
   refused-call h =
       record {
         written = nothing-written (next-cut-set-rules k n cuts) 1 (step-values n cuts) result number judged h;
-        cuts-are = refused-kept asked number judged (or-kept (next-cuts n cuts) cuts) cuts h;
+        cuts-are = refused-kept asked number judged (or-unmoved (next-cuts n cuts) cuts) cuts h;
       }
 
   module _ (h : number ≡ 0) where
@@ -74,5 +74,5 @@ module _ (k n : ℕ) (cuts result : List ℕ) (number : ℕ) (judged : number �
         let d = handed-done (cond b 1 0 ∷ []) result result′ answer handed space in
         record {
           written = values-written (next-cut-set-rules k n cuts) 1 (step-values n cuts) result number judged h answer result′ (d .0) (d .1 ∙ ap (λ b. cond b 1 0 ∷ drop 1 result) (s .moved));
-          cuts-are = s .cuts-after ∙ taken-done asked number judged (or-kept (next-cuts n cuts) cuts) cuts h;
+          cuts-are = s .cuts-after ∙ taken-done asked number judged (or-unmoved (next-cuts n cuts) cuts) cuts h;
         }

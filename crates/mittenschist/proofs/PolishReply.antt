@@ -5,17 +5,17 @@ use Prim.Native.Nat.{ℕ, _≤_}
 use lib.ListN.{length, drop}
 use Rattle.theory.specs.Moves.{patterns}
 use Rattle.theory.specs.Route.{Problem, tour-length}
-use Rattle.theory.specs.Polish.{polish}
 use Rattle.theory.specs.Tables.{problem}
-use Rattle.theory.specs.Refusals.{refusal}
+use Rattle.theory.specs.Refusals.{Rule, refusal}
+use Rattle.theory.specs.Question.{Question, question-rules, asked}
 use Rattle.theory.specs.Answers.{Polishes, reply-of, counts-of, polish-values, five-numbers, handed-back}
 use Rattle.theory.specs.declared.Polished.{Polished}
 use Rattle.theory.specs.declared.Polished.the-variants.{Finished, Spent}
-use Rattle.theory.proofs.Refusals.{known}
-use Rattle.theory.proofs.Judged.{room-fine}
+use Rattle.theory.proofs.Refusals.{Passes, known}
 use Rattle.polishing.specs.Loop.{Polishable}
 use Rattle.polishing.proofs.Judged.{polishable-fine}
-use Rattle.judging.specs.Rules.{polish-rules}
+use Rattle.refusal_rules.specs.Rules.{polish-rules}
+use Rattle.refusal_rules.proofs.Parts.{pass-with-room}
 use Rattle.mittenschist.specs.Promises.{PolishReply}
 use Rattle.theory.proofs.Taken.{refused-kept, taken-done, taken-passes}
 
@@ -33,42 +33,43 @@ its-route : (answer : Polished) (route′ : List ℕ) → route′ ≡ reply-of 
 its-route (Finished c) route′ = refl
 its-route (Spent c) route′ = refl
 
-module _ (k A locations : ℕ) (legs latest : List ℕ) (depot : ℕ) (route result : List ℕ) (number : ℕ)
-    (judged : number ≡ refusal (polish-rules k locations legs latest depot route (length result))) where
-  abbrev P : Problem
-  P = problem locations legs latest depot
+module _ (q : Question) (result : List ℕ) (number : ℕ) (judged : number ≡ refusal (polish-rules q (length result))) where
+  abbrev rules : List Rule
+  rules = polish-rules q (length result)
 
-  pub refused : (number ≡ 0 → ⊥) → PolishReply k A locations legs latest depot route result number route result
+  abbrev P : Problem
+  P = problem (q .trip)
+
+  abbrev result-done : List ℕ
+  result-done = five-numbers P (q .route) (asked q) ++ drop 5 result
+
+  pub refused : (number ≡ 0 → ⊥) → PolishReply q result number (q .route) result
   refused h =
       record {
         number-is = judged;
-        route-is = refused-kept (polish-rules k locations legs latest depot route (length result)) number judged (polish P k A route .route) route h;
-        result-is = refused-kept (polish-rules k locations legs latest depot route (length result)) number judged (five-numbers P route (polish P k A route) ++ drop 5 result) result h;
+        route-is = refused-kept rules number judged (asked q .route) (q .route) h;
+        result-is = refused-kept rules number judged result-done result h;
         demand3 = λ z. absurd (h z);
       }
 
   module _ (h : number ≡ 0) where
-    pub fine : Polishable k locations legs latest depot route
+    passes : Passes (question-rules q) × (5 ≤ length result)
     unfolding known
-    fine =
-        let p = taken-passes (polish-rules k locations legs latest depot route (length result)) number judged refl h in
-        let q = p .1 .1 .1 in
-        polishable-fine k locations legs latest depot route (p .0) (p .1 .0) (p .1 .1 .0) (q .0) (q .1 .0) (q .1 .1 .0)
+    passes = pass-with-room (question-rules q) 5 (length result) (taken-passes rules number judged refl h)
+
+    pub fine : Polishable (q .k) (q .trip) (q .route)
+    fine = polishable-fine q (passes .0)
 
     pub space : 5 ≤ length result
-    unfolding known
-    space =
-        let p = taken-passes (polish-rules k locations legs latest depot route (length result)) number judged refl h in
-        room-fine 5 (length result) (p .1 .1 .1 .1 .1 .1 .0)
+    space = passes .1
 
-    pub polished : (answer : Polished) (route′ result′ : List ℕ) → Polishes (problem locations legs latest depot) (patterns k) k A route answer route′ →
-        result′ ≡ polish-values answer ++ drop 5 result → PolishReply k A locations legs latest depot route result 0 route′ result′
+    pub polished : (answer : Polished) (route′ result′ : List ℕ) → Polishes P (patterns (q .k)) (q .k) (q .allowance) (q .route) answer route′ →
+        result′ ≡ polish-values answer ++ drop 5 result → PolishReply q result 0 route′ result′
     polished answer route′ result′ p e =
-        let values = values-are P route route′ answer (p .before) (p .after) ∙ ap (five-numbers P route) (p .scan) in
+        let values = values-are P (q .route) route′ answer (p .before) (p .after) ∙ ap (five-numbers P (q .route)) (p .scan) in
         record {
           number-is = sym h ∙ judged;
-          route-is = its-route answer route′ ∙ ap (λ q. q .route) (p .scan) ∙ taken-done (polish-rules k locations legs latest depot route (length result)) number judged (polish P k A route .route) route h;
-          result-is = e ∙ ap (λ l. l ++ drop 5 result) values
-              ∙ taken-done (polish-rules k locations legs latest depot route (length result)) number judged (five-numbers P route (polish P k A route) ++ drop 5 result) result h;
+          route-is = its-route answer route′ ∙ ap (λ r. r .route) (p .scan) ∙ taken-done rules number judged (asked q .route) (q .route) h;
+          result-is = e ∙ ap (λ l. l ++ drop 5 result) values ∙ taken-done rules number judged result-done result h;
           demand3 = λ z. rw (e, read-back answer (drop 5 result) route′) (p .demand3);
         }

@@ -10,7 +10,7 @@ use Rattle.theory.specs.Refusals.{refusal}
 use Rattle.theory.proofs.Refusals.{known}
 use Rattle.theory.proofs.Judged.{pattern-fine, cuts-fine, room-fine}
 use Rattle.moves.specs.Moves.{Applicable}
-use Rattle.judging.specs.Rules.{reconnect-rules}
+use Rattle.refusal_rules.specs.Rules.{reconnect-rules}
 use Rattle.mittenschist.specs.Promises.{ReconnectReply}
 use Rattle.theory.proofs.Taken.{refused-kept, taken-done, taken-passes}
 
@@ -27,8 +27,8 @@ module _ (k pattern : ℕ) (cuts route out : List ℕ) (number : ℕ) (judged : 
     fine =
         let p = taken-passes (reconnect-rules k pattern cuts (length route) (length out)) number judged refl h in
         record {
-          cut-set = cuts-fine k (length route) cuts (p .0) (p .1 .0) (p .1 .1 .1 .0);
-          listed = pattern-fine k pattern (p .1 .1 .0);
+          cut-set = cuts-fine k (length route) cuts (p .1 .0) (p .1 .1 .0) (p .1 .1 .1 .0);
+          listed = pattern-fine k pattern (p .0);
           room = room-fine (length route) (length out) (p .1 .1 .1 .1 .0);
         }
 

@@ -7,10 +7,10 @@ use Rattle.theory.specs.Refusals.{refusal}
 use Rattle.theory.specs.declared.KOptReconnection.{KOptReconnection}
 use Rattle.theory.proofs.Refusals.{known}
 use Rattle.theory.proofs.Judged.{cut-count-fine, pattern-fine, room-fine}
-use Rattle.patterns.specs.Enumeration.{Listed, Holds}
+use Rattle.patterns.specs.Enumeration.{Listed, HoldsPattern}
 use Rattle.moves.specs.Moves.{Shown}
-use Rattle.judging.specs.Rules.{pattern-rules, with-room}
-use Rattle.replies.specs.Handed.{pattern-refused}
+use Rattle.refusal_rules.specs.Rules.{pattern-rules, with-room}
+use Rattle.entry_results.specs.Handed.{pattern-refused}
 use Rattle.mittenschist.specs.Promises.{ReconnectionReply, pattern-at}
 use Rattle.theory.proofs.Taken.{refused-kept, taken-done, taken-passes}
 
@@ -32,7 +32,7 @@ module _ (k pattern number : ℕ) (judged : number ≡ refusal (pattern-rules k 
         let c = cut-count-fine k (p .0) in
         record { cuts = record { least = c .0; most = c .1 }; known = pattern-fine k pattern (p .1 .0) }
 
-    pub found : (r : KOptReconnection) → Holds k (pattern-at k pattern) r → ReconnectionReply k pattern (record { refusal = 0; reconnection = r })
+    pub found : (r : KOptReconnection) → HoldsPattern k (pattern-at k pattern) r → ReconnectionReply k pattern (record { refusal = 0; reconnection = r })
     found r holds =
         record {
           number-is = sym h ∙ judged;

@@ -9,7 +9,7 @@ use Rattle.theory.specs.Answers.{reply}
 use Rattle.theory.specs.declared.RouteLength.the-variants.{Refused, Seconds}
 use Rattle.theory.proofs.Refusals.{known}
 use Rattle.theory.proofs.Judged.{measurable-fine}
-use Rattle.judging.specs.Rules.{route-length-rules}
+use Rattle.refusal_rules.specs.Rules.{route-length-rules}
 use Rattle.mittenschist.specs.Promises.{RouteLengthReply}
 use Rattle.theory.proofs.Taken.{refused-reply, taken-reply, taken-passes}
 

@@ -10,8 +10,8 @@ use Rattle.theory.specs.Refusals.{Rule, number, either, refusal, room}
 use Rattle.theory.specs.Answers.{Answer, reply}
 use Rattle.theory.proofs.LastRule.{early, room-last}
 use Rattle.theory.proofs.Taken.{refused-kept, taken-done}
-use Rattle.judging.specs.Rules.{with-room}
-use Rattle.replies.specs.Handed.{Handed}
+use Rattle.refusal_rules.specs.Rules.{with-room}
+use Rattle.entry_results.specs.Handed.{Handed}
 use Rattle.mittenschist.specs.Promises.{Written}
 
 -- ---- judged with the room

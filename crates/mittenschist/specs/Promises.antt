@@ -7,15 +7,16 @@ use lib.Dec.{ltb}
 use lib.Ieee.{Float}
 use lib.ListN.{length, getD, drop, replicate}
 use Rattle.theory.specs.Moves.{Pattern, patterns, next-cuts}
-use Rattle.theory.specs.Route.{Problem, tour-length, reconnected}
-use Rattle.theory.specs.Polish.{move-at, polish, Demand3}
-use Rattle.theory.specs.Tables.{problem, legs-only}
+use Rattle.theory.specs.Route.{tour-length, reconnected}
+use Rattle.theory.specs.Polish.{move-at, Demand3}
+use Rattle.theory.specs.Tables.{Tables, Trip, Fleet, problem, clock-by, legs-only}
+use Rattle.theory.specs.Question.{Question, asked}
 use Rattle.theory.specs.Refusals.{Rule, refusal, if-taken, problem-rules}
-use Rattle.judging.specs.Rules.{pattern-rules, next-cut-set-rules, reconnect-rules, route-length-rules, delta-rules, polish-rules, run-rules, nearby-rules, with-room}
+use Rattle.refusal_rules.specs.Rules.{pattern-rules, next-cut-set-rules, reconnect-rules, route-length-rules, delta-rules, polish-rules, run-rules, nearby-rules, with-room}
 use Rattle.theory.specs.Answers.{reply, step-answer, length-answer, delta-answer, feasibility-answer, listing-answer, Checked, Verdict, five-numbers, handed-back}
 use Rattle.moves.specs.Moves.{length-change}
-use Rattle.cuts.specs.Step.{found, or-kept}
-use Rattle.applying.specs.Applying.{doable}
+use Rattle.cut_step.specs.Step.{found, or-unmoved}
+use Rattle.move_applying.specs.Applying.{doable}
 use Rattle.nearby.specs.Walk.{nearby-sets}
 use Rattle.nearby.specs.Listing.{written}
 use Rattle.run.specs.Run.{run, rounds, routes, numbers, Ran}
@@ -48,7 +49,7 @@ pub record ReconnectionReply (k pattern : ℕ) (answer : ReconnectionAt) : Type 
 
 pub record NextCutSetReply (k n : ℕ) (cuts : List ℕ) (answer : CutStep) (cuts′ : List ℕ) : Type 0 where
   pub reply-is : step-answer answer ≡ reply (refusal (next-cut-set-rules k n cuts)) (cond (found (next-cuts n cuts)) 1 0 ∷ [])
-  pub cuts-are : cuts′ ≡ if-taken (next-cut-set-rules k n cuts) (or-kept (next-cuts n cuts) cuts) cuts
+  pub cuts-are : cuts′ ≡ if-taken (next-cut-set-rules k n cuts) (or-unmoved (next-cuts n cuts) cuts) cuts
 
 -- 1 moved, or 0 and the cuts kept.
 abbrev pub step-values : ℕ → List ℕ → List ℕ
@@ -56,7 +57,7 @@ step-values n cuts = cond (found (next-cuts n cuts)) 1 0 ∷ []
 
 pub record NextCutSetWritten (k n : ℕ) (cuts result : List ℕ) (answer : ℕ) (cuts′ result′ : List ℕ) : Type 0 where
   pub written : Written (next-cut-set-rules k n cuts) 1 (step-values n cuts) result answer result′
-  pub cuts-are : cuts′ ≡ if-taken (with-room (next-cut-set-rules k n cuts) 1 (length result)) (or-kept (next-cuts n cuts) cuts) cuts
+  pub cuts-are : cuts′ ≡ if-taken (with-room (next-cut-set-rules k n cuts) 1 (length result)) (or-unmoved (next-cuts n cuts) cuts) cuts
 
 -- ---- reconnect
 
@@ -77,34 +78,31 @@ pub record DeltaReply (k pattern : ℕ) (cuts : List ℕ) (locations : ℕ) (leg
 -- ---- deadline check
 
 -- What an answer says of a route: what the check does, by the case it holds. A refusal says nothing.
-abbrev pub Says : Problem → List ℕ → Feasibility → Type 0
-Says P route (Judged.Refused n) = Unit {0}
-Says P route (Judged.Checked d) = Checked P route d
+abbrev pub Says : Trip → List ℕ → Feasibility → Type 0
+Says T route (Judged.Refused n) = Unit {0}
+Says T route (Judged.Checked d) = Checked (clock-by (T .tables)) (T .depot) route d
 
 -- The late position is loose, and nothing else is. One value alone leaves the case open, since kept is written as the number of stops; so the answer itself is held to the route.
-pub record FeasibleReply (locations : ℕ) (legs latest : List ℕ) (depot : ℕ) (route : List ℕ) (answer : Feasibility) : Type 0 where
+pub record FeasibleReply (T : Trip) (route : List ℕ) (answer : Feasibility) : Type 0 where
   pub position : ℕ
-  pub reply-is : feasibility-answer (length route) answer ≡ reply (refusal (problem-rules locations legs latest depot route)) (position ∷ [])
-  pub says : Says (problem locations legs latest depot) route answer
+  pub reply-is : feasibility-answer (length route) answer ≡ reply (refusal (problem-rules T route)) (position ∷ [])
+  pub says : Says T route answer
 
-pub record FeasibleWritten (locations : ℕ) (legs latest : List ℕ) (depot : ℕ) (route result : List ℕ) (answer : ℕ) (result′ : List ℕ) : Type 0 where
+pub record FeasibleWritten (T : Trip) (route result : List ℕ) (answer : ℕ) (result′ : List ℕ) : Type 0 where
   pub position : ℕ
-  pub written : Written (problem-rules locations legs latest depot route) 1 (position ∷ []) result answer result′
-  pub verdict : answer ≡ 0 → Verdict (problem locations legs latest depot) route position
+  pub written : Written (problem-rules T route) 1 (position ∷ []) result answer result′
+  pub verdict : answer ≡ 0 → Verdict (clock-by (T .tables)) (T .depot) route position
 
 -- ---- polishing
 
 -- Of the slices as they are handed in and as they are handed back: route and result are those of document 01's scan; and demand 3 whenever it returns 0.
-pub record PolishReply (k allowance locations : ℕ) (legs latest : List ℕ) (depot : ℕ) (route result : List ℕ) (answer : ℕ) (route′ result′ : List ℕ) : Type 0 where
-  pub number-is : answer ≡ refusal (polish-rules k locations legs latest depot route (length result))
-  pub route-is : route′ ≡ if-taken (polish-rules k locations legs latest depot route (length result)) (polish (problem locations legs latest depot) k allowance route .route) route
-  pub result-is : result′
-      ≡ if-taken (polish-rules k locations legs latest depot route (length result))
-      (five-numbers (problem locations legs latest depot) route (polish (problem locations legs latest depot) k allowance route) ++ drop 5 result)
-      result
-  pub demand3 : answer ≡ 0 → Demand3 (problem locations legs latest depot) (patterns k) k allowance route (handed-back result′ route′)
+pub record PolishReply (q : Question) (result : List ℕ) (answer : ℕ) (route′ result′ : List ℕ) : Type 0 where
+  pub number-is : answer ≡ refusal (polish-rules q (length result))
+  pub route-is : route′ ≡ if-taken (polish-rules q (length result)) (asked q .route) (q .route)
+  pub result-is : result′ ≡ if-taken (polish-rules q (length result)) (five-numbers (problem (q .trip)) (q .route) (asked q) ++ drop 5 result) result
+  pub demand3 : answer ≡ 0 → Demand3 (problem (q .trip)) (patterns (q .k)) (q .k) (q .allowance) (q .route) (handed-back result′ route′)
 
--- ---- doable; apply and undo promise what they do over cut points (crate cut_moves)
+-- ---- doable; apply and undo promise what they do over cut points (crate move_calls)
 
 -- 1 yes or 0 no.
 abbrev pub doable-values : ℕ → ℕ → ℕ → List ℕ → List ℕ → List ℕ
@@ -114,15 +112,11 @@ doable-values k round n rounds positions = cond (doable k round n rounds positio
 
 -- Stops and result are those of document 01's run; and whenever it returns 0 each round holds the same stops, none is reached after a spent one, and with k
 -- from 3 to 5 each that finished is k-optimal (`Ran`).
-pub record RunReply (k allowance locations : ℕ) (legs latest stops lengths depots pins result : List ℕ) (answer : ℕ) (stops′ result′ : List ℕ) : Type 0 where
-  pub number-is : answer ≡ refusal (run-rules k locations legs latest stops lengths depots pins (length result))
-  pub stops-are : stops′
-      ≡ if-taken (run-rules k locations legs latest stops lengths depots pins (length result)) (routes (run (problem locations legs latest) k allowance (rounds lengths depots pins stops))) stops
-  pub result-is : result′
-      ≡ if-taken (run-rules k locations legs latest stops lengths depots pins (length result))
-      (numbers (run (problem locations legs latest) k allowance (rounds lengths depots pins stops)) ++ drop (4 * length lengths) result)
-      result
-  pub ran : answer ≡ 0 → Ran k allowance locations legs latest stops lengths depots pins result stops′ result′
+pub record RunReply (k allowance : ℕ) (T : Tables) (F : Fleet) (result : List ℕ) (answer : ℕ) (stops′ result′ : List ℕ) : Type 0 where
+  pub number-is : answer ≡ refusal (run-rules k T F (length result))
+  pub stops-are : stops′ ≡ if-taken (run-rules k T F (length result)) (routes (run k allowance (rounds T F))) (F .stops)
+  pub result-is : result′ ≡ if-taken (run-rules k T F (length result)) (numbers (run k allowance (rounds T F)) ++ drop (4 * length (F .lengths)) result) result
+  pub ran : answer ≡ 0 → Ran k allowance T F result stops′ result′
 
 -- ---- nearby cuts
 

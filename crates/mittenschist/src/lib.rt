@@ -4,10 +4,11 @@ ghost use Prim.Native.Nat.{_+_};
 ghost use Rattle.theory.specs.Route.{tour-length};
 ghost use Rattle.theory.specs.Polish.{move-at};
 ghost use Rattle.theory.specs.Moves.{patterns};
-ghost use Rattle.theory.specs.Tables.{legs-only};
-ghost use Rattle.cut_moves.specs.Entries.{DoMoveReply, UndoReply, doable-rules};
+ghost use Rattle.theory.specs.Tables.{tables, trip, fleet, legs-only};
+ghost use Rattle.theory.specs.Question.{question};
+ghost use Rattle.move_calls.specs.Entries.{DoMoveReply, UndoReply, doable-rules};
 ghost use Rattle.moves.specs.Moves.{length-change, pattern-values};
-ghost use Rattle.judging.specs.Rules.{route-length-rules, pattern-rules, delta-rules};
+ghost use Rattle.refusal_rules.specs.Rules.{route-length-rules, pattern-rules, delta-rules};
 ghost use Rattle.mittenschist.specs.Promises.{NextCutSetReply, RouteLengthReply, ReconnectionReply, ReconnectReply, DeltaReply, FeasibleReply, PolishReply, Written, NextCutSetWritten, FeasibleWritten, doable-values, RunReply, NearbyReply, NearbyWritten};
 use theory::CutStep;
 use theory::Feasibility;
@@ -20,9 +21,9 @@ use theory::RouteLength;
 pub fn reconnection_at(k: usize, pattern: usize) -> ReconnectionAt
     ensures { λ r. ⌜ ReconnectionReply k pattern r ⌝ }
 {
-    let refused = judging::pattern_refusal(k, pattern);
+    let refused = refusal_rules::pattern_refusal(k, pattern);
     if refused != 0 {
-        return replies::no_pattern(refused);
+        return entry_results::no_pattern(refused);
     }
     let found = patterns::pattern_at(k, pattern);
     ReconnectionAt {
@@ -35,11 +36,11 @@ pub fn reconnection_at(k: usize, pattern: usize) -> ReconnectionAt
 pub fn next_cut_set(k: usize, n: usize, cuts: &mut [usize]) -> CutStep
     ensures { λ r. ⌜ NextCutSetReply k n (now (cuts .entry)) r (now (cuts .exit)) ⌝ }
 {
-    let refused = judging::next_cut_set_refusal(k, n, &cuts[..]);
+    let refused = refusal_rules::next_cut_set_refusal(k, n, &cuts[..]);
     if refused != 0 {
         return CutStep::Refused(refused);
     }
-    replies::step_of(cuts::next_cut_set(cuts, n))
+    entry_results::step_of(cut_step::next_cut_set(cuts, n))
 }
 
 // The route after the pattern is applied at the cuts, into the first places of out. Refuses 1, 5, 6, 7, 21.
@@ -47,7 +48,7 @@ pub fn reconnect(k: usize, pattern: usize, cuts: &[usize], route: &[u32], out: &
     ensures { λ r. ⌜ ReconnectReply k pattern (now (cuts .entry)) (now (route .entry)) (now (out .entry)) r (now (out .exit)) ⌝ }
 {
     let n = route.len();
-    let refused = judging::reconnect_refusal(k, pattern, cuts, n, out.len());
+    let refused = refusal_rules::reconnect_refusal(k, pattern, cuts, n, out.len());
     if refused != 0 {
         return refused;
     }
@@ -59,7 +60,7 @@ pub fn reconnect(k: usize, pattern: usize, cuts: &[usize], route: &[u32], out: &
 pub fn route_length(locations: usize, legs: &[u32], depot: u32, route: &[u32]) -> RouteLength
     ensures { λ r. ⌜ RouteLengthReply locations (now (legs .entry)) depot (now (route .entry)) r ⌝ }
 {
-    let refused = judging::route_length_refusal(locations, legs, depot, route);
+    let refused = refusal_rules::route_length_refusal(locations, legs, depot, route);
     if refused != 0 {
         return RouteLength::Refused(refused);
     }
@@ -78,7 +79,7 @@ pub fn delta(
 ) -> LengthDelta
     ensures { λ r. ⌜ DeltaReply k pattern (now (cuts .entry)) locations (now (legs .entry)) depot (now (route .entry)) r ⌝ }
 {
-    let refused = judging::delta_refusal(k, pattern, cuts, locations, legs, depot, route);
+    let refused = refusal_rules::delta_refusal(k, pattern, cuts, locations, legs, depot, route);
     if refused != 0 {
         return LengthDelta::Refused(refused);
     }
@@ -93,7 +94,7 @@ pub fn route_feasible(
     depot: u32,
     route: &[u32],
 ) -> Feasibility
-    ensures { λ r. ⌜ FeasibleReply locations (now (legs .entry)) (now (latest .entry)) depot (now (route .entry)) r ⌝ }
+    ensures { λ r. ⌜ FeasibleReply (trip locations (now (legs .entry)) (now (latest .entry)) depot) (now (route .entry)) r ⌝ }
 {
     let refused = refusals::check_problem(locations, legs, latest, depot, route);
     if refused != 0 {
@@ -115,9 +116,9 @@ pub extern "C" fn mittenschist_polish_route(
     route: &mut [u32],
     result: &mut [u64],
 ) -> u32
-    ensures { λ r. ⌜ PolishReply k allowance locations (now (legs .entry)) (now (latest .entry)) depot (now (route .entry)) (now (result .entry)) r (now (route .exit)) (now (result .exit)) ⌝ }
+    ensures { λ r. ⌜ PolishReply (question k allowance locations (now (legs .entry)) (now (latest .entry)) depot (now (route .entry))) (now (result .entry)) r (now (route .exit)) (now (result .exit)) ⌝ }
 {
-    let refused = judging::polish_refusal(
+    let refused = refusal_rules::polish_refusal(
         k,
         locations,
         legs,
@@ -141,7 +142,7 @@ pub extern "C" fn mittenschist_polish_route(
 pub extern "C" fn mittenschist_reconnection_at(k: usize, pattern: usize, result: &mut [u64]) -> u32
     ensures { λ r. ⌜ Written (pattern-rules k pattern) (k + 2) (pattern-values k pattern) (now (result .entry)) r (now (result .exit)) ⌝ }
 {
-    let refused = judging::pattern_refusal_with_room(k, pattern, result.len());
+    let refused = refusal_rules::pattern_refusal_with_room(k, pattern, result.len());
     if refused != 0 {
         return refused;
     }
@@ -159,12 +160,12 @@ pub extern "C" fn mittenschist_next_cut_set(
 ) -> u32
     ensures { λ r. ⌜ NextCutSetWritten k n (now (cuts .entry)) (now (result .entry)) r (now (cuts .exit)) (now (result .exit)) ⌝ }
 {
-    let refused = judging::next_cut_set_refusal_with_room(k, n, &cuts[..], result.len());
+    let refused = refusal_rules::next_cut_set_refusal_with_room(k, n, &cuts[..], result.len());
     if refused != 0 {
         return refused;
     }
-    let moved = cuts::next_cut_set(cuts, n);
-    replies::put_flag(moved, result)
+    let moved = cut_step::next_cut_set(cuts, n);
+    entry_results::put_flag(moved, result)
 }
 
 // Refuses 1, 5, 6, 7, 21.
@@ -193,7 +194,7 @@ pub extern "C" fn mittenschist_route_length(
     ensures { λ r. ⌜ Written (route-length-rules locations (now (legs .entry)) depot (now (route .entry))) 1 (tour-length (legs-only locations (now (legs .entry)) depot) (now (route .entry)) ∷ []) (now (result .entry)) r (now (result .exit)) ⌝ }
 {
     let answer = route_length(locations, legs, depot, route);
-    replies::put_length(answer, result)
+    entry_results::put_length(answer, result)
 }
 
 // Refuses 1 to 7, 21.
@@ -211,7 +212,7 @@ pub extern "C" fn mittenschist_delta(
     ensures { λ r. ⌜ Written (delta-rules k pattern (now (cuts .entry)) locations (now (legs .entry)) depot (now (route .entry))) 1 (length-change (legs-only locations (now (legs .entry)) depot) (move-at (patterns k) (now (cuts .entry)) pattern) (now (route .entry)) ∷ []) (now (result .entry)) r (now (result .exit)) ⌝ }
 {
     let answer = delta(k, pattern, cuts, locations, legs, depot, route);
-    replies::put_delta(answer, result)
+    entry_results::put_delta(answer, result)
 }
 
 // A late position, or the number of stops where every deadline is kept. Refuses 2, 3, 4, 5, 21.
@@ -224,10 +225,10 @@ pub extern "C" fn mittenschist_route_feasible(
     route: &[u32],
     result: &mut [u64],
 ) -> u32
-    ensures { λ r. ⌜ FeasibleWritten locations (now (legs .entry)) (now (latest .entry)) depot (now (route .entry)) (now (result .entry)) r (now (result .exit)) ⌝ }
+    ensures { λ r. ⌜ FeasibleWritten (trip locations (now (legs .entry)) (now (latest .entry)) depot) (now (route .entry)) (now (result .entry)) r (now (result .exit)) ⌝ }
 {
     let answer = route_feasible(locations, legs, latest, depot, route);
-    replies::put_feasibility(answer, route.len(), result)
+    entry_results::put_feasibility(answer, route.len(), result)
 }
 
 // Applies a pattern at the cuts: the old stops go into the first n journal places. Refuses 1, 5, 6, 7, 8, 21.
@@ -243,7 +244,7 @@ pub extern "C" fn mittenschist_k_opt_do_move(
 ) -> u32
     ensures { λ r. ⌜ DoMoveReply k pattern round (now («cut_rounds» .entry)) (now («cut_positions» .entry)) (now (route .entry)) (now (journal .entry)) r (now (route .exit)) (now (journal .exit)) ⌝ }
 {
-    cut_moves::do_move_lists(k, pattern, round, cut_rounds, cut_positions, route, journal)
+    move_calls::do_move_lists(k, pattern, round, cut_rounds, cut_positions, route, journal)
 }
 
 // Puts the stops of the journal back. Refuses 5, 22.
@@ -251,7 +252,7 @@ pub extern "C" fn mittenschist_k_opt_do_move(
 pub extern "C" fn mittenschist_k_opt_undo_move(route: &mut [u32], journal: &[u32]) -> u32
     ensures { λ r. ⌜ UndoReply (now (route .entry)) (now (journal .entry)) r (now (route .exit)) ⌝ }
 {
-    cut_moves::k_opt_undo_move(route, journal)
+    move_calls::k_opt_undo_move(route, journal)
 }
 
 // 1 yes or 0 no. Refuses 1, 5, 6, 21.
@@ -267,8 +268,8 @@ pub extern "C" fn mittenschist_k_opt_is_doable(
 ) -> u32
     ensures { λ r. ⌜ Written (doable-rules k pattern n) 1 (doable-values k round n (now («cut_rounds» .entry)) (now («cut_positions» .entry))) (now (result .entry)) r (now (result .exit)) ⌝ }
 {
-    let answer = cut_moves::is_doable_lists(k, pattern, round, n, cut_rounds, cut_positions);
-    replies::put_doable(answer, result)
+    let answer = move_calls::is_doable_lists(k, pattern, round, n, cut_rounds, cut_positions);
+    entry_results::put_doable(answer, result)
 }
 
 // The run over rounds that lie end to end. Refuses 1, 2, 3, 4, 5, 21. The result receives four numbers a round: state, examined, accepted, applied.
@@ -285,10 +286,10 @@ pub extern "C" fn mittenschist_run_list_k_opt(
     pins: &[u8],
     result: &mut [u64],
 ) -> u32
-    ensures { λ r. ⌜ RunReply k allowance locations (now (legs .entry)) (now (latest .entry)) (now (stops .entry)) (now (lengths .entry)) (now (depots .entry)) (now (pins .entry)) (now (result .entry)) r (now (stops .exit)) (now (result .exit)) ⌝ }
+    ensures { λ r. ⌜ RunReply k allowance (tables locations (now (legs .entry)) (now (latest .entry))) (fleet (now (stops .entry)) (now (lengths .entry)) (now (depots .entry)) (now (pins .entry))) (now (result .entry)) r (now (stops .exit)) (now (result .exit)) ⌝ }
 {
     let lent = result.len();
-    let refused = judging::run_refusal(
+    let refused = refusal_rules::run_refusal(
         k,
         locations,
         legs,
@@ -328,7 +329,14 @@ pub fn nearby_cuts(
 ) -> Listing
     ensures { λ r. ⌜ NearbyReply n (now (distances .entry)) k «min_segment_len» «max_nearby» (now (sets .entry)) r (now (sets .exit)) ⌝ }
 {
-    let refused = judging::nearby_refusal(n, distances, k, min_segment_len, max_nearby, sets.len());
+    let refused = refusal_rules::nearby_refusal(
+        n,
+        distances,
+        k,
+        min_segment_len,
+        max_nearby,
+        sets.len(),
+    );
     if refused != 0 {
         return Listing::Refused(refused);
     }
@@ -348,7 +356,7 @@ pub extern "C" fn mittenschist_nearby_cuts(
 ) -> u32
     ensures { λ r. ⌜ NearbyWritten n (now (distances .entry)) k «min_segment_len» «max_nearby» (now (sets .entry)) (now (result .entry)) r (now (sets .exit)) (now (result .exit)) ⌝ }
 {
-    let refused = judging::nearby_refusal_with_room(
+    let refused = refusal_rules::nearby_refusal_with_room(
         n,
         distances,
         k,
@@ -361,5 +369,5 @@ pub extern "C" fn mittenschist_nearby_cuts(
         return refused;
     }
     let answer = nearby::nearby_cuts(n, distances, k, min_segment_len, max_nearby, sets);
-    replies::put_listing(answer, result)
+    entry_results::put_listing(answer, result)
 }

@@ -12,7 +12,7 @@ use Rattle.theory.specs.declared.KOptReconnection.{KOptReconnection}
 use Rattle.theory.proofs.Moves.{rearranges}
 use Rattle.theory.proofs.Index.{mem-getD, length-pattern}
 use Rattle.theory.proofs.ForK.{pattern-for-k}
-use Rattle.patterns.specs.Enumeration.{pattern, Holds}
+use Rattle.patterns.specs.Enumeration.{pattern, HoldsPattern}
 use Rattle.moves.specs.Moves.{pattern-values}
 use Rattle.moves.proofs.Shown.{mask-behind}
 
@@ -24,7 +24,7 @@ listed-once : (k : ℕ) (p : Pattern) → List·Memᴰ p (patterns k) → 2 ≤ 
 listed-once zero p i h = absurd (omega arith)
 listed-once (suc m) p i h = record { once = rearranges m p i }
 
-module _ (k index : ℕ) (known : index < length (patterns k)) (found : KOptReconnection) (holds : Holds k (pattern k index) found) where
+module _ (k index : ℕ) (known : index < length (patterns k)) (found : KOptReconnection) (holds : HoldsPattern k (pattern k index) found) where
   member : List·Memᴰ (pattern k index) (patterns k)
   member = mem-getD (patterns k) index (record { order = []; mask = 0 }) known
 
@@ -45,7 +45,7 @@ module _ (k index : ℕ) (known : index < length (patterns k)) (found : KOptReco
       set (take (k + 1) (found .«segment_order») ++ drop (length (take (k + 1) (found .«segment_order»))) result) (k + 1) (found .«reverse_mask») ≡ pattern-values k index ++ drop (k + 2) result
   values-are result h = rw (order-is, holds .mask) (mask-behind (pattern k index .order) result (pattern k index .mask) k size h)
 
-module _ (k index : ℕ) (cuts route : List ℕ) (cut-set : CutSet k (length route) cuts) (known : index < length (patterns k)) (found : KOptReconnection) (holds : Holds k (pattern k index) found) where
+module _ (k index : ℕ) (cuts route : List ℕ) (cut-set : CutSet k (length route) cuts) (known : index < length (patterns k)) (found : KOptReconnection) (holds : HoldsPattern k (pattern k index) found) where
   pub own-cuts : CutSet (length cuts) (length route) cuts
   own-cuts = rw (cut-set .many) cut-set
 

@@ -1,4 +1,5 @@
 // A move by the index of its pattern: its route and its change of the length. No entry: the crates above call it.
+use theory::STOPS;
 ghost use mathlib.Core.Path.{_≡_};
 ghost use mathlib.Core.List.{_++_};
 ghost use Prim.Native.Nat.{_+_, _≤_};
@@ -60,11 +61,11 @@ pub fn delta_pattern(
     let order = found.segment_order;
     let mask = found.reverse_mask;
     let segments = k + 1;
-    let mut forward = [0u64; 512];
-    let mut backward = [0u64; 512];
+    let mut forward = [0u64; STOPS];
+    let mut backward = [0u64; STOPS];
     costs::forward_sums(locations, legs, route, &mut forward);
     costs::backward_sums(locations, legs, route, &mut backward);
-    deltas::delta(
+    costs::delta(
         locations,
         legs,
         depot,

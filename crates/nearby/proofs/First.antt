@@ -13,12 +13,12 @@ use lib.Seq.{take-suc-set}
 use lib.Ieee.{Float}
 use borrow.Author.Tests.{ltb-true}
 use Rattle.theory.specs.Moves.{upfrom}
-use Rattle.nearest.specs.Neighbours.{kept}
-use Rattle.neighbours.specs.Memo.{Memo}
-use Rattle.pouring.specs.Pouring.{pour}
-use Rattle.branches.specs.Branch.{branch, behind-front}
+use Rattle.nearby_nearest.specs.Neighbours.{eligible}
+use Rattle.nearby_neighbours.specs.Memo.{Memo}
+use Rattle.nearby_last_cut.specs.Pouring.{pour}
+use Rattle.nearby_from_cut.specs.Branch.{branch, behind-front}
 use Rattle.nearby.specs.Walk.{walk, nearby-sets}
-use Rattle.pouring.proofs.Pour.{pour-on, pour-full, poured-most}
+use Rattle.nearby_last_cut.proofs.Pour.{pour-on, pour-full, poured-most}
 
 pub memo-empty : (distances : List Float) (n count : ℕ) → n ≤ 512 → Memo distances n count (replicate 16896 0)
 memo-empty distances n count h =
@@ -93,6 +93,6 @@ module _ (own : ℕ → ℕ → List ℕ) (n k m : ℕ) where
           let e : seen′ ≡ capacity + 1 = omega (arith, first-most l) in
           sym (ap (λ (s : ℕ). pour capacity k s lent′ (walk-from (first + 1))) e ∙ pour-full capacity k lent′ (walk-from (first + 1)) ∙ ap (λ (s : ℕ). (s, lent′)) (sym e)) ∙ first-turned
 
-pub nearby-start : (distances : List Float) (n k m count : ℕ) → 1 ≤ m → walk-from (kept distances n m count) n k m m ≡ nearby-sets distances n k m count
+pub nearby-start : (distances : List Float) (n k m count : ℕ) → 1 ≤ m → walk-from (eligible distances n m count) n k m m ≡ nearby-sets distances n k m count
 unfolding nearby-sets
-nearby-start distances n k m count l = walk-start (kept distances n m count) n k m l
+nearby-start distances n k m count l = walk-start (eligible distances n m count) n k m l

@@ -7,7 +7,7 @@ use lib.ListN.{length}
 use lib.Ieee.{Float}
 use Rattle.theory.specs.declared.Listing.the-variants as Listed
 use Rattle.nearby.specs.Walk.{nearby-sets}
-use Rattle.pouring.specs.Pouring.{pour}
+use Rattle.nearby_last_cut.specs.Pouring.{pour}
 use Rattle.nearby.specs.Listing.{Lists}
 use Rattle.nearby.proofs.Pour.{Each, lent-as, more-as, ended-as}
 use Rattle.nearby.proofs.Sets.{sets-spaced}

@@ -12,7 +12,7 @@ use lib.ListN.{length, take, drop, length-append, length-take}
 use lib.Seq.{sets, take-nil, sets-eq}
 use borrow.Author.Tests.{ltb-true, ltb-false, lt-ltb, le-ltb}
 use Rattle.theory.proofs.Stores.{sets-append}
-use Rattle.pouring.specs.Pouring.{pour}
+use Rattle.nearby_last_cut.specs.Pouring.{pour}
 
 -- Each of the lists has k entries.
 abbrev pub Each : ℕ → List (List ℕ) → Type 0

@@ -12,13 +12,13 @@ use lib.ListN.{length, getD, take}
 use lib.Ieee.{Float, lt}
 use borrow.Author.Tests.{not-true, eqb-false, ltb-false}
 use Rattle.theory.specs.Moves.{upfrom}
-use Rattle.theory.specs.Refusals.{some}
+use Rattle.theory.specs.Refusals.{any}
 use Rattle.theory.proofs.Moves.{of-flatMap, upfrom-range}
 use Rattle.theory.proofs.Distinct.{Distinct, distinct-upfrom, distinct-append}
-use Rattle.nearest.specs.Neighbours.{passing, nearest, nearest-first, neighbours, kept, distance}
-use Rattle.nearest.proofs.Passing.{of-passing}
-use Rattle.branches.specs.Branch.{none-there, goes-on, turns, branch}
-use Rattle.branches.proofs.Turns.{kept-range}
+use Rattle.nearby_nearest.specs.Neighbours.{passing, nearest, nearest-first, neighbours, eligible, distance}
+use Rattle.nearby_nearest.proofs.Passing.{of-passing}
+use Rattle.nearby_from_cut.specs.Branch.{none-there, goes-on, turns, branch}
+use Rattle.nearby_from_cut.proofs.Turns.{kept-range}
 use Rattle.nearby.specs.Walk.{walk, nearby-sets, Spaced}
 
 -- ---- a set of a branch begins with an entry, and goes on with a set under it
@@ -47,7 +47,7 @@ module _ (own : ℕ → List ℕ) (below : List ℕ → List (List ℕ)) where
 
 module _ (distances : List Float) (n m count : ℕ) where
   abbrev own : ℕ → ℕ → List ℕ
-  own = kept distances n m count
+  own = eligible distances n m count
 
   branch-spaced : (behind : ℕ) (list : List ℕ) (low : ℕ) → ((p : ℕ) → List·Memᴰ p list → (low + m ≤ p) × (p ≤ n - m * suc behind)) → m * suc behind ≤ n →
       (s : List ℕ) → List·Memᴰ s (branch own behind list) → (length s ≡ suc behind) × Spaced m low s n
@@ -114,7 +114,7 @@ module _ (d : ℕ → Float) where
   without p l = passing (λ q. not (eqb q p)) l
 
   abbrev candidates : List ℕ → List ℕ
-  candidates l = passing (λ p. not (some (λ q. lt (d q) (d p)) l)) l
+  candidates l = passing (λ p. not (any (λ q. lt (d q) (d p)) l)) l
 
   first-in : (count : ℕ) (l : List ℕ) (x : ℕ) → List·Memᴰ x (nearest-first d count l) → List·Memᴰ x l
   unfolding nearest-first nearest
@@ -122,7 +122,7 @@ module _ (d : ℕ → Float) where
   first-in (suc count) l x i =
       let t = one-in (λ p. p ∷ nearest-first d count (without p l)) (candidates l) x i in
       ⊎-elim
-      (λ e. Memᴰ·cast e (of-passing (λ p. not (some (λ q. lt (d q) (d p)) l)) l (t .0) (t .1 .0) .0))
+      (λ e. Memᴰ·cast e (of-passing (λ p. not (any (λ q. lt (d q) (d p)) l)) l (t .0) (t .1 .0) .0))
       (λ j. of-passing (λ q. not (eqb q (t .0))) l x (first-in count (without (t .0) l) x j) .0)
       (List·Memᴰ·cases-cons (t .1 .1))
 
@@ -137,8 +137,8 @@ module _ (d : ℕ → Float) where
           subst Distinct (sym (append-nil (p ∷ nearest-first d count (without p l))))
           (λ i. eqb-false p p (not-true (eqb p p) (of-passing (λ q. not (eqb q p)) l p (first-in count (without p l) p i) .1)) refl, h p)
 
-pub kept-distinct : (distances : List Float) (n m count missing cut : ℕ) → Distinct (kept distances n m count missing cut)
-unfolding kept neighbours
+pub kept-distinct : (distances : List Float) (n m count missing cut : ℕ) → Distinct (eligible distances n m count missing cut)
+unfolding eligible neighbours
 kept-distinct distances n m count missing cut =
     distinct-passing (λ p. leb (cut + m) p && leb p (n - m * missing)) (neighbours distances n count cut)
     (first-distinct (distance distances n cut) count (passing (λ p. not (eqb p cut)) (upfrom 0 n)))
@@ -187,6 +187,6 @@ pub sets-distinct : (distances : List Float) (n k m count : ℕ) → Distinct (n
 unfolding nearby-sets walk
 sets-distinct distances n k m count = go (ltb n ((k + 1) * m))
   where
-    go : (b : Bool) → Distinct (cond b [] (flatMap (λ f. map (λ s. f ∷ s) (branch (kept distances n m count) (k - 2) (kept distances n m count (k - 1) f))) (upfrom m (n - k * m + 1 - m))))
+    go : (b : Bool) → Distinct (cond b [] (flatMap (λ f. map (λ s. f ∷ s) (branch (eligible distances n m count) (k - 2) (eligible distances n m count (k - 1) f))) (upfrom m (n - k * m + 1 - m))))
     go true = tt
-    go false = firsts-distinct (kept distances n m count) (kept-distinct distances n m count) k (upfrom m (n - k * m + 1 - m)) (distinct-upfrom m (n - k * m + 1 - m))
+    go false = firsts-distinct (eligible distances n m count) (kept-distinct distances n m count) k (upfrom m (n - k * m + 1 - m)) (distinct-upfrom m (n - k * m + 1 - m))

@@ -6,11 +6,11 @@ use Prim.Native.Nat.{ℕ, _*_, _/_, _≤_}
 use lib.Dec.{ltb}
 use lib.ListN.{length, take, drop}
 use lib.Ieee.{Float}
-use Rattle.theory.specs.Refusals.{some, no-number}
+use Rattle.theory.specs.Refusals.{any, no-number}
 use Rattle.theory.specs.Answers.{listing-answer, reply}
 use Rattle.theory.specs.declared.Listing.{Listing}
-use Rattle.pouring.specs.declared.NearbyCutState.{NearbyCutState}
-use Rattle.pouring.specs.Pouring.{Room}
+use Rattle.nearby_last_cut.specs.declared.NearbyCutState.{NearbyCutState}
+use Rattle.nearby_last_cut.specs.Pouring.{Room}
 use Rattle.nearby.specs.Walk.{nearby-sets, Spaced}
 
 pub record NearbyInput (n : ℕ) (distances : List Float) (k m count lent : ℕ) : Type 0 where
@@ -21,7 +21,7 @@ pub record NearbyInput (n : ℕ) (distances : List Float) (k m count lent : ℕ)
   pub short : m ≤ 512
   pub neighbours : count ≤ 32
   pub square : length distances ≡ n * n
-  pub numbers : some no-number distances ≡ false
+  pub numbers : any no-number distances ≡ false
   pub room : k ≤ lent
 
 -- "The call writes sets until no whole set fits any more."

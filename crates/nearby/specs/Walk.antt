@@ -5,8 +5,8 @@ use Prim.Native.Nat.{ℕ, _+_, _-_, _*_, _≤_}
 use lib.Dec.{ltb}
 use lib.Ieee.{Float}
 use Rattle.theory.specs.Moves.{upfrom}
-use Rattle.nearest.specs.Neighbours.{kept}
-use Rattle.branches.specs.Branch.{branch}
+use Rattle.nearby_nearest.specs.Neighbours.{eligible}
+use Rattle.nearby_from_cut.specs.Branch.{branch}
 
 -- "None if n < (k+1)·m. The first cut runs upward from m to n − k·m." "When the first cut is dropped, the next first cut follows."
 unfoldable pub walk : (ℕ → ℕ → List ℕ) → ℕ → ℕ → ℕ → List (List ℕ)
@@ -16,8 +16,8 @@ walk own n k m =
 
 -- The walk over the neighbours that the table gives.
 unfoldable pub nearby-sets : List Float → ℕ → ℕ → ℕ → ℕ → List (List ℕ)
-unfolding walk kept
-nearby-sets distances n k m count = walk (kept distances n m count) n k m
+unfolding walk eligible
+nearby-sets distances n k m count = walk (eligible distances n m count) n k m
 
 -- Segments of at least m stops: from `low` to the first cut, between the cuts, and from the last cut to n.
 abbrev pub Spaced : ℕ → ℕ → List ℕ → ℕ → Type 0

@@ -1,8 +1,8 @@
 // The listing of the nearby cut sets, after nearby_state.rs. No entry is here.
-use pouring::NearbyCutState;
+use nearby_last_cut::NearbyCutState;
 ghost use mathlib.Core.Path.{_≡_};
 ghost use lib.ListN.{length};
-ghost use Rattle.pouring.specs.Pouring.{pour};
+ghost use Rattle.nearby_last_cut.specs.Pouring.{pour};
 ghost use Rattle.nearby.specs.Walk.{nearby-sets};
 ghost use Rattle.nearby.specs.Listing.{NearbyInput, Lists, sets-of-state, Listable};
 
@@ -17,7 +17,7 @@ fn first_cuts(state: NearbyCutState, distances: &[f64], lent: &mut [usize]) -> u
     let mut seen = 0;
     let mut first = state.min_segment_len;
     while first + state.k * state.min_segment_len <= state.len {
-        let number = branches::neighbours_of(
+        let size = nearby_from_cut::neighbours_of(
             state,
             distances,
             state.k - 1,
@@ -26,11 +26,11 @@ fn first_cuts(state: NearbyCutState, distances: &[f64], lent: &mut [usize]) -> u
             &mut own,
         );
         cuts[0] = first;
-        seen = branches::branch(
+        seen = nearby_from_cut::branch(
             state,
             distances,
             state.k - 2,
-            &own[..number],
+            &own[..size],
             cuts,
             seen,
             &mut table,

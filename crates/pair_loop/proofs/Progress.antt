@@ -8,15 +8,16 @@ use native.Mathlib.Omega.{arith}
 use borrow.Author.Tests.{ltb-true, lt-ltb, le-ltb, eqb-true, eqb-false}
 use lib.Dec.{ltb, eqb}
 use lib.ListN.{length}
+use Rattle.theory.specs.Tables.{Trip}
 use Rattle.theory.specs.Moves.{total, upfrom}
 use Rattle.theory.specs.Route.{Problem, count}
 use Rattle.theory.specs.Scan.{Reply}
 use Rattle.pair_loop.specs.declared.PairLoop.{PairLoop}
 use Rattle.pair_loop.specs.Parts.{Going}
-use Rattle.pair_loop.specs.PairLoop.{PairsTried, reply-of, so-far, spent, examine, pair, row, pass, goes-on, passes, pair-loop}
-use Rattle.reversal.specs.Reversal.{turned, accepts}
-use Rattle.reversal.proofs.Turning.{total-turned}
-use Rattle.reversal.proofs.Trying.{timed-rearranged}
+use Rattle.pair_loop.specs.PairLoop.{PairsTried, reply-of, so-far, spent, examine, pair, sweep, pass, goes-on, passes, pair-loop}
+use Rattle.pair_reversal.specs.Reversal.{turned, accepts}
+use Rattle.pair_reversal.proofs.Turning.{total-turned}
+use Rattle.pair_reversal.proofs.Trying.{timed-rearranged}
 
 -- What holds of all that the loop comes to.
 pub record Bounded (allowance : ℕ) (s : Reply (List ℕ)) : Type 0 where
@@ -83,13 +84,13 @@ module _ (P : Problem) (allowance : ℕ) where
       by true e false l false = record { same = λ g. refl; more = omega arith; unchanged = λ k. refl; each = omega arith; bounded = one-more l (omega arith) }
 
   module _ (n : ℕ) where
-    onward-row : (s : Reply (List ℕ)) (i : ℕ) → Onward allowance s (row P allowance n s i)
-    unfolding row
-    onward-row s i = onward-fold allowance (suc i) (pair P allowance _ _ i) (λ t j h. onward-pair _ _ i t j (omega arith)) (n - suc i) (suc i) s (omega arith)
+    onward-sweep : (s : Reply (List ℕ)) (i : ℕ) → Onward allowance s (sweep P allowance n s i)
+    unfolding sweep
+    onward-sweep s i = onward-fold allowance (suc i) (pair P allowance _ _ i) (λ t j h. onward-pair _ _ i t j (omega arith)) (n - suc i) (suc i) s (omega arith)
 
     onward-pass : (s : Reply (List ℕ)) → Onward allowance s (pass P allowance n s)
     unfolding pass
-    onward-pass s = onward-fold allowance 0 (row P allowance n) (λ t i h. onward-row t i) (n - 1) 0 s (omega arith)
+    onward-pass s = onward-fold allowance 0 (sweep P allowance n) (λ t i h. onward-sweep t i) (n - 1) 0 s (omega arith)
 
     onward-passes : (more : ℕ) (s : Reply (List ℕ)) → Onward allowance s (passes P allowance n more s)
     unfolding passes
@@ -161,23 +162,23 @@ module _ (P : Problem) (allowance : ℕ) where
   unfolding pair-loop
   passes-first r = refl
 
-  module _ {locations : ℕ} {legs latest : List ℕ} {depot : ℕ} {counted : PairLoop} {r : List ℕ} (g : Going allowance locations legs latest depot counted r) where
+  module _ {T : Trip} {counted : PairLoop} {r : List ℕ} (g : Going allowance T counted r) where
     going-bounded : Bounded allowance (reply-of counted r)
     going-bounded = record { within = g .within; fewer = g .fewer; spent = λ e. absurd (false≢true (sym e ∙ g .going)) }
 
     still-going : {counted′ : PairLoop} {r′ : List ℕ} → Onward allowance (reply-of counted r) (reply-of counted′ r′) → counted′ .finished ≡ true →
-        Going allowance locations legs latest depot counted′ r′ × (length r′ ≡ length r)
+        Going allowance T counted′ r′ × (length r′ ≡ length r)
     still-going on f =
         let b = on .bounded going-bounded in
         let k = timed-rearranged (on .same) (g .timed) in
         (record { timed = k .0; going = f; within = b .within; fewer = b .fewer }, k .1)
 
-    pub going-after-row : (n i : ℕ) {counted′ : PairLoop} {r′ : List ℕ} → reply-of counted′ r′ ≡ row P allowance n (reply-of counted r) i → counted′ .finished ≡ true →
-        Going allowance locations legs latest depot counted′ r′ × (length r′ ≡ length r)
-    going-after-row n i e f = still-going (rw e (onward-row n (reply-of counted r) i)) f
+    pub going-after-sweep : (n i : ℕ) {counted′ : PairLoop} {r′ : List ℕ} → reply-of counted′ r′ ≡ sweep P allowance n (reply-of counted r) i → counted′ .finished ≡ true →
+        Going allowance T counted′ r′ × (length r′ ≡ length r)
+    going-after-sweep n i e f = still-going (rw e (onward-sweep n (reply-of counted r) i)) f
 
     pub going-after-pass : (n : ℕ) {counted′ : PairLoop} {r′ : List ℕ} → reply-of counted′ r′ ≡ pass P allowance n (reply-of counted r) → counted′ .finished ≡ true →
-        Going allowance locations legs latest depot counted′ r′ × (length r′ ≡ length r)
+        Going allowance T counted′ r′ × (length r′ ≡ length r)
     going-after-pass n e f = still-going (rw e (onward-pass n (reply-of counted r))) f
 
     -- A pass that the code made, on a route of n stops.

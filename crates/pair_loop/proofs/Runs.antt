@@ -4,7 +4,7 @@ use mathlib.Core.Bool.{cond}
 use mathlib.Core.List.{List, [], _∷_, map}
 use Prim.Native.Nat.{ℕ}
 use lib.ListN.{getD}
-use Rattle.theory.specs.Route.{Problem, tour-length, feasible}
+use Rattle.theory.specs.Route.{Problem, tour-length, timely}
 use Rattle.pair_loop.specs.PairLoop.{pair-loop}
 
 -- Rows of legs and the latest seconds, the allowance, the route.
@@ -69,5 +69,5 @@ runs =
     ∷ []
 
 pub runs-right : map (λ q. answer (q .0)) runs ≡ map (λ q. q .1) runs
-unfolding answer pair-loop tour-length feasible
+unfolding answer pair-loop tour-length timely
 runs-right = refl

@@ -9,7 +9,7 @@ use lib.ListN.{length, getD}
 use Rattle.theory.specs.Moves.{upfrom}
 use Rattle.theory.specs.Route.{Problem, count}
 use Rattle.theory.specs.Scan.{Reply}
-use Rattle.reversal.specs.Reversal.{turned, accepts}
+use Rattle.pair_reversal.specs.Reversal.{turned, accepts}
 use Rattle.pair_loop.specs.declared.PairLoop.{PairLoop}
 
 -- "The stop before i, or the depot."
@@ -38,14 +38,14 @@ unfolding examine
 pair P allowance a b i s j = cond (s .finished && not (eqb (s .examined) allowance)) (examine P a b i s j) (spent s)
 
 -- "a .. and b (stop i) are read once; for j from i+1 to n−1": "b is not read anew after a turn".
-unfoldable pub row : Problem → (allowance n : ℕ) → Reply (List ℕ) → (i : ℕ) → Reply (List ℕ)
+unfoldable pub sweep : Problem → (allowance n : ℕ) → Reply (List ℕ) → (i : ℕ) → Reply (List ℕ)
 unfolding pair upfrom
-row P allowance n s i = foldl (pair P allowance (stop-before (P .depot) (s .route) i) (getD (s .route) i 0) i) s (upfrom (suc i) (n - suc i))
+sweep P allowance n s i = foldl (pair P allowance (stop-before (P .depot) (s .route) i) (getD (s .route) i 0) i) s (upfrom (suc i) (n - suc i))
 
 -- "For i from 0 to n−2."
 unfoldable pub pass : Problem → (allowance n : ℕ) → Reply (List ℕ) → Reply (List ℕ)
-unfolding row upfrom
-pass P allowance n s = foldl (row P allowance n) s (upfrom 0 (n - 1))
+unfolding sweep upfrom
+pass P allowance n s = foldl (sweep P allowance n) s (upfrom 0 (n - 1))
 
 -- From s to t something was accepted, and the allowance was not reached.
 abbrev pub goes-on : Reply (List ℕ) → Reply (List ℕ) → Bool

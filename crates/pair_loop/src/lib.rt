@@ -1,10 +1,10 @@
-// The pair loop: the exact 2-opt of the Rust's list k-opt kernel. No entry: crate round and the program entries call it.
+// The pair loop: the exact 2-opt of the Rust's list k-opt kernel. No entry: crate run and the program replay_entries call it.
 ghost use mathlib.Core.Path.{_≡_};
 ghost use Prim.Native.Nat.{_<_};
 ghost use lib.ListN.{length};
-ghost use Rattle.theory.specs.Tables.{problem, Timed};
-ghost use Rattle.pair_loop.specs.PairLoop.{stop-before, row, pass, reply-of, PairsTried};
-ghost use Rattle.pair_loop.specs.Parts.{Going, Row};
+ghost use Rattle.theory.specs.Tables.{problem, Timed, trip};
+ghost use Rattle.pair_loop.specs.PairLoop.{stop-before, sweep, pass, reply-of, PairsTried};
+ghost use Rattle.pair_loop.specs.Parts.{Going, Sweep};
 
 // What the pair loop counted when it ended.
 pub struct PairLoop {
@@ -24,7 +24,7 @@ fn stop_before(depot: u32, route: &[u32], i: usize) -> u32
 }
 
 // The pairs of one i. The stop at i is not read anew after a turn, as in the Rust.
-fn try_row(
+fn try_sweep(
     allowance: u64,
     locations: usize,
     legs: &[u32],
@@ -34,8 +34,8 @@ fn try_row(
     so_far: PairLoop,
     route: &mut [u32],
 ) -> PairLoop
-    requires { ⌜ Row allowance locations (now legs) (now latest) depot i «so_far» (now route) ⌝ }
-    ensures { λ r. ⌜ reply-of r (now (route .exit)) ≡ row (problem locations (now (legs .entry)) (now (latest .entry)) depot) allowance (length (now (route .entry))) (reply-of «so_far» (now (route .entry))) i ⌝ }
+    requires { ⌜ Sweep allowance (trip locations (now legs) (now latest) depot) i «so_far» (now route) ⌝ }
+    ensures { λ r. ⌜ reply-of r (now (route .exit)) ≡ sweep (problem (trip locations (now (legs .entry)) (now (latest .entry)) depot)) allowance (length (now (route .entry))) (reply-of «so_far» (now (route .entry))) i ⌝ }
 {
     let mut examined = so_far.examined;
     let mut accepted = so_far.accepted;
@@ -51,7 +51,7 @@ fn try_row(
             };
         }
         examined += 1;
-        if reversal::try_pair(locations, legs, latest, depot, a, b, i, j, route) {
+        if pair_reversal::try_pair(locations, legs, latest, depot, a, b, i, j, route) {
             accepted += 1;
         }
         j += 1;
@@ -73,13 +73,13 @@ fn try_pass(
     so_far: PairLoop,
     route: &mut [u32],
 ) -> PairLoop
-    requires { ⌜ Going allowance locations (now legs) (now latest) depot «so_far» (now route) ⌝ }
-    ensures { λ r. ⌜ reply-of r (now (route .exit)) ≡ pass (problem locations (now (legs .entry)) (now (latest .entry)) depot) allowance (length (now (route .entry))) (reply-of «so_far» (now (route .entry))) ⌝ }
+    requires { ⌜ Going allowance (trip locations (now legs) (now latest) depot) «so_far» (now route) ⌝ }
+    ensures { λ r. ⌜ reply-of r (now (route .exit)) ≡ pass (problem (trip locations (now (legs .entry)) (now (latest .entry)) depot)) allowance (length (now (route .entry))) (reply-of «so_far» (now (route .entry))) ⌝ }
 {
     let mut passed = so_far;
     let mut i = 0;
     while i + 1 < route.len() {
-        passed = try_row(allowance, locations, legs, latest, depot, i, passed, route);
+        passed = try_sweep(allowance, locations, legs, latest, depot, i, passed, route);
         if !passed.finished {
             return passed;
         }
@@ -97,8 +97,8 @@ pub fn pair_loop(
     depot: u32,
     route: &mut [u32],
 ) -> PairLoop
-    requires { ⌜ Timed locations (now legs) (now latest) depot (now route) ⌝ }
-    ensures { λ r. ⌜ PairsTried (problem locations (now (legs .entry)) (now (latest .entry)) depot) allowance (now (route .entry)) r (now (route .exit)) ⌝ }
+    requires { ⌜ Timed (trip locations (now legs) (now latest) depot) (now route) ⌝ }
+    ensures { λ r. ⌜ PairsTried (problem (trip locations (now (legs .entry)) (now (latest .entry)) depot)) allowance (now (route .entry)) r (now (route .exit)) ⌝ }
 {
     let mut so_far = PairLoop {
         finished: true,

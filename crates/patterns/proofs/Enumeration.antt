@@ -9,11 +9,11 @@ use lib.ListN.{length, take, drop, set, length-map}
 use lib.Seq.{sets, drop-cons, drop-length, take-at}
 use Rattle.theory.specs.Moves.{orders, upfrom, patterns}
 use Rattle.theory.proofs.Index.{length-pattern, mem-getD, take-upfrom}
-use Rattle.permutations.specs.Rows.{rows, permutations}
+use Rattle.pattern_orders.specs.Rows.{rows, permutations}
 use Rattle.patterns.specs.Enumeration.{CutCount, no-pattern, pattern, orders-of, masks-of}
 use Rattle.patterns.specs.Turn.{middle-orders}
 use Rattle.theory.proofs.Stores.{sets-append}
-use Rattle.permutations.proofs.Stores.{sets-first}
+use Rattle.pattern_orders.proofs.Stores.{sets-first}
 use Rattle.patterns.proofs.Strides.{length-flatten}
 use Rattle.patterns.proofs.Counts.{few-patterns, orders-room, middle-room}
 

@@ -10,8 +10,8 @@ use Rattle.theory.specs.Moves.{patterns}
 use Rattle.theory.specs.Answers.{pattern-of}
 use Rattle.theory.specs.declared.KOptReconnection.{KOptReconnection}
 use Rattle.theory.proofs.Index.{length-pattern, mem-getD, getD-map}
-use Rattle.patterns.specs.Enumeration.{Listed, no-pattern, pattern, masks-of, Enumerated, Holds}
-use Rattle.permutations.proofs.Stores.{sets-first}
+use Rattle.patterns.specs.Enumeration.{Listed, no-pattern, pattern, masks-of, Enumerated, HoldsPattern}
+use Rattle.pattern_orders.proofs.Stores.{sets-first}
 use Rattle.patterns.proofs.Strides.{row-at}
 use Rattle.patterns.proofs.Enumeration.{each-order}
 
@@ -25,7 +25,7 @@ module _ (k index : ℕ) (listed : Listed k index) where
   length-listed = omega (arith, length-pattern k (pattern k index) (mem-getD (patterns k) index no-pattern (listed .known)))
 
   -- The struct holds the pattern.
-  pub held : (r : KOptReconnection) → Holds k (pattern k index) r → pattern-of r ≡ pattern k index
+  pub held : (r : KOptReconnection) → HoldsPattern k (pattern k index) r → pattern-of r ≡ pattern k index
   held r h =
       let o : take (r .len) (r .«segment_order») ≡ pattern k index .order = rw (h .segments, h .order) (take-at (pattern k index .order) (replicate (5 - k) 0) (k + 1) length-listed) in
       ap₂ (λ (o : List ℕ) (m : ℕ). record { order = o; mask = m }) o (h .mask)

@@ -44,7 +44,7 @@ pub record Listed (k index : ℕ) : Type 0 where
   pub known : index < length (patterns k)
 
 -- The struct holds the pattern, with 0 in the unused of six places.
-pub record Holds (k : ℕ) (p : Pattern) (r : KOptReconnection) : Type 0 where
+pub record HoldsPattern (k : ℕ) (p : Pattern) (r : KOptReconnection) : Type 0 where
   pub order : r .«segment_order» ≡ p .order ++ replicate (5 - k) 0
   pub mask : r .«reverse_mask» ≡ p .mask
   pub segments : r .len ≡ k + 1

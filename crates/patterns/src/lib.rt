@@ -1,11 +1,13 @@
 // The reconnection patterns for k cuts, after k_opt_reconnection.rs: an order of the k + 1 segments and a reversal mask each. No entry is here.
+use theory::ORDER_BYTES;
+use theory::PATTERNS;
 ghost use mathlib.Core.Path.{_≡_};
 ghost use mathlib.Core.List.{_++_, _∷_, []};
 ghost use Prim.Native.Nat.{_-_, _^_};
 ghost use lib.ListN.{length};
 ghost use lib.Seq.{sets};
 ghost use Rattle.theory.specs.Moves.{patterns};
-ghost use Rattle.patterns.specs.Enumeration.{CutCount, PatternRoom, Enumerated, pattern, Listed, Holds};
+ghost use Rattle.patterns.specs.Enumeration.{CutCount, PatternRoom, Enumerated, pattern, Listed, HoldsPattern};
 ghost use Rattle.patterns.specs.Turn.{OrderRoom, Ready, Put};
 
 // The reversals of the middle segments: 2 to the k - 1.
@@ -30,7 +32,7 @@ pub fn pattern_count(k: usize) -> usize
         2 => 1,
         3 => 7,
         4 => 47,
-        _ => 383,
+        _ => PATTERNS,
     }
 }
 
@@ -40,7 +42,7 @@ fn put_order(middle: &[u8], k: usize, out: &mut [u8], at: usize)
     ensures { λ _. ⌜ now (out .exit) ≡ sets (now (out .entry)) at (0 ∷ (now (middle .entry) ++ (k ∷ []))) ⌝ }
 {
     out[at] = 0;
-    permutations::copy_in(middle, out, at + 1);
+    pattern_orders::copy_in(middle, out, at + 1);
     out[at + k] = k as u8;
 }
 
@@ -64,7 +66,7 @@ pub fn enumerate_reconnections(k: usize, orders: &mut [u8], masks: &mut [u8]) ->
     ensures { λ r. ⌜ Enumerated k (now (orders .entry)) (now (masks .entry)) r (now (orders .exit)) (now (masks .exit)) ⌝ }
 {
     let mut permutations = [0u8; 96];
-    let _ = permutations::generate_permutations(
+    let _ = pattern_orders::generate_permutations(
         [1, 2, 3, 4],
         k - 1,
         [0; 4],
@@ -84,16 +86,16 @@ pub fn enumerate_reconnections(k: usize, orders: &mut [u8], masks: &mut [u8]) ->
 // The pattern with this index.
 pub fn pattern_at(k: usize, index: usize) -> theory::KOptReconnection
     requires { ⌜ Listed k index ⌝ }
-    ensures { λ r. ⌜ Holds k (pattern k index) r ⌝ }
+    ensures { λ r. ⌜ HoldsPattern k (pattern k index) r ⌝ }
 {
-    let mut orders = [0u8; 2298];
-    let mut masks = [0u8; 383];
+    let mut orders = [0u8; ORDER_BYTES];
+    let mut masks = [0u8; PATTERNS];
     let _ = enumerate_reconnections(k, &mut orders, &mut masks);
     let num_segments = k + 1;
     let from = index * num_segments;
     let end = from + num_segments;
     let mut places = [0u8; 6];
-    permutations::copy_in(&orders[from..end], &mut places, 0);
+    pattern_orders::copy_in(&orders[from..end], &mut places, 0);
     theory::KOptReconnection {
         segment_order: places,
         reverse_mask: masks[index],

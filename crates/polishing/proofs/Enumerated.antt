@@ -9,7 +9,7 @@ use native.Mathlib.Omega.{arith}
 use lib.ListN.{length, take, length-map, length-append}
 use lib.Seq.{take-at}
 use Rattle.theory.specs.Moves.{Pattern, patterns, factorial}
-use Rattle.theory.specs.Tables.{pattern-rows, ForK}
+use Rattle.theory.specs.Tables.{pattern-rows, ForK, Trip}
 use Rattle.theory.proofs.Index.{length-pattern}
 use Rattle.theory.proofs.ForK.{pattern-for-k}
 use Rattle.theory.proofs.Rows.{rows-of}
@@ -73,9 +73,9 @@ module _ (k count : ℕ) (orders₀ masks₀ orders masks : List ℕ) (cuts : Cu
       rw (order-rows, mask-rows)
       (ap (λ l. pattern-rows k l (masks-of (patterns k))) (sym (append-nil (orders-of (patterns k)))) ∙ rows-of k (patterns k) [] (λ p i. length-pattern k p i))
 
-  pub polishable : (locations : ℕ) (legs latest : List ℕ) (depot : ℕ) (route : List ℕ) → Polishable k locations legs latest depot route →
-      PolishableRows k locations legs latest depot (take (count * (k + 1)) orders) (take count masks) route
-  polishable locations legs latest depot route ok =
+  pub polishable : (T : Trip) (route : List ℕ) → Polishable k T route →
+      PolishableRows k T (take (count * (k + 1)) orders) (take count masks) route
+  polishable T route ok =
       record {
         least = ok .least;
         most = ok .most;
@@ -85,5 +85,5 @@ module _ (k count : ℕ) (orders₀ masks₀ orders masks : List ℕ) (cuts : Cu
           long = sym orders-size ∙ ap₂ _*_ masks-size (add-one k);
           each = λ p i. each-for-k k (omega (arith, cuts .least)) p (rw rows-are at i);
         };
-        some = omega (arith, masks-size, e .count, some-pattern k cuts);
+        not-empty = omega (arith, masks-size, e .count, some-pattern k cuts);
       }

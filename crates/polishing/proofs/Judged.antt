@@ -1,20 +1,20 @@
--- What the rules of polishing establish, where none applies. Assumes nothing.
-use mathlib.Core.Path.{_≡_}
-use mathlib.Core.Bool.{false}
+-- What the rules of a route and of polishing establish, where none applies. Assumes nothing.
 use mathlib.Core.List.{List}
 use Prim.Native.Nat.{ℕ}
-use lib.ListN.{length}
-use Rattle.theory.specs.Refusals.{cut-count, leg-table, deadline-list, leg-sizes, known-stops, stop-count}
+use Rattle.theory.specs.Tables.{Trip, Timed}
+use Rattle.theory.specs.Refusals.{problem-rules}
+use Rattle.theory.specs.Question.{Question, question-rules}
+use Rattle.theory.proofs.Refusals.{Passes}
 use Rattle.theory.proofs.Judged.{cut-count-fine, measurable-fine, deadlines-fine}
 use Rattle.polishing.specs.Loop.{Polishable}
 
-pub polishable-fine : (k locations : ℕ) (legs latest : List ℕ) (depot : ℕ) (route : List ℕ) →
-    cut-count k .1 ≡ false → leg-table locations legs .1 ≡ false → deadline-list locations latest .1 ≡ false → leg-sizes legs .1 ≡ false →
-    known-stops locations depot route .1 ≡ false → stop-count (length route) .1 ≡ false → Polishable k locations legs latest depot route
-polishable-fine k locations legs latest depot route a b c d e f =
-    let n = cut-count-fine k a in
+pub timed-fine : (T : Trip) (route : List ℕ) → Passes (problem-rules T route) → Timed T route
+timed-fine T route p =
+    let t = T .tables in
     record {
-      least = n .0;
-      most = n .1;
-      timed = record { measurable = measurable-fine locations legs depot route b d e f; deadlines = deadlines-fine locations latest c };
+      measurable = measurable-fine (t .locations) (t .legs) (T .depot) route (p .0) (p .1 .1 .0) (p .1 .1 .1 .0) (p .1 .1 .1 .1 .0);
+      deadlines = deadlines-fine (t .locations) (t .latest) (p .1 .0);
     }
+
+pub polishable-fine : (q : Question) → Passes (question-rules q) → Polishable (q .k) (q .trip) (q .route)
+polishable-fine q p = let n = cut-count-fine (q .k) (p .0) in record { least = n .0; most = n .1; timed = timed-fine (q .trip) (q .route) (p .1) }

@@ -1,13 +1,16 @@
 // Polishing a route by the scan of document 01, with every pattern for k or with lent rows of patterns, and its five numbers into a lent result. No entry: crates
-// mittenschist, round and text call it.
+// mittenschist, run and text call it.
+use scan_joints::ROW_BYTES;
 use theory::Counts;
+use theory::ORDER_BYTES;
+use theory::PATTERNS;
 use theory::Polished;
 ghost use mathlib.Core.Path.{_≡_};
 ghost use mathlib.Core.List.{_∷_, _++_};
 ghost use Prim.Native.Nat.{_≤_};
 ghost use lib.ListN.{length, drop};
 ghost use Rattle.theory.specs.Moves.{patterns};
-ghost use Rattle.theory.specs.Tables.{problem, pattern-rows};
+ghost use Rattle.theory.specs.Tables.{problem, pattern-rows, trip};
 ghost use Rattle.theory.specs.Answers.{Polishes, polish-values};
 ghost use Rattle.polishing.specs.Loop.{PolishableRows, Polishable};
 
@@ -23,8 +26,8 @@ pub fn polish_rows(
     masks: &[u8],
     route: &mut [u32],
 ) -> Polished
-    requires { ⌜ PolishableRows k locations (now legs) (now latest) depot (now orders) (now masks) (now route) ⌝ }
-    ensures { λ r. ⌜ Polishes (problem locations (now (legs .entry)) (now (latest .entry)) depot) (pattern-rows k (now (orders .entry)) (now (masks .entry))) k allowance (now (route .entry)) r (now (route .exit)) ⌝ }
+    requires { ⌜ PolishableRows k (trip locations (now legs) (now latest) depot) (now orders) (now masks) (now route) ⌝ }
+    ensures { λ r. ⌜ Polishes (problem (trip locations (now (legs .entry)) (now (latest .entry)) depot)) (pattern-rows k (now (orders .entry)) (now (masks .entry))) k allowance (now (route .entry)) r (now (route .exit)) ⌝ }
 {
     let before = costs::route_length(locations, legs, depot, &route[..]);
     if route.len() + 1 < k {
@@ -35,9 +38,9 @@ pub fn polish_rows(
             after: before,
         });
     }
-    let mut rows = [0u8; 1532];
-    pattern_rows::fill_rows(k, orders, masks, &mut rows);
-    let scanned = scanning::scan_cut_sets(
+    let mut rows = [0u8; ROW_BYTES];
+    scan_rows::fill_rows(k, orders, masks, &mut rows);
+    let scanned = scan_loop::scan_cut_sets(
         k,
         allowance,
         locations,
@@ -78,11 +81,11 @@ pub fn polish_route(
     depot: u32,
     route: &mut [u32],
 ) -> Polished
-    requires { ⌜ Polishable k locations (now legs) (now latest) depot (now route) ⌝ }
-    ensures { λ r. ⌜ Polishes (problem locations (now (legs .entry)) (now (latest .entry)) depot) (patterns k) k allowance (now (route .entry)) r (now (route .exit)) ⌝ }
+    requires { ⌜ Polishable k (trip locations (now legs) (now latest) depot) (now route) ⌝ }
+    ensures { λ r. ⌜ Polishes (problem (trip locations (now (legs .entry)) (now (latest .entry)) depot)) (patterns k) k allowance (now (route .entry)) r (now (route .exit)) ⌝ }
 {
-    let mut orders = [0u8; 2298];
-    let mut masks = [0u8; 383];
+    let mut orders = [0u8; ORDER_BYTES];
+    let mut masks = [0u8; PATTERNS];
     let count = patterns::enumerate_reconnections(k, &mut orders, &mut masks);
     let width = count * (k + 1);
     polish_rows(
@@ -98,7 +101,7 @@ pub fn polish_route(
     )
 }
 
-fn put_numbers(state: u64, counts: Counts, result: &mut [u64])
+fn put_five(state: u64, counts: Counts, result: &mut [u64])
     requires { ⌜ 5 ≤ length (now result) ⌝ }
     ensures { λ _. ⌜ now (result .exit) ≡ state ∷ counts .examined ∷ counts .accepted ∷ counts .before ∷ counts .after ∷ drop 5 (now (result .entry)) ⌝ }
 {
@@ -115,7 +118,7 @@ pub fn put_polished(answer: Polished, result: &mut [u64])
     ensures { λ _. ⌜ now (result .exit) ≡ polish-values answer ++ drop 5 (now (result .entry)) ⌝ }
 {
     match answer {
-        Polished::Finished(counts) => put_numbers(0, counts, result),
-        Polished::Spent(counts) => put_numbers(1, counts, result),
+        Polished::Finished(counts) => put_five(0, counts, result),
+        Polished::Spent(counts) => put_five(1, counts, result),
     }
 }

@@ -6,7 +6,7 @@ use Prim.Native.Nat.{ℕ, zero, suc, _+_, _-_, _<_, _≤_}
 use native.Mathlib.Numerals.{add-one}
 use native.Mathlib.Omega.{arith}
 use lib.ListN.{length, getD, take, drop, length-append, length-take, length-drop, drop-of-length-le, List·getD-append}
-use lib.Seq.{drop-cons, getD-at, take-at, take-all, take-nil}
+use lib.Seq.{drop-cons, getD-at, take-at, take-all}
 use Rattle.theory.specs.Moves.{Rising}
 use Rattle.theory.specs.Route.{segments, reverses, reverse-if, placed, joined, reconnected}
 use Rattle.theory.proofs.Moves.{total-ones}
@@ -14,6 +14,7 @@ use Rattle.theory.proofs.Orders.{in-range}
 use Rattle.theory.proofs.Route.{total-reconnected}
 use Rattle.theory.proofs.Index.{mem-getD}
 use Rattle.theory.proofs.Delta.{length-reverse-if}
+use Rattle.theory.proofs.Stores.{drop-take}
 use Rattle.reconnection.specs.Segments.{bound, Reconnectable}
 
 pub bound-cut : (cs : List ℕ) (n i : ℕ) → 0 < i → i ≤ length cs → bound cs n i ≡ getD cs (i - 1) 0
@@ -21,12 +22,6 @@ bound-cut cs n i h k = let e : i ≡ suc (i - 1) = omega arith in ap (bound cs n
 
 pub bound-end : (cs : List ℕ) (n i : ℕ) → i ≡ length cs + 1 → bound cs n i ≡ n
 bound-end cs n i h = rw (h, add-one) (getD-at cs n [] 0 (length cs) refl)
-
-drop-take : (a b : ℕ) (l : List ℕ) → drop a (take b l) ≡ take (b - a) (drop a l)
-drop-take zero b l = let e : b - 0 ≡ b = omega arith in rw e
-drop-take (suc a) zero l = let e : 0 - suc a ≡ 0 = omega arith in rw e
-drop-take (suc a) (suc b) [] = let e : take (suc b - suc a) [] ≡ [] = take-nil (suc b - suc a) in sym e
-drop-take (suc a) (suc b) (x ∷ l) = let e : suc b - suc a ≡ b - a = omega arith in rw e (drop-take a b l)
 
 -- Segment i lies between two bounds.
 between : (from low : ℕ) (cs r : List ℕ) (i : ℕ) → Rising low cs (length r) → i ≤ length cs →

@@ -12,7 +12,7 @@ bound cuts n i = getD (0 ∷ (cuts ++ (n ∷ []))) i 0
 pub record Fits (src dst : List ℕ) (at : ℕ) : Type 0 where
   pub room : at + length src ≤ length dst
 
-pub record Part (route : List ℕ) (a b : ℕ) (out : List ℕ) (at : ℕ) : Type 0 where
+pub record SegmentPuttable (route : List ℕ) (a b : ℕ) (out : List ℕ) (at : ℕ) : Type 0 where
   pub ordered : a ≤ b
   pub within : b ≤ length route
   pub room : at + (b - a) ≤ length out

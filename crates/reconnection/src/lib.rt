@@ -4,7 +4,7 @@ ghost use mathlib.Core.List.{_++_, reverse};
 ghost use Prim.Native.Nat.{_+_, _-_, _≤_};
 ghost use lib.ListN.{length, take, drop};
 ghost use Rattle.theory.specs.Route.{reverses, reverse-if, reconnected};
-ghost use Rattle.reconnection.specs.Segments.{bound, Part, Fits, Reconnectable};
+ghost use Rattle.reconnection.specs.Segments.{bound, SegmentPuttable, Fits, Reconnectable};
 
 // src into dst from `at` on.
 pub fn copy_in(src: &[u32], dst: &mut [u32], at: usize)
@@ -53,7 +53,7 @@ pub fn should_reverse(mask: u8, segment: usize) -> bool
 
 // The part a..b of the route into out from `at` on, reversed where `flip` says so.
 fn put_segment(route: &[u32], a: usize, b: usize, flip: bool, out: &mut [u32], at: usize)
-    requires { ⌜ Part (now route) a b (now out) at ⌝ }
+    requires { ⌜ SegmentPuttable (now route) a b (now out) at ⌝ }
     ensures { λ _. ⌜ now (out .exit) ≡ take at (now (out .entry)) ++ reverse-if flip (take (b - a) (drop a (now (route .entry)))) ++ drop (at + (b - a)) (now (out .entry)) ⌝ }
 {
     if flip {

@@ -3,3 +3,5 @@ pub mod Outcomes
 pub mod Turn
 pub mod Judged
 pub mod Runs
+pub mod Facts
+pub mod Returns

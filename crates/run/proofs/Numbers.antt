@@ -8,9 +8,9 @@ use lib.Seq.{getD-append-add}
 use Rattle.theory.specs.Moves.{total, upfrom}
 use Rattle.theory.specs.Answers.{round-values}
 use Rattle.theory.specs.declared.RoundState.the-variants as State
-use Rattle.states.specs.States.{number-of, examined-of}
-use Rattle.states.proofs.Values.{four-values}
-use Rattle.round.specs.Round.{Outcome}
+use Rattle.run_numbers.specs.States.{number-of, examined-of}
+use Rattle.run_numbers.proofs.Values.{four-values}
+use Rattle.run.specs.Round.{Outcome}
 use Rattle.run.specs.Run.{numbers, examined-in}
 use Rattle.theory.proofs.Route.{total-same, total-shift}
 

@@ -9,74 +9,74 @@ use lib.ListN.{length, getD, take, drop, length-map, length-take, length-drop, L
 use lib.Seq.{take-at, drop-at, drop-drop, ext-getD}
 use Rattle.theory.specs.Moves.{total, upfrom}
 use Rattle.theory.specs.Route.{Problem, count}
-use Rattle.theory.specs.Tables.{problem}
+use Rattle.theory.specs.Tables.{Tables, Fleet, trip, problem}
 use Rattle.theory.specs.declared.RoundState.the-variants as State
 use Rattle.theory.proofs.Moves.{length-upfrom}
-use Rattle.states.specs.States.{number-of, examined-of}
-use Rattle.round.specs.Round.{Outcome, run-round}
-use Rattle.round.proofs.Facts.{Fine, round-fine, round-length}
-use Rattle.run.specs.Run.{Given, round-at, given, rounds, run, routes, numbers, examined-in, Runnable, Ran}
+use Rattle.run_numbers.specs.States.{number-of, examined-of}
+use Rattle.run.specs.Round.{Outcome, run-round}
+use Rattle.run.proofs.Facts.{Fine, round-fine, round-length}
+use Rattle.run.specs.Run.{Given, round-at, trip-of, given, rounds, run, routes, numbers, examined-in, Runnable, Ran}
 use Rattle.run.proofs.Numbers.{none, number-at, taken, taken-is}
 
 -- What stands for no round.
 abbrev unasked : Given
-unasked = record { depot = 0; pin = 0; route = [] }
+unasked = record { trip = trip 0 [] [] 0; pin = 0; route = [] }
 
-module _ (P : ℕ → Problem) (k : ℕ) where
-  as-many : (gs : List Given) (left : ℕ) → length (run P k left gs) ≡ length gs
+module _ (k : ℕ) where
+  as-many : (gs : List Given) (left : ℕ) → length (run k left gs) ≡ length gs
   unfolding run
   as-many [] left = refl
   as-many (g ∷ gs) left = ap suc (as-many gs _)
 
   -- Some allowance was left when a round was reached.
   turn-of : (gs : List Given) (left i : ℕ) → i < length gs →
-      (a : ℕ) × (getD (run P k left gs) i none ≡ run-round (P (getD gs i unasked .depot)) k a (getD gs i unasked .pin) (getD gs i unasked .route))
+      (a : ℕ) × (getD (run k left gs) i none ≡ run-round (problem (getD gs i unasked .trip)) k a (getD gs i unasked .pin) (getD gs i unasked .route))
   unfolding run
   turn-of [] left i h = absurd (omega arith)
   turn-of (g ∷ gs) left zero h = (left, refl)
   turn-of (g ∷ gs) left (suc i) h = turn-of gs _ i (omega arith)
 
-  none-left : (gs : List Given) (j : ℕ) → j < length gs → getD (run P k 0 gs) j none ≡ record { state = State.NotReached; route = getD gs j unasked .route }
+  none-left : (gs : List Given) (j : ℕ) → j < length gs → getD (run k 0 gs) j none ≡ record { state = State.NotReached; route = getD gs j unasked .route }
   unfolding run run-round
   none-left [] j h = absurd (omega arith)
   none-left (g ∷ gs) zero h = refl
   none-left (g ∷ gs) (suc j) h = none-left gs j (omega arith)
 
   module _ (least : 2 ≤ k) where
-    after-spent : (gs : List Given) (left i j : ℕ) → i < j → j < length gs → number-of (getD (run P k left gs) i none .state) ≡ 5 →
-        number-of (getD (run P k left gs) j none .state) ≡ 0
+    after-spent : (gs : List Given) (left i j : ℕ) → i < j → j < length gs → number-of (getD (run k left gs) i none .state) ≡ 5 →
+        number-of (getD (run k left gs) j none .state) ≡ 0
     unfolding run
     after-spent [] left i j l h s = absurd (omega arith)
     after-spent (g ∷ gs) left i zero l h s = absurd (omega arith)
     after-spent (g ∷ gs) left zero (suc j) l h s =
-        let e = examined-of (run-round (P (g .depot)) k left (g .pin) (g .route) .state) in
-        let z : left - e ≡ 0 = omega (arith, round-fine (P (g .depot)) k left (g .pin) (g .route) least .spent s) in
+        let e = examined-of (run-round (problem (g .trip)) k left (g .pin) (g .route) .state) in
+        let z : left - e ≡ 0 = omega (arith, round-fine (problem (g .trip)) k left (g .pin) (g .route) least .spent s) in
         rw z (ap (λ (o : Outcome). number-of (o .state)) (none-left gs j (omega arith)))
     after-spent (g ∷ gs) left (suc i) (suc j) l h s = after-spent gs _ i j (omega arith) (omega arith) s
 
-    taken-within : (gs : List Given) (left : ℕ) → taken (run P k left gs) ≤ left
+    taken-within : (gs : List Given) (left : ℕ) → taken (run k left gs) ≤ left
     unfolding run taken
     taken-within [] left = omega arith
     taken-within (g ∷ gs) left =
-        let e = examined-of (run-round (P (g .depot)) k left (g .pin) (g .route) .state) in
-        omega (arith, round-fine (P (g .depot)) k left (g .pin) (g .route) least .within, taken-within gs (left - e))
+        let e = examined-of (run-round (problem (g .trip)) k left (g .pin) (g .route) .state) in
+        omega (arith, round-fine (problem (g .trip)) k left (g .pin) (g .route) least .within, taken-within gs (left - e))
 
-    all-taken : (gs : List Given) (left i : ℕ) → i < length gs → number-of (getD (run P k left gs) i none .state) ≡ 5 → taken (run P k left gs) ≡ left
+    all-taken : (gs : List Given) (left i : ℕ) → i < length gs → number-of (getD (run k left gs) i none .state) ≡ 5 → taken (run k left gs) ≡ left
     unfolding run taken
     all-taken [] left i h s = absurd (omega arith)
     all-taken (g ∷ gs) left zero h s =
-        let f = round-fine (P (g .depot)) k left (g .pin) (g .route) least in
-        let e = examined-of (run-round (P (g .depot)) k left (g .pin) (g .route) .state) in
+        let f = round-fine (problem (g .trip)) k left (g .pin) (g .route) least in
+        let e = examined-of (run-round (problem (g .trip)) k left (g .pin) (g .route) .state) in
         omega (arith, f .spent s, taken-within gs (left - e))
     all-taken (g ∷ gs) left (suc i) h s =
-        let f = round-fine (P (g .depot)) k left (g .pin) (g .route) least in
-        let e = examined-of (run-round (P (g .depot)) k left (g .pin) (g .route) .state) in
+        let f = round-fine (problem (g .trip)) k left (g .pin) (g .route) least in
+        let e = examined-of (run-round (problem (g .trip)) k left (g .pin) (g .route) .state) in
         omega (arith, f .within, all-taken gs (left - e) i (omega arith) s)
 
-    same-lengths : (gs : List Given) (left : ℕ) → map (λ (o : Outcome). length (o .route)) (run P k left gs) ≡ map (λ (g : Given). length (g .route)) gs
+    same-lengths : (gs : List Given) (left : ℕ) → map (λ (o : Outcome). length (o .route)) (run k left gs) ≡ map (λ (g : Given). length (g .route)) gs
     unfolding run
     same-lengths [] left = refl
-    same-lengths (g ∷ gs) left = rw (round-length (P (g .depot)) k left (g .pin) (g .route) least, same-lengths gs _)
+    same-lengths (g ∷ gs) left = rw (round-length (problem (g .trip)) k left (g .pin) (g .route) least, same-lengths gs _)
 
 -- The stops of a round in the routes end to end.
 route-at : (os : List Outcome) (i : ℕ) → i < length os → round-at (map (λ (o : Outcome). length (o .route)) os) (routes os) i ≡ getD os i none .route
@@ -95,12 +95,12 @@ within [] i h = absurd (omega arith)
 within (l ∷ ls) zero h = omega arith
 within (l ∷ ls) (suc i) h = omega (arith, within ls i (omega arith))
 
-module _ (lengths depots pins stops : List ℕ) where
-  given-at : (i : ℕ) → i < length lengths → getD (rounds lengths depots pins stops) i unasked ≡ given lengths depots pins stops i
+module _ (T : Tables) (F : Fleet) where
+  given-at : (i : ℕ) → i < length (F .lengths) → getD (rounds T F) i unasked ≡ given T F i
   unfolding rounds upfrom
-  given-at i h = let e : 0 + i ≡ i = omega arith in rw e at (by 0 (length lengths) i h)
+  given-at i h = let e : 0 + i ≡ i = omega arith in rw e at (by 0 (length (F .lengths)) i h)
     where
-      by : (f n i : ℕ) → i < n → getD (map (given lengths depots pins stops) (upfrom f n)) i unasked ≡ given lengths depots pins stops (f + i)
+      by : (f n i : ℕ) → i < n → getD (map (given T F) (upfrom f n)) i unasked ≡ given T F (f + i)
       by f zero i h = absurd (omega arith)
       by f (suc n) zero h =
           let e : f ≡ f + 0 = omega arith in
@@ -109,74 +109,74 @@ module _ (lengths depots pins stops : List ℕ) where
           let e : suc f + i ≡ f + suc i = omega arith in
           rw (← e) (by (suc f) n i (omega arith))
 
-  how-many : length (rounds lengths depots pins stops) ≡ length lengths
+  how-many : length (rounds T F) ≡ length (F .lengths)
   unfolding rounds
-  how-many = length-map (upfrom 0 (length lengths)) (given lengths depots pins stops) ∙ length-upfrom 0 (length lengths)
+  how-many = length-map (upfrom 0 (length (F .lengths))) (given T F) ∙ length-upfrom 0 (length (F .lengths))
 
-  lengths-are : total (λ n. n) lengths ≡ length stops → map (λ (g : Given). length (g .route)) (rounds lengths depots pins stops) ≡ lengths
+  lengths-are : total (λ n. n) (F .lengths) ≡ length (F .stops) → map (λ (g : Given). length (g .route)) (rounds T F) ≡ F .lengths
   lengths-are e =
-      let gs = rounds lengths depots pins stops in
-      let l : length (map (λ (g : Given). length (g .route)) gs) ≡ length lengths = length-map gs (λ (g : Given). length (g .route)) ∙ how-many in
-      ext-getD 0 _ lengths l
+      let gs = rounds T F in
+      let l : length (map (λ (g : Given). length (g .route)) gs) ≡ length (F .lengths) = length-map gs (λ (g : Given). length (g .route)) ∙ how-many in
+      ext-getD 0 _ (F .lengths) l
       (λ i h.
-      let j : i < length lengths = omega (arith, h, l) in
+      let j : i < length (F .lengths) = omega (arith, h, l) in
       List·getD-map (λ (g : Given). length (g .route)) gs i unasked ∙ ap (λ (g : Given). length (g .route)) (given-at i j) ∙ size i j)
     where
-      size : (i : ℕ) → i < length lengths → length (round-at lengths stops i) ≡ getD lengths i 0
-      size i h = simp (length-take, length-drop) (omega (arith, within lengths i h, e))
+      size : (i : ℕ) → i < length (F .lengths) → length (round-at (F .lengths) (F .stops) i) ≡ getD (F .lengths) i 0
+      size i h = simp (length-take, length-drop) (omega (arith, within (F .lengths) i h, e))
 
 -- Where stops and result are the definition's, the rest of the promise follows.
-module _ (k A locations : ℕ) (legs latest stops lengths depots pins result : List ℕ) (ok : Runnable k locations legs latest stops lengths depots pins result) where
+module _ (k A : ℕ) (T : Tables) (F : Fleet) (result : List ℕ) (ok : Runnable k T F result) where
   abbrev gs : List Given
-  gs = rounds lengths depots pins stops
+  gs = rounds T F
 
   abbrev os : List Outcome
-  os = run (problem locations legs latest) k A gs
+  os = run k A gs
 
   -- The outcome of round i.
-  module _ (i : ℕ) (h : i < length lengths) where
+  module _ (i : ℕ) (h : i < length (F .lengths)) where
     abbrev P : Problem
-    P = problem locations legs latest (getD depots i 0)
+    P = problem (trip-of T F i)
 
-    mine : (a : ℕ) × (getD os i none ≡ run-round P k a (getD pins i 0) (round-at lengths stops i))
-    mine = rw (given-at lengths depots pins stops i h) at (turn-of (problem locations legs latest) k gs A i (omega (arith, how-many lengths depots pins stops, h)))
+    mine : (a : ℕ) × (getD os i none ≡ run-round P k a (getD (F .pins) i 0) (round-at (F .lengths) (F .stops) i))
+    mine = rw (given-at T F i h) at (turn-of k gs A i (omega (arith, how-many T F, h)))
 
     listed : i < length os
-    listed = omega (arith, as-many (problem locations legs latest) k gs A, how-many lengths depots pins stops, h)
+    listed = omega (arith, as-many k gs A, how-many T F, h)
 
-    fine : Fine P k (mine .0) (round-at lengths stops i) (getD os i none)
-    fine = rw (mine .1) (round-fine P k (mine .0) (getD pins i 0) (round-at lengths stops i) (ok .least))
+    fine : Fine P k (mine .0) (round-at (F .lengths) (F .stops) i) (getD os i none)
+    fine = rw (mine .1) (round-fine P k (mine .0) (getD (F .pins) i 0) (round-at (F .lengths) (F .stops) i) (ok .least))
 
-    route-is : round-at lengths (routes os) i ≡ getD os i none .route
+    route-is : round-at (F .lengths) (routes os) i ≡ getD os i none .route
     route-is =
-        rw (same-lengths (problem locations legs latest) k (ok .least) gs A ∙ lengths-are lengths depots pins stops (ok .end-to-end))
+        rw (same-lengths k (ok .least) gs A ∙ lengths-are T F (ok .end-to-end))
         at (route-at os i listed)
 
-  pub ran : (stops′ result′ : List ℕ) → stops′ ≡ routes (run (problem locations legs latest) k A (rounds lengths depots pins stops)) →
-      result′ ≡ numbers (run (problem locations legs latest) k A (rounds lengths depots pins stops)) ++ drop (4 * length lengths) result →
-      Ran k A locations legs latest stops lengths depots pins result stops′ result′
+  pub ran : (stops′ result′ : List ℕ) → stops′ ≡ routes (run k A (rounds T F)) →
+      result′ ≡ numbers (run k A (rounds T F)) ++ drop (4 * length (F .lengths)) result →
+      Ran k A T F result stops′ result′
   unfolding count
   ran stops′ result′ s n =
-      let rest = drop (4 * length lengths) result in
-      let number : (i : ℕ) → i < length lengths → getD result′ (4 * i) 0 ≡ number-of (getD os i none .state) =
+      let rest = drop (4 * length (F .lengths)) result in
+      let number : (i : ℕ) → i < length (F .lengths) → getD result′ (4 * i) 0 ≡ number-of (getD os i none .state) =
       λ i h. ap (λ (l : List ℕ). getD l (4 * i) 0) n ∙ number-at os rest i (listed i h) in
-      let route : (i : ℕ) → i < length lengths → round-at lengths stops′ i ≡ getD os i none .route =
-      λ i h. ap (λ (l : List ℕ). round-at lengths l i) s ∙ route-is i h in
-      let many : length lengths ≡ length os = sym (as-many (problem locations legs latest) k gs A ∙ how-many lengths depots pins stops) in
-      let examined : examined-in result′ (length lengths) ≡ taken os = rw (many, n) (taken-is os rest) in
+      let route : (i : ℕ) → i < length (F .lengths) → round-at (F .lengths) stops′ i ≡ getD os i none .route =
+      λ i h. ap (λ (l : List ℕ). round-at (F .lengths) l i) s ∙ route-is i h in
+      let many : length (F .lengths) ≡ length os = sym (as-many k gs A ∙ how-many T F) in
+      let examined : examined-in result′ (length (F .lengths)) ≡ taken os = rw (many, n) (taken-is os rest) in
       record {
         stops-are = s;
         result-is = n;
         same-stops = λ i h x. ap (count x) (route i h) ∙ fine i h .same (λ y. cond (eqb x y) 1 0);
         unchanged = λ i h e. route i h ∙ fine i h .unchanged (rw (number i h) at e);
-        within = rw examined (taken-within (problem locations legs latest) k (ok .least) gs A);
+        within = rw examined (taken-within k (ok .least) gs A);
         spent = λ i h e.
             examined
-            ∙ all-taken (problem locations legs latest) k (ok .least) gs A i (omega (arith, how-many lengths depots pins stops, h))
+            ∙ all-taken k (ok .least) gs A i (omega (arith, how-many T F, h))
             (sym (number i h) ∙ e);
         stopped = λ i j l h e.
             number j h
-            ∙ after-spent (problem locations legs latest) k (ok .least) gs A i j l (omega (arith, how-many lengths depots pins stops, h))
+            ∙ after-spent k (ok .least) gs A i j l (omega (arith, how-many T F, h))
             (sym (number i (omega (arith, l, h))) ∙ e);
         optimal = λ l i h f. rw (route i h) (fine i h .optimal l (rw (number i h) at f));
       }

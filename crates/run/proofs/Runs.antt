@@ -1,13 +1,14 @@
 -- Runs over small rounds as one table: what is asked, and what document 01 says. Assumes nothing.
 use mathlib.Core.Path.{_≡_, refl}
-use mathlib.Core.List.{List, [], _∷_, _++_, map}
+use mathlib.Core.List.{List, [], _∷_, _++_, map, flatten}
 use Prim.Native.Nat.{ℕ}
-use lib.ListN.{getD}
+use lib.ListN.{replicate}
 use Rattle.theory.specs.Moves.{total, patterns, cut-sets, candidates}
-use Rattle.theory.specs.Route.{Problem, tour-length, feasible, reconnected}
+use Rattle.theory.specs.Route.{tour-length, timely, reconnected}
+use Rattle.theory.specs.Tables.{Tables, tables, fleet}
 use Rattle.theory.specs.Scan.{scan-from}
 use Rattle.pair_loop.specs.PairLoop.{pair-loop}
-use Rattle.round.specs.Round.{run-round}
+use Rattle.run.specs.Round.{run-round}
 use Rattle.run.specs.Run.{rounds, run, routes, numbers}
 
 -- Rounds with the depot 0; a leg that the rows lack is 0, and no deadline is in force.
@@ -19,13 +20,13 @@ pub record Ask : Type 0 where
   pub pins : List ℕ
   pub stops : List ℕ
 
-abbrev problem-of : Ask → ℕ → Problem
-problem-of q depot = record { leg = λ a b. getD (getD (q .legs) a []) b 0; latest = λ a. 4294967295; depot = depot }
+abbrev tables-of : Ask → Tables
+tables-of q = tables 5 (flatten (q .legs)) (replicate 11 4294967295)
 
 -- Four numbers a round, and then the stops.
 unfoldable pub answer : Ask → List ℕ
-unfolding rounds run routes numbers
-answer q = let os = run (problem-of q) (q .k) (q .allowance) (rounds (q .lengths) [] (q .pins) (q .stops)) in numbers os ++ routes os
+unfolding rounds run routes numbers flatten
+answer q = let os = run (q .k) (q .allowance) (rounds (tables-of q) (fleet (q .stops) (q .lengths) [] (q .pins))) in numbers os ++ routes os
 
 -- "DA 10, DB 1, DC 5, DE 1, AB 1, AC 1, AE 1, BC 10, BE 10, CE 1; round A B C E."
 abbrev document-legs : List (List ℕ)
@@ -61,5 +62,5 @@ runs =
     ∷ []
 
 pub runs-right : map (λ q. answer (q .0)) runs ≡ map (λ q. q .1) runs
-unfolding answer run-round total pair-loop scan-from candidates patterns cut-sets tour-length feasible reconnected
+unfolding answer run-round total pair-loop scan-from candidates patterns cut-sets tour-length timely reconnected
 runs-right = refl

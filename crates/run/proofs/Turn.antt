@@ -7,15 +7,15 @@ use native.Mathlib.Omega.{arith}
 use lib.ListN.{length, getD, take, drop, length-append, length-take, length-drop, take-append-drop, drop-of-length-le}
 use lib.Seq.{take-at, drop-at, drop-drop, take-all, getD-take, getD-drop}
 use Rattle.theory.specs.Moves.{total, upfrom}
-use Rattle.theory.specs.Tables.{problem}
+use Rattle.theory.specs.Tables.{Tables, Fleet, problem}
 use Rattle.theory.specs.Answers.{round-values}
 use Rattle.theory.specs.declared.RoundState.{RoundState}
 use Rattle.polishing.specs.Loop.{Polishable}
-use Rattle.states.specs.States.{examined-of}
-use Rattle.states.proofs.Values.{four-values}
-use Rattle.round.specs.Round.{Outcome, RoundRan}
-use Rattle.round.proofs.Facts.{round-length}
-use Rattle.run.specs.Run.{Given, round-at, given, rounds, run, routes, numbers, Runnable, Ran}
+use Rattle.run_numbers.specs.States.{examined-of}
+use Rattle.run_numbers.proofs.Values.{four-values}
+use Rattle.run.specs.Round.{Outcome, RoundRan}
+use Rattle.run.proofs.Facts.{round-length}
+use Rattle.run.specs.Run.{Given, round-at, trip-of, given, rounds, run, routes, numbers, Runnable, Ran}
 use Rattle.run.proofs.Outcomes.{within, ran}
 
 -- A part of s, at `at` and m long, is replaced by y.
@@ -50,29 +50,29 @@ total-more ls i h = rw (add-one i) (by ls i h)
     by (l ∷ ls) zero h = omega arith
     by (l ∷ ls) (suc i) h = omega (arith, by ls i (omega arith))
 
-module _ (k A locations : ℕ) (legs latest stops₀ lengths depots pins result₀ : List ℕ) where
+module _ (k A : ℕ) (T : Tables) (F : Fleet) (result₀ : List ℕ) where
   -- The rounds from i on.
   abbrev pub rest-from : ℕ → List Given
-  rest-from i = map (given lengths depots pins stops₀) (upfrom i (length lengths - i))
+  rest-from i = map (given T F) (upfrom i (length (F .lengths) - i))
 
   abbrev pub whole : List Outcome
-  whole = run (problem locations legs latest) k A (rounds lengths depots pins stops₀)
+  whole = run k A (rounds T F)
 
   -- Before round i, whose stops begin at `at`: what is done, and then what is left done with the allowance left, is the whole.
   pub record Running (stops result : List ℕ) (left at i : ℕ) : Type 0 where
-    pub in-time : i ≤ length lengths
-    pub stops-size : length stops ≡ length stops₀
+    pub in-time : i ≤ length (F .lengths)
+    pub stops-size : length stops ≡ length (F .stops)
     pub result-size : length result ≡ length result₀
-    pub at-is : at ≡ total (λ n. n) (take i lengths)
-    pub stops-rest : drop at stops ≡ drop at stops₀
-    pub stops-done : take at stops ++ routes (run (problem locations legs latest) k left (rest-from i)) ≡ routes whole
+    pub at-is : at ≡ total (λ n. n) (take i (F .lengths))
+    pub stops-rest : drop at stops ≡ drop at (F .stops)
+    pub stops-done : take at stops ++ routes (run k left (rest-from i)) ≡ routes whole
     pub result-rest : drop (4 * i) result ≡ drop (4 * i) result₀
-    pub result-done : take (4 * i) result ++ numbers (run (problem locations legs latest) k left (rest-from i)) ≡ numbers whole
+    pub result-done : take (4 * i) result ++ numbers (run k left (rest-from i)) ≡ numbers whole
 
-  pub begins : Running stops₀ result₀ A 0 0
+  pub begins : Running (F .stops) result₀ A 0 0
   unfolding rounds total
   begins =
-      let z : length lengths - 0 ≡ length lengths = omega arith in
+      let z : length (F .lengths) - 0 ≡ length (F .lengths) = omega arith in
       record {
         in-time = omega arith;
         stops-size = refl;
@@ -84,27 +84,27 @@ module _ (k A locations : ℕ) (legs latest stops₀ lengths depots pins result�
         result-done = rw z;
       }
 
-  rest-cons : (i : ℕ) → i < length lengths → rest-from i ≡ given lengths depots pins stops₀ i ∷ rest-from (i + 1)
+  rest-cons : (i : ℕ) → i < length (F .lengths) → rest-from i ≡ given T F i ∷ rest-from (i + 1)
   unfolding upfrom
   rest-cons i h =
-      let e : length lengths - i ≡ suc (length lengths - (i + 1)) = omega arith in
+      let e : length (F .lengths) - i ≡ suc (length (F .lengths) - (i + 1)) = omega arith in
       rw (e, add-one i)
 
-  module _ (ok : Runnable k locations legs latest stops₀ lengths depots pins result₀) where
-    module _ (stops result : List ℕ) (left at i : ℕ) (now : Running stops result left at i) (more : i < length lengths) where
-      pub round-room : at + getD lengths i 0 ≤ length stops
-      round-room = omega (arith, within lengths i more, now .at-is, now .stops-size, ok .end-to-end)
+  module _ (ok : Runnable k T F result₀) where
+    module _ (stops result : List ℕ) (left at i : ℕ) (now : Running stops result left at i) (more : i < length (F .lengths)) where
+      pub round-room : at + getD (F .lengths) i 0 ≤ length stops
+      round-room = omega (arith, within (F .lengths) i more, now .at-is, now .stops-size, ok .end-to-end)
 
       pub row-room : 4 * i + 4 ≤ length result
       row-room = omega (arith, more, ok .room, now .result-size)
 
-      part : take (getD lengths i 0) (drop at stops) ≡ round-at lengths stops₀ i
+      part : take (getD (F .lengths) i 0) (drop at stops) ≡ round-at (F .lengths) (F .stops) i
       part = rw (now .stops-rest, now .at-is)
 
-      size : length (round-at lengths stops₀ i) ≡ getD lengths i 0
-      size = simp (length-take, length-drop) (omega (arith, within lengths i more, ok .end-to-end))
+      size : length (round-at (F .lengths) (F .stops) i) ≡ getD (F .lengths) i 0
+      size = simp (length-take, length-drop) (omega (arith, within (F .lengths) i more, ok .end-to-end))
 
-      pub polishable : Polishable k locations legs latest (getD depots i 0) (take (getD lengths i 0) (drop at stops))
+      pub polishable : Polishable k (trip-of T F i) (take (getD (F .lengths) i 0) (drop at stops))
       polishable =
           record {
             least = ok .least;
@@ -116,10 +116,10 @@ module _ (k A locations : ℕ) (legs latest stops₀ lengths depots pins result�
                 stops = rw part (record {
                   short = omega (arith, size, ok .short i more);
                   known = λ j h.
-                      let m : j < getD lengths i 0 = omega (arith, h, size) in
-                      let n = total (λ n. n) (take i lengths) in
-                      let f : getD (round-at lengths stops₀ i) j 0 ≡ getD stops₀ (n + j) 0 = getD-take (getD lengths i 0) (drop n stops₀) j 0 m ∙ getD-drop n stops₀ j 0 in
-                      rw f (ok .stops-known (n + j) (omega (arith, m, within lengths i more, ok .end-to-end)));
+                      let m : j < getD (F .lengths) i 0 = omega (arith, h, size) in
+                      let n = total (λ n. n) (take i (F .lengths)) in
+                      let f : getD (round-at (F .lengths) (F .stops) i) j 0 ≡ getD (F .stops) (n + j) 0 = getD-take (getD (F .lengths) i 0) (drop n (F .stops)) j 0 m ∙ getD-drop n (F .stops) j 0 in
+                      rw f (ok .stops-known (n + j) (omega (arith, m, within (F .lengths) i more, ok .end-to-end)));
                 });
               };
               deadlines = ok .deadlines;
@@ -127,38 +127,38 @@ module _ (k A locations : ℕ) (legs latest stops₀ lengths depots pins result�
           }
 
       -- The first of the rounds that are left, and the others.
-      routes-next : (state : RoundState) (y : List ℕ) → RoundRan (problem locations legs latest (getD depots i 0)) k left (getD pins i 0) (round-at lengths stops₀ i) state y →
-          y ++ routes (run (problem locations legs latest) k (left - examined-of state) (rest-from (i + 1))) ≡ routes (run (problem locations legs latest) k left (rest-from i))
+      routes-next : (state : RoundState) (y : List ℕ) → RoundRan (problem (trip-of T F i)) k left (getD (F .pins) i 0) (round-at (F .lengths) (F .stops) i) state y →
+          y ++ routes (run k (left - examined-of state) (rest-from (i + 1))) ≡ routes (run k left (rest-from i))
       unfolding run routes flatMap
       routes-next state y r = rw (rest-cons i more, r .route-is, r .state-is)
 
-      numbers-next : (state : RoundState) (y : List ℕ) → RoundRan (problem locations legs latest (getD depots i 0)) k left (getD pins i 0) (round-at lengths stops₀ i) state y →
-          round-values state ++ numbers (run (problem locations legs latest) k (left - examined-of state) (rest-from (i + 1))) ≡ numbers (run (problem locations legs latest) k left (rest-from i))
+      numbers-next : (state : RoundState) (y : List ℕ) → RoundRan (problem (trip-of T F i)) k left (getD (F .pins) i 0) (round-at (F .lengths) (F .stops) i) state y →
+          round-values state ++ numbers (run k (left - examined-of state) (rest-from (i + 1))) ≡ numbers (run k left (rest-from i))
       unfolding run numbers flatMap
       numbers-next state y r = rw (rest-cons i more, r .state-is)
 
       pub turn : (state : RoundState) (y z : List ℕ) →
-          RoundRan (problem locations legs latest (getD depots i 0)) k left (getD pins i 0) (take (getD lengths i 0) (drop at stops)) state y →
+          RoundRan (problem (trip-of T F i)) k left (getD (F .pins) i 0) (take (getD (F .lengths) i 0) (drop at stops)) state y →
           z ≡ round-values state ++ drop 4 (take 4 (drop (4 * i) result)) →
-          Running (back stops at (getD lengths i 0) y) (back result (4 * i) 4 z) (left - examined-of state) (at + getD lengths i 0) (i + 1)
+          Running (back stops at (getD (F .lengths) i 0) y) (back result (4 * i) 4 z) (left - examined-of state) (at + getD (F .lengths) i 0) (i + 1)
       turn state y z r p =
           let r′ = rw part at r in
-          let m = getD lengths i 0 in
-          let l : length y ≡ getD lengths i 0 =
-          ap length (r′ .route-is) ∙ round-length (problem locations legs latest (getD depots i 0)) k left (getD pins i 0) (round-at lengths stops₀ i) (ok .least) ∙ size in
+          let m = getD (F .lengths) i 0 in
+          let l : length y ≡ getD (F .lengths) i 0 =
+          ap length (r′ .route-is) ∙ round-length (problem (trip-of T F i)) k left (getD (F .pins) i 0) (round-at (F .lengths) (F .stops) i) (ok .least) ∙ size in
           let w : length (take 4 (drop (4 * i) result)) ≤ 4 = simp length-take (omega arith) in
           let e : z ≡ round-values state = p ∙ rw (drop-of-length-le (take 4 (drop (4 * i) result)) w) (append-nil (round-values state)) in
           let n : length z ≡ 4 = ap length e ∙ four-values state in
           let f : 4 * (i + 1) ≡ 4 * i + 4 = omega arith in
-          let stops-left = routes (run (problem locations legs latest) k (left - examined-of state) (rest-from (i + 1))) in
-          let result-left = numbers (run (problem locations legs latest) k (left - examined-of state) (rest-from (i + 1))) in
+          let stops-left = routes (run k (left - examined-of state) (rest-from (i + 1))) in
+          let result-left = numbers (run k (left - examined-of state) (rest-from (i + 1))) in
           record {
             in-time = omega (arith, more);
-            stops-size = back-size stops stops₀ at m round-room (now .stops-rest) y l ∙ now .stops-size;
+            stops-size = back-size stops (F .stops) at m round-room (now .stops-rest) y l ∙ now .stops-size;
             result-size = back-size result result₀ (4 * i) 4 row-room (now .result-rest) z n ∙ now .result-size;
-            at-is = rw (total-more lengths i more, now .at-is);
-            stops-rest = back-rest stops stops₀ at m round-room (now .stops-rest) y l;
-            stops-done = back-done stops stops₀ at m round-room (now .stops-rest) y l stops-left (routes whole)
+            at-is = rw (total-more (F .lengths) i more, now .at-is);
+            stops-rest = back-rest stops (F .stops) at m round-room (now .stops-rest) y l;
+            stops-done = back-done stops (F .stops) at m round-room (now .stops-rest) y l stops-left (routes whole)
                 (ap (λ (x : List ℕ). take at stops ++ x) (routes-next state y r′) ∙ now .stops-done);
             result-rest = rw f (back-rest result result₀ (4 * i) 4 row-room (now .result-rest) z n);
             result-done = rw f
@@ -166,16 +166,16 @@ module _ (k A locations : ℕ) (legs latest stops₀ lengths depots pins result�
                 (ap (λ (x : List ℕ). take (4 * i) result ++ x) (ap (λ (x : List ℕ). x ++ result-left) e ∙ numbers-next state y r′) ∙ now .result-done));
           }
 
-    pub ends : (stops result : List ℕ) (left at i : ℕ) → Running stops result left at i → length lengths ≤ i →
-        Ran k A locations legs latest stops₀ lengths depots pins result₀ stops result
+    pub ends : (stops result : List ℕ) (left at i : ℕ) → Running stops result left at i → length (F .lengths) ≤ i →
+        Ran k A T F result₀ stops result
     unfolding upfrom run routes numbers flatMap
     ends stops result left at i now h =
-        let e : i ≡ length lengths = omega (arith, h, now .in-time) in
-        let z : length lengths - i ≡ 0 = omega arith in
-        let t : take i lengths ≡ lengths = take-all i lengths h in
+        let e : i ≡ length (F .lengths) = omega (arith, h, now .in-time) in
+        let z : length (F .lengths) - i ≡ 0 = omega arith in
+        let t : take i (F .lengths) ≡ F .lengths = take-all i (F .lengths) h in
         let full : length stops ≤ at = omega (arith, now .at-is ∙ ap (total (λ n. n)) t, now .stops-size, ok .end-to-end) in
         let s : take at stops ++ [] ≡ routes whole = rw z at (now .stops-done) in
         let n : take (4 * i) result ++ [] ≡ numbers whole = rw z at (now .result-done) in
-        ran k A locations legs latest stops₀ lengths depots pins result₀ ok stops result
+        ran k A T F result₀ ok stops result
         (sym (take-all at stops full) ∙ sym (append-nil (take at stops)) ∙ s)
         (sym (take-append-drop (4 * i) result) ∙ rw (sym (append-nil (take (4 * i) result)) ∙ n, now .result-rest, e))

@@ -1,4 +1,7 @@
 // The run over rounds that lie end to end. No entry: crate mittenschist calls it.
+pub mod round;
+
+ghost use Rattle.theory.specs.Tables.{tables, fleet};
 ghost use Rattle.run.specs.Run.{Runnable, Ran};
 
 // Every round of a run. A spent round leaves nothing of the allowance, so the rounds after it are written as not reached: the run has stopped.
@@ -14,8 +17,8 @@ pub fn run_list_k_opt_in_phase(
     pins: &[u8],
     result: &mut [u64],
 )
-    requires { ⌜ Runnable k locations (now legs) (now latest) (now stops) (now lengths) (now depots) (now pins) (now result) ⌝ }
-    ensures { λ _. ⌜ Ran k allowance locations (now (legs .entry)) (now (latest .entry)) (now (stops .entry)) (now (lengths .entry)) (now (depots .entry)) (now (pins .entry)) (now (result .entry)) (now (stops .exit)) (now (result .exit)) ⌝ }
+    requires { ⌜ Runnable k (tables locations (now legs) (now latest)) (fleet (now stops) (now lengths) (now depots) (now pins)) (now result) ⌝ }
+    ensures { λ _. ⌜ Ran k allowance (tables locations (now (legs .entry)) (now (latest .entry))) (fleet (now (stops .entry)) (now (lengths .entry)) (now (depots .entry)) (now (pins .entry))) (now (result .entry)) (now (stops .exit)) (now (result .exit)) ⌝ }
 {
     let mut left = allowance;
     let mut at = 0;
@@ -28,8 +31,8 @@ pub fn run_list_k_opt_in_phase(
         let state = round::run_round(k, left, locations, legs, latest, depot, pin, route);
         let row = 4 * i;
         let row_end = row + 4;
-        states::put_state(state, &mut result[row..row_end]);
-        left -= states::examined(state);
+        run_numbers::put_state(state, &mut result[row..row_end]);
+        left -= run_numbers::examined(state);
         at = end;
         i += 1;
     }

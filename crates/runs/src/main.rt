@@ -6,18 +6,18 @@ fn write(line: &[u8]) {
 }
 
 fn put_byte(n: u8, line: &mut [u8], at: usize) -> usize {
-    replay::put_number(b"", n as u64, line, at)
+    replay_lines::put_number(b"", n as u64, line, at)
 }
 
 // A line of a polishing: its refusal number, its result with the places lent beyond the five, and the stops that it left.
 fn show_polished(refused: u32, result: &[u64], stops: &[u32]) {
     let mut line = [0u8; 1024];
-    let number = replay::put_number(b"polish ", refused as u64, &mut line, 0);
-    let word = replay::put(b" result", &mut line, number);
-    let told = replay::put_numbers(result, &mut line, word);
-    let route = replay::put(b" route", &mut line, told);
-    let left = replay::put_stops(stops, &mut line, route);
-    let end = replay::put(b"\n", &mut line, left);
+    let number = replay_lines::put_number(b"polish ", refused as u64, &mut line, 0);
+    let word = replay_lines::put(b" result", &mut line, number);
+    let told = replay_lines::put_numbers(result, &mut line, word);
+    let route = replay_lines::put(b" route", &mut line, told);
+    let left = replay_lines::put_stops(stops, &mut line, route);
+    let end = replay_lines::put(b"\n", &mut line, left);
     write(&line[..end]);
 }
 
@@ -27,16 +27,16 @@ fn show_pattern(k: usize, index: usize) {
     let pattern = found.reconnection;
     let order = pattern.segment_order;
     let mut line = [0u8; 1024];
-    let number = replay::put_number(b"pattern ", found.refusal as u64, &mut line, 0);
-    let word = replay::put(b" order ", &mut line, number);
+    let number = replay_lines::put_number(b"pattern ", found.refusal as u64, &mut line, 0);
+    let word = replay_lines::put(b" order ", &mut line, number);
     let first = put_byte(order[0], &mut line, word);
     let second = put_byte(order[1], &mut line, first);
     let third = put_byte(order[2], &mut line, second);
     let fourth = put_byte(order[3], &mut line, third);
     let fifth = put_byte(order[4], &mut line, fourth);
     let sixth = put_byte(order[5], &mut line, fifth);
-    let mask = replay::put_number(b" mask ", pattern.reverse_mask as u64, &mut line, sixth);
-    let end = replay::put(b"\n", &mut line, mask);
+    let mask = replay_lines::put_number(b" mask ", pattern.reverse_mask as u64, &mut line, sixth);
+    let end = replay_lines::put(b"\n", &mut line, mask);
     write(&line[..end]);
 }
 
@@ -56,8 +56,8 @@ fn count_cut_sets(k: usize, cuts: &mut [usize]) -> u64 {
 fn show_cut_sets(k: usize, cuts: &mut [usize]) {
     let mut line = [0u8; 1024];
     let count = count_cut_sets(k, cuts);
-    let number = replay::put_number(b"cut sets ", count, &mut line, 0);
-    let end = replay::put(b"\n", &mut line, number);
+    let number = replay_lines::put_number(b"cut sets ", count, &mut line, 0);
+    let end = replay_lines::put(b"\n", &mut line, number);
     write(&line[..end]);
 }
 

@@ -1,8 +1,10 @@
 // The text program's function from bytes to bytes: it reads a question, judges it, polishes it and prints the answer.
-use reading::Reading;
+use text_question::Reading;
 use theory::Polished;
-ghost use Rattle.printing.specs.Answer.{answer-text, Printed};
-ghost use Rattle.text.specs.Program.{program, question-text, polished-text, Room, Printable, question-of, Work, Shown};
+ghost use Rattle.theory.specs.Tables.{tables};
+ghost use Rattle.theory.specs.Question.{question};
+ghost use Rattle.text_printing.specs.Answer.{answer-text, Printed};
+ghost use Rattle.text.specs.Program.{program, question-text, polished-text, Room, Printable, Work, Shown};
 
 // Any answer has room.
 fn print_numbers(
@@ -17,7 +19,7 @@ fn print_numbers(
     requires { ⌜ Printable (now route) (now out) ⌝ }
     ensures { λ r. ⌜ Printed (answer-text finished examined accepted before after (now (route .entry))) (now (out .entry)) (now (out .exit)) r ⌝ }
 {
-    printing::print_answer(finished, examined, accepted, before, after, route, out)
+    text_printing::print_answer(finished, examined, accepted, before, after, route, out)
 }
 
 fn print_polished(answer: Polished, route: &[u32], out: &mut [u8]) -> usize
@@ -46,11 +48,11 @@ fn answer_question(
     out: &mut [u8],
 ) -> usize
     requires { ⌜ Room (now out) ⌝ }
-    ensures { λ r. ⌜ Printed (question-text (question-of k allowance locations (now (legs .entry)) (now (latest .entry)) depot (now (stops .entry)))) (now (out .entry)) (now (out .exit)) r ⌝ }
+    ensures { λ r. ⌜ Printed (question-text (question k allowance locations (now (legs .entry)) (now (latest .entry)) depot (now (stops .entry)))) (now (out .entry)) (now (out .exit)) r ⌝ }
 {
-    let refused = judging::question_refusal(k, locations, legs, latest, depot, &stops[..]);
+    let refused = refusal_rules::question_refusal(k, locations, legs, latest, depot, &stops[..]);
     if refused != 0 {
-        return printing::print_refusal(refused, out);
+        return text_printing::print_refusal(refused, out);
     }
     let answer = polishing::polish_route(k, allowance, locations, legs, latest, depot, stops);
     print_polished(answer, &stops[..], out)
@@ -64,12 +66,12 @@ fn answer_text(
     stops: &mut [u32],
     out: &mut [u8],
 ) -> usize
-    requires { ⌜ Work (now legs) (now latest) (now stops) (now out) ⌝ }
+    requires { ⌜ Work (tables 96 (now legs) (now latest)) (now stops) (now out) ⌝ }
     ensures { λ r. ⌜ Printed (program (now (text .entry))) (now (out .entry)) (now (out .exit)) r ⌝ }
 {
-    let answer = reading::read_question(text, legs, latest, stops);
+    let answer = text_question::read_question(text, legs, latest, stops);
     let Reading::Question(header, count) = answer else {
-        return printing::print_refusal(10, out);
+        return text_printing::print_refusal(10, out);
     };
     let k = header.k as usize;
     let allowance = header.allowance as u64;

@@ -9,22 +9,22 @@ use lib.Dec.{leb}
 use lib.ListN.{length, getD, take, drop}
 use lib.Seq.{drop-cons, drop-length}
 use borrow.Author.Tests.{leb-true, le-leb}
-use Rattle.theory.specs.Route.{Problem, path, arrival, feasible, on-time}
-use Rattle.theory.proofs.Route.{feasible-iff}
+use Rattle.theory.specs.Route.{Clock, path, arrival, timely, on-time}
+use Rattle.theory.proofs.Route.{timely-iff}
 
-on-time-iff : (P : Problem) (a t : ℕ) (r : List ℕ) →
-    (on-time P a t r ≡ true) ↔ ((i : ℕ) → i < length r → t + path (P .leg) a (take (suc i) r) ≤ P .latest (getD r i 0))
+on-time-iff : (C : Clock) (a t : ℕ) (r : List ℕ) →
+    (on-time C a t r ≡ true) ↔ ((i : ℕ) → i < length r → t + path (C .leg) a (take (suc i) r) ≤ C .latest (getD r i 0))
 unfolding on-time path
-on-time-iff P a t [] = (λ e i h. absurd (omega arith), λ h. refl)
-on-time-iff P a t (x ∷ xs) =
-    let b = and-eq-true-iff (leb (t + P .leg a x) (P .latest x)) (on-time P x (t + P .leg a x) xs) in
-    let ih = on-time-iff P x (t + P .leg a x) xs in (
-      λ e. at (leb-true (t + P .leg a x) (P .latest x) (b .0 e .0)) (ih .0 (b .0 e .1)),
-      λ h. b .1 (le-leb (t + P .leg a x) (P .latest x) (omega (arith, h 0 (omega arith))), ih .1 (λ i l. omega (arith, h (suc i) (omega arith)))),
+on-time-iff C a t [] = (λ e i h. absurd (omega arith), λ h. refl)
+on-time-iff C a t (x ∷ xs) =
+    let b = and-eq-true-iff (leb (t + C .leg a x) (C .latest x)) (on-time C x (t + C .leg a x) xs) in
+    let ih = on-time-iff C x (t + C .leg a x) xs in (
+      λ e. at (leb-true (t + C .leg a x) (C .latest x) (b .0 e .0)) (ih .0 (b .0 e .1)),
+      λ h. b .1 (le-leb (t + C .leg a x) (C .latest x) (omega (arith, h 0 (omega arith))), ih .1 (λ i l. omega (arith, h (suc i) (omega arith)))),
     )
   where
-    at : t + P .leg a x ≤ P .latest x → ((i : ℕ) → i < length xs → t + P .leg a x + path (P .leg) x (take (suc i) xs) ≤ P .latest (getD xs i 0)) →
-        (i : ℕ) → i < suc (length xs) → t + (P .leg a x + path (P .leg) x (take i xs)) ≤ P .latest (getD (x ∷ xs) i 0)
+    at : t + C .leg a x ≤ C .latest x → ((i : ℕ) → i < length xs → t + C .leg a x + path (C .leg) x (take (suc i) xs) ≤ C .latest (getD xs i 0)) →
+        (i : ℕ) → i < suc (length xs) → t + (C .leg a x + path (C .leg) x (take i xs)) ≤ C .latest (getD (x ∷ xs) i 0)
     at f g zero h = omega arith
     at f g (suc i) h = omega (arith, g i (omega arith))
 
@@ -33,19 +33,19 @@ by-iff true b e = sym (e .0 refl)
 by-iff false true e = e .1 refl
 by-iff false false e = refl
 
-pub feasible-on-time : (P : Problem) (r : List ℕ) → feasible P r ≡ on-time P (P .depot) 0 r
+pub timely-on-time : (C : Clock) (depot : ℕ) (r : List ℕ) → timely C depot r ≡ on-time C depot 0 r
 unfolding arrival
-feasible-on-time P r =
-    let k = feasible-iff P r in
-    let o = on-time-iff P (P .depot) 0 r in
+timely-on-time C depot r =
+    let k = timely-iff C depot r in
+    let o = on-time-iff C depot 0 r in
     by-iff _ _ (λ e. o .1 (λ i h. omega (arith, k .0 e i h)), λ e. k .1 (λ i h. omega (arith, o .0 e i h)))
 
--- One stop, and the end: the steps of a loop whose invariant is `keeps P r ≡ on-time P at clock (drop i r)`.
-pub clock-step : (P : Problem) (a t : ℕ) (r : List ℕ) (i : ℕ) → i < length r →
-    on-time P a t (drop i r) ≡ (leb (t + P .leg a (getD r i 0)) (P .latest (getD r i 0)) && on-time P (getD r i 0) (t + P .leg a (getD r i 0)) (drop (suc i) r))
+-- One stop, and the end: the steps of a loop whose invariant is `timely C depot r ≡ on-time C at clock (drop i r)`.
+pub clock-step : (C : Clock) (a t : ℕ) (r : List ℕ) (i : ℕ) → i < length r →
+    on-time C a t (drop i r) ≡ (leb (t + C .leg a (getD r i 0)) (C .latest (getD r i 0)) && on-time C (getD r i 0) (t + C .leg a (getD r i 0)) (drop (suc i) r))
 unfolding on-time
-clock-step P a t r i h = rw (drop-cons r i 0 h)
+clock-step C a t r i h = rw (drop-cons r i 0 h)
 
-pub clock-end : (P : Problem) (a t : ℕ) (r : List ℕ) → on-time P a t (drop (length r) r) ≡ true
+pub clock-end : (C : Clock) (a t : ℕ) (r : List ℕ) → on-time C a t (drop (length r) r) ≡ true
 unfolding on-time
-clock-end P a t r = rw (drop-length r)
+clock-end C a t r = rw (drop-length r)

@@ -29,7 +29,7 @@ placed-append mask ps [] ys = refl
 placed-append mask ps (x ∷ xs) ys = ap (λ l. reverse-if (reverses mask x) (getD ps x []) ∷ l) (placed-append mask ps xs ys)
 
 -- With the first and the last segment in place and unturned.
-joined-split : (o : List ℕ) (k mask : ℕ) (ps : List (List ℕ)) → reverses mask 0 ≡ false → reverses mask k ≡ false →
+pub joined-split : (o : List ℕ) (k mask : ℕ) (ps : List (List ℕ)) → reverses mask 0 ≡ false → reverses mask k ≡ false →
     joined (record { order = 0 ∷ (o ++ (k ∷ [])); mask = mask }) ps ≡ getD ps 0 [] ++ (flatten (placed mask ps o) ++ getD ps k [])
 unfolding joined placed reverse-if flatten
 joined-split o k mask ps h t =

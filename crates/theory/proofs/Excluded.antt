@@ -9,9 +9,9 @@ use lib.Dec.{lit≤}
 use lib.ListN.{length, getD}
 use Rattle.theory.specs.Scan.{Reply, scan-from}
 use Rattle.theory.specs.Moves.{Pattern, patterns, Rising, binomial, cut-sets, candidates}
-use Rattle.theory.specs.Route.{Problem, count, tour-length, reconnected, feasible}
+use Rattle.theory.specs.Route.{Problem, count, tour-length, reconnected, timely, feasible}
 use Rattle.theory.specs.Polish.{Demand3, polish}
-use Rattle.theory.specs.Refusals.{Rule, some, cut-count, leg-table, deadline-list, leg-sizes, known-stops, stop-count, room, refusal}
+use Rattle.theory.specs.Refusals.{Rule, any, cut-count, leg-table, deadline-list, leg-sizes, known-stops, stop-count, room, refusal}
 use Rattle.theory.specs.Runs.{T, far}
 use Rattle.theory.proofs.Route.{feasible-iff}
 use Rattle.theory.proofs.Refusals.{taken}
@@ -47,7 +47,7 @@ Reply-to-T r q = Demand3 (T (far ∷ far ∷ far ∷ [])) (patterns 3) 3 100 r q
 
 -- "Unchanged on every round": the rival swaps the two stops.
 unchanged : (f : Bool) (e a : ℕ) → Reply-to-T (1 ∷ 2 ∷ []) (record { finished = f; examined = e; accepted = a; route = 1 ∷ 2 ∷ [] }) → ⊥
-unfolding Reply-to-T tour-length reconnected feasible patterns binomial
+unfolding Reply-to-T tour-length reconnected timely patterns binomial
 unchanged f e a d =
     improvable (T (far ∷ far ∷ far ∷ [])) (patterns 3) 3 100 (1 ∷ 2 ∷ []) _ d (lit≤ tt) (0 ∷ 1 ∷ 2 ∷ []) refl
     (lit≤ tt, lit≤ tt, (lit≤ tt, lit≤ tt, (lit≤ tt, lit≤ tt, tt))) (record { order = 0 ∷ 2 ∷ 1 ∷ 3 ∷ []; mask = 0 })
@@ -68,7 +68,7 @@ unfolding Reply-to-T tour-length patterns binomial
 beyond f e a h d = let b : e ≤ 91 = d .bound in omega arith
 
 invented : (q : Reply (List ℕ)) → q ≡ polish (T (far ∷ far ∷ far ∷ [])) 3 100 (1 ∷ 2 ∷ []) → (q .examined ≡ 11 → ⊥) → ⊥
-unfolding scan-from candidates cut-sets patterns tour-length reconnected feasible
+unfolding scan-from candidates cut-sets patterns tour-length reconnected timely
 invented q e n = n (ap (λ q. q .examined) e)
 
 -- "Refusing all": no rule of polishing applies to T.
@@ -80,7 +80,7 @@ T-rules =
     cut-count 3 ∷ leg-table 3 T-legs ∷ deadline-list 3 (far ∷ far ∷ far ∷ []) ∷ leg-sizes T-legs ∷ known-stops 3 0 (1 ∷ 2 ∷ []) ∷ stop-count 2 ∷ room 5 5 ∷ []
 
 refusing : (n : ℕ) → refusal T-rules ≡ suc n → ⊥
-unfolding T-rules T-legs some
+unfolding T-rules T-legs any
 refusing n e = let z : refusal T-rules ≡ 0 = taken T-rules (refl, (refl, (refl, (refl, (refl, (refl, (refl, tt))))))) in omega arith
 
 -- ---- a case in which one improvement is not enough
@@ -95,12 +95,12 @@ U =
     }
 
 two-improvements : polish U 3 1000 (1 ∷ 2 ∷ 3 ∷ []) ≡ record { finished = true; examined = 41; accepted = 2; route = 2 ∷ 3 ∷ 1 ∷ [] }
-unfolding U scan-from candidates cut-sets patterns tour-length reconnected feasible
+unfolding U scan-from candidates cut-sets patterns tour-length reconnected timely
 two-improvements = refl
 
 -- "One improvement found, then counting idly": the rival turns the last two stops.
 one-improvement : (f : Bool) (e a : ℕ) → Demand3 U (patterns 3) 3 1000 (1 ∷ 2 ∷ 3 ∷ []) (record { finished = f; examined = e; accepted = a; route = 2 ∷ 1 ∷ 3 ∷ [] }) → ⊥
-unfolding U tour-length reconnected feasible patterns binomial
+unfolding U tour-length reconnected timely patterns binomial
 one-improvement f e a d =
     improvable U (patterns 3) 3 1000 (1 ∷ 2 ∷ 3 ∷ []) _ d (lit≤ tt) (0 ∷ 1 ∷ 3 ∷ []) refl
     (lit≤ tt, lit≤ tt, (lit≤ tt, lit≤ tt, (lit≤ tt, lit≤ tt, tt))) (record { order = 0 ∷ 1 ∷ 2 ∷ 3 ∷ []; mask = 4 })

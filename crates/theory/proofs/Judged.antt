@@ -9,9 +9,9 @@ use lib.ListN.{length, getD}
 use borrow.Author.Tests.{ltb-false, leb-false, ltb-true, eqb-true, not-false}
 use Rattle.theory.specs.Moves.{patterns, Rising}
 use Rattle.theory.specs.Tables.{LegTable, Stops, Measurable, CutSet}
-use Rattle.theory.specs.Refusals.{some, rises, cut-count, leg-table, deadline-list, leg-sizes, known-stops, stop-count, pattern-index, cut-positions, room}
+use Rattle.theory.specs.Refusals.{any, rises, cut-count, leg-table, deadline-list, leg-sizes, known-stops, stop-count, pattern-index, cut-positions, room}
 
-and-true : (a b : Bool) → (a && b) ≡ true → (a ≡ true) × (b ≡ true)
+pub and-true : (a b : Bool) → (a && b) ≡ true → (a ≡ true) × (b ≡ true)
 and-true true b e = (refl, e)
 and-true false b e = absurd (false≢true e)
 
@@ -20,11 +20,11 @@ or-false true b e = absurd (true≢false e)
 or-false false b e = (refl, e)
 
 -- Where no element passes a test, none does at any place.
-pub none-at : (t : ℕ → Bool) (l : List ℕ) → some t l ≡ false → (i : ℕ) → i < length l → t (getD l i 0) ≡ false
-unfolding some
+pub none-at : (t : ℕ → Bool) (l : List ℕ) → any t l ≡ false → (i : ℕ) → i < length l → t (getD l i 0) ≡ false
+unfolding any
 none-at t [] e i h = absurd (omega arith)
-none-at t (x ∷ l) e zero h = or-false (t x) (some t l) e .0
-none-at t (x ∷ l) e (suc i) h = none-at t l (or-false (t x) (some t l) e .1) i (omega arith)
+none-at t (x ∷ l) e zero h = or-false (t x) (any t l) e .0
+none-at t (x ∷ l) e (suc i) h = none-at t l (or-false (t x) (any t l) e .1) i (omega arith)
 
 pub cut-count-fine : (k : ℕ) → cut-count k .1 ≡ false → (2 ≤ k) × (k ≤ 5)
 cut-count-fine k e = let p = or-false (ltb k 2) (ltb 5 k) e in (ltb-false k 2 (p .0), ltb-false 5 k (p .1))
@@ -39,15 +39,15 @@ table-fine locations legs e f =
       small = small legs f;
     }
   where
-    small : (l : List ℕ) → some (λ d. ltb 1000000 d) l ≡ false → (i : ℕ) → getD l i 0 ≤ 1000000
+    small : (l : List ℕ) → any (λ d. ltb 1000000 d) l ≡ false → (i : ℕ) → getD l i 0 ≤ 1000000
     small [] e i = omega arith
     small (x ∷ l) e zero = ltb-false 1000000 x (none-at (λ d. ltb 1000000 d) (x ∷ l) e 0 (omega arith))
-    small (x ∷ l) e (suc i) = small l (unfold some in or-false (ltb 1000000 x) (some (λ d. ltb 1000000 d) l) e .1) i
+    small (x ∷ l) e (suc i) = small l (unfold any in or-false (ltb 1000000 x) (any (λ d. ltb 1000000 d) l) e .1) i
 
 pub stops-fine : (locations depot : ℕ) (route : List ℕ) → known-stops locations depot route .1 ≡ false → stop-count (length route) .1 ≡ false →
     (depot < locations) × Stops locations route
 stops-fine locations depot route e f =
-    let p = or-false (leb locations depot) (some (λ s. leb locations s) route) e in (
+    let p = or-false (leb locations depot) (any (λ s. leb locations s) route) e in (
       leb-false locations depot (p .0),
       record { short = ltb-false 512 (length route) f; known = λ i h. leb-false locations (getD route i 0) (none-at (λ s. leb locations s) route (p .1) i h) },
     )
@@ -65,20 +65,20 @@ deadlines-fine locations latest e = eqb-true (length latest) locations (not-fals
 pub pattern-fine : (k index : ℕ) → pattern-index k index .1 ≡ false → index < length (patterns k)
 pattern-fine k index e = leb-false (length (patterns k)) index e
 
-rising-fine : (n low : ℕ) (cs : List ℕ) → (0 < length cs → low ≤ getD cs 0 0) → some (λ c. ltb n c) cs ≡ false → rises cs ≡ true → Rising low cs n
-unfolding some rises
+rising-fine : (n low : ℕ) (cs : List ℕ) → (0 < length cs → low ≤ getD cs 0 0) → any (λ c. ltb n c) cs ≡ false → rises cs ≡ true → Rising low cs n
+unfolding any rises
 rising-fine n low [] l e r = tt
 rising-fine n low (c ∷ []) l e r = (omega (arith, l (omega arith)), ltb-false n c (or-false (ltb n c) false e .0), tt)
 rising-fine n low (c ∷ d ∷ cs) l e r =
-    let p = or-false (ltb n c) (some (λ c. ltb n c) (d ∷ cs)) e in
+    let p = or-false (ltb n c) (any (λ c. ltb n c) (d ∷ cs)) e in
     let q = and-true (ltb c d) (rises (d ∷ cs)) r in
     (omega (arith, l (omega arith)), ltb-false n c (p .0), rising-fine n (suc c) (d ∷ cs) (λ h. ltb-true c d (q .0)) (p .1) (q .1))
 
 pub cuts-fine : (k n : ℕ) (cuts : List ℕ) → cut-count k .1 ≡ false → stop-count n .1 ≡ false → cut-positions k n cuts .1 ≡ false → CutSet k n cuts
 cuts-fine k n cuts a b e =
     let c = cut-count-fine k a in
-    let p = or-false (not (eqb (length cuts) k) || some (λ c. ltb n c) cuts) (not (rises cuts)) e in
-    let q = or-false (not (eqb (length cuts) k)) (some (λ c. ltb n c) cuts) (p .0) in
+    let p = or-false (not (eqb (length cuts) k) || any (λ c. ltb n c) cuts) (not (rises cuts)) e in
+    let q = or-false (not (eqb (length cuts) k)) (any (λ c. ltb n c) cuts) (p .0) in
     record {
       least = c .0;
       most = c .1;

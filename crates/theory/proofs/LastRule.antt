@@ -4,7 +4,7 @@ use mathlib.Core.Bool.{Bool, true, false, cond, not, _&&_, _||_, false≢true, t
 use mathlib.Core.List.{List, [], _∷_, _++_}
 use Prim.Native.Nat.{ℕ, zero, suc}
 use lib.Dec.{eqb}
-use Rattle.theory.specs.Refusals.{Rule, number, some, either, rules-of, first-in, refusal, room}
+use Rattle.theory.specs.Refusals.{Rule, number, any, either, rules-of, first-in, refusal, room}
 use Rattle.theory.proofs.Refusals.{either-zero, either-assoc}
 
 -- No rule has one of these two numbers.
@@ -57,14 +57,14 @@ through n (r ∷ rs) a x = by (eqb n (r .0)) (through n rs a x)
 
 -- ---- the numbers before
 
-before : (b : Bool) (rs : List Rule) (x : ℕ) (later ns : List ℕ) → some (λ m. eqb m 21) ns ≡ false →
+before : (b : Bool) (rs : List Rule) (x : ℕ) (later ns : List ℕ) → any (λ m. eqb m 21) ns ≡ false →
     first-in later (rs ++ ((21, b) ∷ [])) ≡ either (first-in later rs) x → first-in (ns ++ later) (rs ++ ((21, b) ∷ [])) ≡ either (first-in (ns ++ later) rs) x
-unfolding first-in some
+unfolding first-in any
 before b rs x later [] e h = h
 before b rs x later (n ∷ ns) e h = by (eqb n 21) refl e (before b rs x later ns)
   where
-    by : (t : Bool) → eqb n 21 ≡ t → (t || some (λ m. eqb m 21) ns) ≡ false →
-        (some (λ m. eqb m 21) ns ≡ false → first-in later (rs ++ ((21, b) ∷ [])) ≡ either (first-in later rs) x → first-in (ns ++ later) (rs ++ ((21, b) ∷ [])) ≡ either (first-in (ns ++ later) rs) x) →
+    by : (t : Bool) → eqb n 21 ≡ t → (t || any (λ m. eqb m 21) ns) ≡ false →
+        (any (λ m. eqb m 21) ns ≡ false → first-in later (rs ++ ((21, b) ∷ [])) ≡ either (first-in later rs) x → first-in (ns ++ later) (rs ++ ((21, b) ∷ [])) ≡ either (first-in (ns ++ later) rs) x) →
         rules-of n (rs ++ ((21, b) ∷ [])) (first-in (ns ++ later) (rs ++ ((21, b) ∷ []))) ≡ either (rules-of n rs (first-in (ns ++ later) rs)) x
     by true q e f = absurd (true≢false e)
     by false q e f =
@@ -74,7 +74,7 @@ before b rs x later (n ∷ ns) e h = by (eqb n 21) refl e (before b rs x later n
 
 -- "21: lent result .. too short": given only where no other rule of the call applies.
 pub room-last : (rs : List Rule) (needed lent : ℕ) → early rs ≡ true → refusal (rs ++ (room needed lent ∷ [])) ≡ either (refusal rs) (number (room needed lent))
-unfolding refusal some
+unfolding refusal any
 room-last rs needed lent h = before _ rs (number (room needed lent)) (21 ∷ 22 ∷ []) (10 ∷ 1 ∷ 2 ∷ 3 ∷ 4 ∷ 5 ∷ 6 ∷ 7 ∷ 8 ∷ 9 ∷ []) refl last
   where
     last : first-in (21 ∷ 22 ∷ []) (rs ++ (room needed lent ∷ [])) ≡ either (first-in (21 ∷ 22 ∷ []) rs) (number (room needed lent))

@@ -24,3 +24,4 @@ pub mod ForK
 pub mod Rows
 pub mod Polishing
 pub mod Stores
+pub mod Told

@@ -8,7 +8,7 @@ use native.Mathlib.Omega.{arith}
 use lib.Dec.{eqb, leb}
 use lib.ListN.{length}
 use borrow.Author.Tests.{eqb-true, eqb-false, leb-true}
-use Rattle.theory.specs.Refusals.{Rule, number, some, order, either, rules-of, first-in, refusal, problem-rules, leg-table, deadline-list, leg-sizes, known-stops, stop-count}
+use Rattle.theory.specs.Refusals.{Rule, number, any, order, either, rules-of, first-in, refusal}
 
 -- No rule applies.
 abbrev pub Passes : List Rule → Type 0
@@ -17,9 +17,9 @@ Passes (r ∷ rs) = (r .1 ≡ false) × Passes rs
 
 -- Each rule's number stands in the order; 0 does not.
 unfoldable pub known : List Rule → Bool
-unfolding some
+unfolding any
 known [] = true
-known (r ∷ rs) = some (eqb (r .0)) order && known rs
+known (r ∷ rs) = any (eqb (r .0)) order && known rs
 
 -- Of the numbers ns, n is given: a rule with that number applies, and none whose number stands earlier does.
 pub record Refused (ns : List ℕ) (rs : List Rule) (n : ℕ) : Type 0 where
@@ -115,23 +115,23 @@ decided (n ∷ ns) rs z = by (settled n rs (first-in ns rs) z) (decided ns rs z)
 
 -- ---- the laws
 
-stands : (rs : List Rule) → known rs ≡ true → (r : Rule) → List·Memᴰ r rs → some (eqb (r .0)) order ≡ true
+stands : (rs : List Rule) → known rs ≡ true → (r : Rule) → List·Memᴰ r rs → any (eqb (r .0)) order ≡ true
 unfolding known
 stands [] k r i = absurd (List·Memᴰ·not-nil i)
 stands (s ∷ rs) k r i =
-    let b = and-eq-true-iff (some (eqb (s .0)) order) (known rs) .0 k in
+    let b = and-eq-true-iff (any (eqb (s .0)) order) (known rs) .0 k in
     ⊎-elim (λ e. rw e (b .0)) (stands rs (b .1) r) (List·Memᴰ·cases-cons i)
 
 not-zero : (rs : List Rule) → known rs ≡ true → Numbered rs
-unfolding some
+unfolding any
 not-zero rs k r i z = true≢false (sym (rw z at (stands rs k r i)))
 
-listed : (x : ℕ) (l : List ℕ) → some (eqb x) l ≡ true → List·Memᴰ x l
-unfolding some
+listed : (x : ℕ) (l : List ℕ) → any (eqb x) l ≡ true → List·Memᴰ x l
+unfolding any
 listed x [] h = absurd (true≢false (sym h))
 listed x (y ∷ l) h = by (eqb x y) refl (listed x l) h
   where
-    by : (b : Bool) → eqb x y ≡ b → (some (eqb x) l ≡ true → List·Memᴰ x l) → (b || some (eqb x) l) ≡ true → List·Memᴰ x (y ∷ l)
+    by : (b : Bool) → eqb x y ≡ b → (any (eqb x) l ≡ true → List·Memᴰ x l) → (b || any (eqb x) l) ≡ true → List·Memᴰ x (y ∷ l)
     by true e f h = List·Memᴰ·head (eqb-true x y e)
     by false e f h = List·Memᴰ·tail (f h)
 
@@ -250,10 +250,6 @@ pub four-then : (a b c d rest : ℕ) → either (either a (either b (either c (e
 unfolding either
 four-then a b c d rest = simp either-assoc
 
-pub five-then : (a b c d e rest : ℕ) → either (either a (either b (either c (either d (either e 0))))) rest ≡ either a (either b (either c (either d (either e rest))))
-unfolding either
-five-then a b c d e rest = simp either-assoc
-
 -- A check that applies is given, and one that does not is passed.
 pub applies-first : (a n rest : ℕ) → a ≡ n → (a ≡ 0 → ⊥) → a ≡ either n rest
 unfolding either
@@ -264,11 +260,3 @@ pub passed-over : (a n rest : ℕ) → a ≡ n → a ≡ 0 → rest ≡ either n
 unfolding either
 passed-over a zero rest e h = refl
 passed-over a (suc n) rest e h = absurd (omega arith)
-
--- The rules of the problem, and then the others.
-pub problem-then : (locations : ℕ) (legs latest : List ℕ) (depot : ℕ) (route : List ℕ) (rest : ℕ) →
-    either (refusal (problem-rules locations legs latest depot route)) rest
-    ≡ either (number (leg-table locations legs)) (either (number (deadline-list locations latest)) (either (number (leg-sizes legs)) (either (number (known-stops locations depot route)) (either (number (stop-count (length route))) rest))))
-unfolding refusal
-problem-then locations legs latest depot route rest =
-    five-then (number (leg-table locations legs)) (number (deadline-list locations latest)) (number (leg-sizes legs)) (number (known-stops locations depot route)) (number (stop-count (length route))) rest

@@ -11,7 +11,7 @@ use native.Mathlib.Nat.{le-of-suc-le-suc}
 use lib.ListN.{length, getD, drop, length-drop}
 use lib.Seq.{slice, length-slice}
 use Rattle.theory.specs.Moves.{upfrom, total, Pattern, Move, Rising}
-use Rattle.theory.specs.Route.{segments, reverses, reverse-if, placed, joined, reconnected, Problem, arrival, late, every, feasible, Feasible}
+use Rattle.theory.specs.Route.{segments, reverses, reverse-if, placed, joined, reconnected, Problem, Clock, clock-of, arrival, late, every, timely, Timely, feasible, Feasible}
 use Rattle.theory.proofs.Moves.{total-append}
 
 -- ---- reconnecting keeps every sum over the stops
@@ -98,8 +98,11 @@ every-iff (suc n) t =
     at i h (yes p) a f = rw p a
     at i h (no p) a f = f i (omega arith)
 
+pub timely-iff : (C : Clock) (depot : ℕ) (r : List ℕ) → (timely C depot r ≡ true) ↔ Timely C depot r
+unfolding timely late
+timely-iff C depot r =
+    let e = every-iff (length r) (λ i. not (late C depot r i)) in
+    (λ k i h. ltb-false _ _ (not-true _ (e .0 k i h)), λ k. e .1 (λ i h. rw (le-ltb (C .latest (getD r i 0)) (arrival C depot r i) (k i h))))
+
 pub feasible-iff : (P : Problem) (r : List ℕ) → (feasible P r ≡ true) ↔ Feasible P r
-unfolding feasible late
-feasible-iff P r =
-    let e = every-iff (length r) (λ i. not (late P r i)) in
-    (λ k i h. ltb-false _ _ (not-true _ (e .0 k i h)), λ k. e .1 (λ i h. rw (le-ltb (P .latest (getD r i 0)) (arrival P r i) (k i h))))
+feasible-iff P r = timely-iff (clock-of P) (P .depot) r

@@ -6,5 +6,6 @@ pub mod Costs
 pub mod Links
 pub mod Tables
 pub mod Refusals
+pub mod Question
 pub mod Answers
 pub mod Runs

@@ -1,20 +1,21 @@
 -- Document 01, "When it says no": each condition on the raw input with its number. A call takes the rules that speak of what it is handed, and the
 -- first number of the one order whose rule applies is given.
 use mathlib.Core.Bool.{Bool, true, false, cond, not, _&&_, _||_}
-use mathlib.Core.List.{List, [], _∷_}
+use mathlib.Core.List.{List, [], _∷_, _++_}
 use Prim.Native.Nat.{ℕ, zero, suc, _*_}
 use lib.Dec.{leb, ltb, eqb}
 use lib.ListN.{length}
 use lib.Ieee.{Float, nan, inf, fin}
 use Rattle.theory.specs.Moves.{patterns, total}
+use Rattle.theory.specs.Tables.{Tables, Trip}
 
 abbrev pub Rule : Type 0
 Rule = ℕ × Bool
 
 -- Some element passes a test.
-unfoldable pub some : {A : Type 0} → (A → Bool) → List A → Bool
-some t [] = false
-some t (x ∷ xs) = t x || some t xs
+unfoldable pub any : {A : Type 0} → (A → Bool) → List A → Bool
+any t [] = false
+any t (x ∷ xs) = t x || any t xs
 
 -- Each element is below the next.
 unfoldable pub rises : List ℕ → Bool
@@ -36,11 +37,11 @@ deadline-list locations latest = (2, not (eqb (length latest) locations))
 
 -- "3: a leg above 1,000,000."
 abbrev pub leg-sizes : List ℕ → Rule
-leg-sizes legs = (3, some (λ d. ltb 1000000 d) legs)
+leg-sizes legs = (3, any (λ d. ltb 1000000 d) legs)
 
 -- "4: depot or stop not below the locations."
 abbrev pub known-stops : ℕ → ℕ → List ℕ → Rule
-known-stops locations depot route = (4, leb locations depot || some (λ s. leb locations s) route)
+known-stops locations depot route = (4, leb locations depot || any (λ s. leb locations s) route)
 
 -- "5: a round or n above 512 .."
 abbrev pub stop-count : ℕ → Rule
@@ -48,14 +49,14 @@ stop-count n = (5, ltb 512 n)
 
 -- 4 and 5 of the rounds of a run: every depot and every entry of the stops is judged, reached or not.
 abbrev pub known-rounds : ℕ → List ℕ → List ℕ → Rule
-known-rounds locations depots stops = (4, some (λ s. leb locations s) depots || some (λ s. leb locations s) stops)
+known-rounds locations depots stops = (4, any (λ s. leb locations s) depots || any (λ s. leb locations s) stops)
 
 -- "5: a round .. above 512, more than 64 rounds, or lists of rounds whose sizes disagree."
 abbrev pub round-lists : List ℕ → List ℕ → List ℕ → ℕ → Rule
 round-lists lengths depots pins stops = (
   5,
   ltb 64 (length lengths)
-      || some (λ n. ltb 512 n) lengths
+      || any (λ n. ltb 512 n) lengths
       || not (eqb (length depots) (length lengths))
       || not (eqb (length pins) (length lengths))
       || not (eqb (total (λ n. n) lengths) stops),
@@ -67,7 +68,7 @@ pattern-index k index = (6, leb (length (patterns k)) index)
 
 -- "7: not k cuts, one above n, or not strictly rising."
 abbrev pub cut-positions : ℕ → ℕ → List ℕ → Rule
-cut-positions k n cuts = (7, not (eqb (length cuts) k) || some (λ c. ltb n c) cuts || not (rises cuts))
+cut-positions k n cuts = (7, not (eqb (length cuts) k) || any (λ c. ltb n c) cuts || not (rises cuts))
 
 -- "Unequal lengths are 7": of the round numbers and the positions of the cuts.
 abbrev pub cut-lists : List ℕ → List ℕ → Rule
@@ -75,7 +76,7 @@ cut-lists rounds positions = (7, not (eqb (length rounds) (length positions)))
 
 -- "8: a cut naming another round."
 abbrev pub own-round : ℕ → List ℕ → Rule
-own-round round rounds = (8, some (λ r. not (eqb r round)) rounds)
+own-round round rounds = (8, any (λ r. not (eqb r round)) rounds)
 
 unfoldable pub no-number : Float → Bool
 no-number nan = true
@@ -85,7 +86,7 @@ no-number (fin s m e) = false
 -- "9: m or the neighbours outside their range, float table not n × n, or one of its entries no number."
 abbrev pub nearby-input : ℕ → List Float → ℕ → ℕ → Rule
 nearby-input n distances m neighbours =
-    (9, ltb m 1 || ltb 512 m || ltb 32 neighbours || not (eqb (length distances) (n * n)) || some no-number distances)
+    (9, ltb m 1 || ltb 512 m || ltb 32 neighbours || not (eqb (length distances) (n * n)) || any no-number distances)
 
 -- "21: lent result .. too short": needed places, lent places.
 abbrev pub room : ℕ → ℕ → Rule
@@ -128,7 +129,9 @@ refusal rs = first-in order rs
 abbrev pub if-taken : {A : Type 0} → List Rule → A → A → A
 if-taken rules a b = cond (eqb (refusal rules) 0) a b
 
--- The rules of the tables, the depot and a route.
-abbrev pub problem-rules : ℕ → List ℕ → List ℕ → ℕ → List ℕ → List Rule
-problem-rules locations legs latest depot route =
-    leg-table locations legs ∷ deadline-list locations latest ∷ leg-sizes legs ∷ known-stops locations depot route ∷ stop-count (length route) ∷ []
+-- The rules of the tables, and with the depot and a route.
+abbrev pub table-rules : Tables → List Rule
+table-rules T = leg-table (T .locations) (T .legs) ∷ deadline-list (T .locations) (T .latest) ∷ leg-sizes (T .legs) ∷ []
+
+abbrev pub problem-rules : Trip → List ℕ → List Rule
+problem-rules T route = table-rules (T .tables) ++ (known-stops (T .tables .locations) (T .depot) route ∷ stop-count (length route) ∷ [])

@@ -55,15 +55,23 @@ unfoldable pub tour-length : Problem → List ℕ → ℕ
 unfolding path
 tour-length P r = path (P .leg) (P .depot) (r ++ (P .depot ∷ []))
 
+-- What a clock reads that runs along a route, wherever it sets out.
+pub record Clock : Type 0 where
+  pub leg : ℕ → ℕ → ℕ
+  pub latest : ℕ → ℕ
+
+abbrev pub clock-of : Problem → Clock
+clock-of P = record { leg = P .leg; latest = P .latest }
+
 -- "The legs from the depot up to it": when the stop at position i is reached.
-unfoldable pub arrival : Problem → List ℕ → ℕ → ℕ
+unfoldable pub arrival : Clock → (depot : ℕ) → List ℕ → ℕ → ℕ
 unfolding path
-arrival P r i = path (P .leg) (P .depot) (take (suc i) r)
+arrival C depot r i = path (C .leg) depot (take (suc i) r)
 
 -- "A stop is late if the legs from the depot up to it exceed its latest."
-unfoldable pub late : Problem → List ℕ → ℕ → Bool
+unfoldable pub late : Clock → (depot : ℕ) → List ℕ → ℕ → Bool
 unfolding arrival
-late P r i = ltb (P .latest (getD r i 0)) (arrival P r i)
+late C depot r i = ltb (C .latest (getD r i 0)) (arrival C depot r i)
 
 -- A test holds at every place below n.
 unfoldable pub every : ℕ → (ℕ → Bool) → Bool
@@ -71,15 +79,22 @@ every zero t = true
 every (suc n) t = t n && every n t
 
 -- The running form of the next definition.
-unfoldable pub feasible : Problem → List ℕ → Bool
+unfoldable pub timely : Clock → (depot : ℕ) → List ℕ → Bool
 unfolding late every
-feasible P r = every (length r) (λ i. not (late P r i))
+timely C depot r = every (length r) (λ i. not (late C depot r i))
 
 -- "A round keeps every deadline when none of its stops is late."
-abbrev pub Feasible : Problem → List ℕ → Type 0
-Feasible P r = (i : ℕ) → i < length r → arrival P r i ≤ P .latest (getD r i 0)
+abbrev pub Timely : Clock → (depot : ℕ) → List ℕ → Type 0
+Timely C depot r = (i : ℕ) → i < length r → arrival C depot r i ≤ C .latest (getD r i 0)
 
 -- The same as a clock runs: from a at second t along the rest of the route, no stop is late.
-unfoldable pub on-time : Problem → ℕ → ℕ → List ℕ → Bool
-on-time P a t [] = true
-on-time P a t (x ∷ xs) = leb (t + P .leg a x) (P .latest x) && on-time P x (t + P .leg a x) xs
+unfoldable pub on-time : Clock → ℕ → ℕ → List ℕ → Bool
+on-time C a t [] = true
+on-time C a t (x ∷ xs) = leb (t + C .leg a x) (C .latest x) && on-time C x (t + C .leg a x) xs
+
+-- What a route must keep to be taken: every deadline. The running form, and what it says.
+abbrev pub feasible : Problem → List ℕ → Bool
+feasible P r = timely (clock-of P) (P .depot) r
+
+abbrev pub Feasible : Problem → List ℕ → Type 0
+Feasible P r = Timely (clock-of P) (P .depot) r

@@ -4,15 +4,46 @@ use mathlib.Core.List.{List, [], _∷_, _++_, List·Memᴰ}
 use Prim.Native.Nat.{ℕ, suc, _+_, _-_, _*_, _^_, _≤_, _<_}
 use lib.ListN.{length, getD, take, drop}
 use Rattle.theory.specs.Moves.{Pattern, Rising, total, upfrom}
-use Rattle.theory.specs.Route.{Problem}
+use Rattle.theory.specs.Route.{Problem, Clock}
 
--- "one lent table, a whole number of seconds for each ordered pair of locations, row = from"; "each location has a latest second".
-abbrev pub problem : ℕ → List ℕ → List ℕ → ℕ → Problem
-problem locations legs latest depot = record { leg = λ a b. getD legs (a * locations + b) 0; latest = λ a. getD latest a 0; depot = depot }
+-- What a caller lends beside the rounds: "one lent table, a whole number of seconds for each ordered pair of locations, row = from"; "each location has a
+-- latest second".
+pub record Tables : Type 0 where
+  pub locations : ℕ
+  pub legs : List ℕ
+  pub latest : List ℕ
+
+abbrev pub tables : ℕ → List ℕ → List ℕ → Tables
+tables locations legs latest = record { locations = locations; legs = legs; latest = latest }
+
+-- What one boat's round is planned by: the tables, and where it sets out and ends.
+pub record Trip : Type 0 where
+  pub tables : Tables
+  pub depot : ℕ
+
+abbrev pub trip : ℕ → List ℕ → List ℕ → ℕ → Trip
+trip locations legs latest depot = record { tables = tables locations legs latest; depot = depot }
+
+-- What the boats of a run are lent: rounds "whose stops lie end to end, with a length, a depot and a pin byte for each".
+pub record Fleet : Type 0 where
+  pub stops : List ℕ
+  pub lengths : List ℕ
+  pub depots : List ℕ
+  pub pins : List ℕ
+
+abbrev pub fleet : (stops lengths depots pins : List ℕ) → Fleet
+fleet stops lengths depots pins = record { stops = stops; lengths = lengths; depots = depots; pins = pins }
+
+abbrev pub clock-by : Tables → Clock
+clock-by T = record { leg = λ a b. getD (T .legs) (a * T .locations + b) 0; latest = λ a. getD (T .latest) a 0 }
+
+-- Its clock is the one above, by computation.
+abbrev pub problem : Trip → Problem
+problem T = let C = clock-by (T .tables) in record { leg = C .leg; latest = C .latest; depot = T .depot }
 
 -- The same where no deadline is read.
 abbrev pub legs-only : ℕ → List ℕ → ℕ → Problem
-legs-only locations legs depot = problem locations legs [] depot
+legs-only locations legs depot = problem (trip locations legs [] depot)
 
 pub record LegTable (locations : ℕ) (legs : List ℕ) : Type 0 where
   pub few : locations ≤ 1024
@@ -30,9 +61,9 @@ pub record Measurable (locations : ℕ) (legs : List ℕ) (depot : ℕ) (route :
   pub stops : Stops locations route
 
 -- A route whose deadlines can be read as well.
-pub record Timed (locations : ℕ) (legs latest : List ℕ) (depot : ℕ) (route : List ℕ) : Type 0 where
-  pub measurable : Measurable locations legs depot route
-  pub deadlines : length latest ≡ locations
+pub record Timed (T : Trip) (route : List ℕ) : Type 0 where
+  pub measurable : Measurable (T .tables .locations) (T .tables .legs) (T .depot) route
+  pub deadlines : length (T .tables .latest) ≡ T .tables .locations
 
 -- k cuts of a route of n stops.
 pub record CutSet (k n : ℕ) (cuts : List ℕ) : Type 0 where

@@ -1,5 +1,15 @@
 // The answer types of the port. Definitions and laws are in specs/ and proofs/; the crate is below all code and holds no entry.
 
+// The most stops of a route, and the places at which it can be cut.
+pub const STOPS: usize = 512;
+
+pub const CUT_PLACES: usize = STOPS + 1;
+
+// The most patterns of a k, which is 5, and the bytes of their orders.
+pub const PATTERNS: usize = 383;
+
+pub const ORDER_BYTES: usize = 6 * PATTERNS;
+
 // The deadline check: every deadline is kept, or the stop at some position is late.
 pub enum Deadline {
     Kept,

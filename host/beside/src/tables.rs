@@ -59,13 +59,18 @@ impl Tables {
     }
 
     /// 2: as above, or deadlines of another size.
-    pub fn bad_size(&self) -> bool {
+    fn bad_size(&self) -> bool {
         self.bad_legs_size() || self.latest.len() != self.locations
     }
 
     /// 3: a leg above 1,000,000.
     pub fn bad_leg(&self) -> bool {
         self.legs.iter().any(|&leg| leg > LONGEST_LEG)
+    }
+
+    /// What is refused of legs and deadlines, in the order of the numbers.
+    pub fn rules(&self) -> [(u32, bool); 2] {
+        [(2, self.bad_size()), (3, self.bad_leg())]
     }
 
     /// 4: one of these not below the locations.

@@ -1,47 +1,33 @@
 -- `costs::tail_start` meets its contract.
-use native.Mathlib.Omega.{arith}
+use mathlib.Core.Path.{_∙_}
 use borrow.Author.Needs.{needs}
-use Rattle.costs.proofs.Segments.{last-cut, tail-empty, tail-filled}
+use Rattle.costs.proofs.Segments.{tail-is}
 use Rattle.costs.proofs.tail_start.Statement.{statement}
 use Rattle.costs.proofs.tail_start.Tie as tie
 
-sub-last : tie.Need-sub-last
-sub-last c = search needs
+sub-tail-at : tie.Need-sub-tail-at
+sub-tail-at c = search needs
 
-mul-last : tie.Need-mul-last
-mul-last c = search needs
+mul-tail-at : tie.Need-mul-tail-at
+mul-tail-at c = search needs
 
-shared-slice-read-last : tie.Need-shared-slice-read-last
-shared-slice-read-last c = search needs
+shared-slice-read-tail-at : tie.Need-shared-slice-read-tail-at
+shared-slice-read-tail-at c = search needs
+
+tail-at-requires : tie.Need-tail-at-requires
+tail-at-requires c κs = search needs
 
 returns : tie.Need-returns
 returns c =
-    let s = c .before .before in
-    tail-empty (s .args .cuts .now) (s .args .route .now) (s .pre) (s .args .depot) (c .if1 .taken)
-
-mul-result : tie.Need-mul-result
-mul-result c =
-    let s = c .before .before in
-    omega (arith, last-cut (s .args .cuts .now) (s .args .route .now) (s .pre), s .pre .short)
-
-shared-slice-read-result : tie.Need-shared-slice-read-result
-shared-slice-read-result c =
-    let s = c .before .before .before in
-    omega (arith, last-cut (s .args .cuts .now) (s .args .route .now) (s .pre))
-
-returns-2 : tie.Need-returns-2
-returns-2 c =
-    let s = c .before .before .before in
-    tail-filled (s .args .cuts .now) (s .args .route .now) (s .pre) (s .args .depot) (omega (arith, last-cut (s .args .cuts .now) (s .args .route .now) (s .pre)))
+    let s = c .before .before .before .before in
+    c .tail-at .ensures ∙ tail-is (s .args .cuts .now) (s .args .route .now) (s .pre) (s .args .depot)
 
 pub tail-start-spec : {M : Type 1} → statement M
 tail-start-spec =
     tie.close
     (tie.spec
-    sub-last
-    mul-last
-    shared-slice-read-last
-    returns
-    mul-result
-    shared-slice-read-result
-    returns-2)
+    sub-tail-at
+    mul-tail-at
+    shared-slice-read-tail-at
+    tail-at-requires
+    returns)

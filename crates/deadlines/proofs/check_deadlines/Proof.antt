@@ -3,22 +3,25 @@ use Prim.Native.Nat.{_-_, _*_, _≤_, _<_}
 use native.Mathlib.Omega.{arith}
 use lib.ListN.{length, getD}
 use borrow.Author.Needs.{needs}
-use Rattle.theory.specs.Tables.{problem}
+use Rattle.theory.specs.Tables.{clock-by, tables, Tables}
 use Rattle.deadlines.proofs.Clock.{At, at-depot, late-there, at-next}
 use Rattle.deadlines.proofs.check_deadlines.Statement.{statement}
 use Rattle.deadlines.proofs.check_deadlines.Tie as tie
 
 abbrev Inv-loop : tie.InvT-loop
 Inv-loop locations legs latest depot route clock₀ previous₀ i₀ clock previous i =
-    (i ≤ length route) × (previous < locations) × (clock ≤ 1000000 * i) × At (problem locations legs latest depot) route i clock previous
+    (i ≤ length route) × (previous < locations) × (clock ≤ 1000000 * i) × At (clock-by (tables locations legs latest)) depot route i clock previous
 
 abbrev μ-loop : tie.MeasureT-loop
 μ-loop locations legs latest depot route clock₀ previous₀ i₀ clock previous i = length route - i
 
+abbrev lent : tie.Start Inv-loop μ-loop → Tables
+lent s = tables (s .args .locations) (s .args .legs .now) (s .args .latest .now)
+
 loop-holds : tie.Need-loop-holds Inv-loop μ-loop
 loop-holds c =
     let s = c .before .before .before in
-    (omega arith, s .pre .measurable .depot-known, omega arith, at-depot (problem (s .args .locations) (s .args .legs .now) (s .args .latest .now) (s .args .depot)) (s .args .route .now))
+    (omega arith, s .pre .measurable .depot-known, omega arith, at-depot (clock-by (lent s)) (s .args .depot) (s .args .route .now))
 
 -- The stop that a turn reads is a location.
 known : (c : tie.In-loop Inv-loop μ-loop) → getD (c .before .before .before .before .before .args .route .now) (c .before .loop .i) 0 < c .before .before .before .before .before .args .locations
@@ -58,7 +61,7 @@ returns c =
     let l = c .before .before .before .before .before .loop in
     let s = c .before .before .before .before .before .before .before .before .before in
     let h = c .before .before .before .before .loop-test .taken in
-    (h, late-there (problem (s .args .locations) (s .args .legs .now) (s .args .latest .now) (s .args .depot)) (s .args .route .now) (l .i) (l .clock) (l .previous) _ h (l .inv .3) (c .before .before .route-distance .ensures .is) (c .if1 .taken))
+    (h, late-there (clock-by (lent s)) (s .args .depot) (s .args .route .now) (l .i) (l .clock) (l .previous) _ h (l .inv .3) (c .before .before .route-distance .ensures .is) (c .if1 .taken))
 
 add-i : tie.Need-add-i Inv-loop μ-loop
 add-i c = search needs
@@ -75,7 +78,7 @@ loop-again c =
       omega arith,
       known (c .before .before .before .before),
       omega (arith, d .small, l .inv .2),
-      at-next (problem (s .args .locations) (s .args .legs .now) (s .args .latest .now) (s .args .depot)) (s .args .route .now) (l .i) (l .clock) (l .previous) _ h (l .inv .3) (d .is) (c .if1 .left),
+      at-next (clock-by (lent s)) (s .args .depot) (s .args .route .now) (l .i) (l .clock) (l .previous) _ h (l .inv .3) (d .is) (c .if1 .left),
     )
 
 returns-2 : tie.Need-returns-2 Inv-loop μ-loop

@@ -4,17 +4,20 @@ use Prim.Native.Nat.{_-_, _≤_}
 use native.Mathlib.Omega.{arith}
 use lib.ListN.{length, getD, set}
 use borrow.Author.Needs.{needs}
-use Rattle.theory.specs.Tables.{problem}
+use Rattle.theory.specs.Tables.{clock-by, tables, Tables}
 use Rattle.deadlines.proofs.Filling.{Back, reached-at, back-at-end, back-in-time, back-too-late, back-at-start}
 use Rattle.deadlines.proofs.fill_lateness.Statement.{statement}
 use Rattle.deadlines.proofs.fill_lateness.Tie as tie
 
 abbrev Inv-loop : tie.InvT-loop
 Inv-loop locations legs latest depot route forward lateness₀ c₀ longest₀ soonest₀ most₀ lateness c longest soonest most =
-    (c ≤ length route) × Back (problem locations legs latest depot) route lateness c longest soonest most
+    (c ≤ length route) × Back (clock-by (tables locations legs latest)) depot route lateness c longest soonest most
 
 abbrev μ-loop : tie.MeasureT-loop
 μ-loop locations legs latest depot route forward lateness₀ c₀ longest₀ soonest₀ most₀ lateness c longest soonest most = c
+
+abbrev lent : tie.Start Inv-loop μ-loop → Tables
+lent s = tables (s .args .locations) (s .args .legs .now) (s .args .latest .now)
 
 mul-lateness : tie.Need-mul-lateness Inv-loop μ-loop
 mul-lateness c = omega (arith, c .before .before .before .pre .timed .measurable .stops .short)
@@ -25,7 +28,7 @@ element-write-lateness c = omega (arith, c .before .before .before .pre .timed .
 loop-holds : tie.Need-loop-holds Inv-loop μ-loop
 loop-holds c =
     let s = c .before .before .before in
-    (omega arith, back-at-end (problem (s .args .locations) (s .args .legs .now) (s .args .latest .now) (s .args .depot)) (s .args .route .now) (s .args .lateness .now) (s .pre .places) (s .pre .timed .measurable .stops .short))
+    (omega arith, back-at-end (clock-by (lent s)) (s .args .depot) (s .args .route .now) (s .args .lateness .now) (s .pre .places) (s .pre .timed .measurable .stops .short))
 
 sub-i : tie.Need-sub-i Inv-loop μ-loop
 sub-i c = omega (arith, c .loop-test .taken)
@@ -69,15 +72,15 @@ loop-again c =
     let s = c .before .before .before .before .before .before .before .before .before .before .before in
     let l = c .before .before .before .before .before .before .before .loop in
     let h = c .before .before .before .before .before .before .loop-test .taken in
-    let P = problem (s .args .locations) (s .args .legs .now) (s .args .latest .now) (s .args .depot) in
+    let C = clock-by (lent s) in
     let a = c .before .before .before .before .before .arrival .ensures in
     let d = c .before .before .before .latest-of .ensures in
-    let at = reached-at P (s .args .route .now) _ (a .is) in
-    let step : Back P (s .args .route .now) (set (l .lateness) (l .c - 1) (c .later .result)) (l .c - 1) (c .before .if1 .longest) (c .before .before .least .result) (c .later .result) =
+    let at = reached-at C (s .args .depot) (s .args .route .now) _ (a .is) in
+    let step : Back C (s .args .depot) (s .args .route .now) (set (l .lateness) (l .c - 1) (c .later .result)) (l .c - 1) (c .before .if1 .longest) (c .before .before .least .result) (c .later .result) =
     rw (c .later .ensures, c .before .before .least .ensures)
     (⊎-elim
-    (λ w. rw (w .1) (back-too-late P (s .args .route .now) (l .lateness) (l .c - 1) (l .c) (l .longest) (l .soonest) (l .most) _ _ (l .inv .1) (omega arith) (omega (arith, l .inv .0)) (s .pre .timed .measurable .stops .short) at (a .early) (d .is) (d .small) (rw (c .before .before .least .ensures) at (w .0 .taken))))
-    (λ w. rw (w .1) (back-in-time P (s .args .route .now) (l .lateness) (l .c - 1) (l .c) (l .longest) (l .soonest) (l .most) _ _ (l .inv .1) (omega arith) (omega (arith, l .inv .0)) (s .pre .timed .measurable .stops .short) at (a .early) (d .is) (d .small) (rw (c .before .before .least .ensures) at (w .0 .left))))
+    (λ w. rw (w .1) (back-too-late C (s .args .depot) (s .args .route .now) (l .lateness) (l .c - 1) (l .c) (l .longest) (l .soonest) (l .most) _ _ (l .inv .1) (omega arith) (omega (arith, l .inv .0)) (s .pre .timed .measurable .stops .short) at (a .early) (d .is) (d .small) (rw (c .before .before .least .ensures) at (w .0 .taken))))
+    (λ w. rw (w .1) (back-in-time C (s .args .depot) (s .args .route .now) (l .lateness) (l .c - 1) (l .c) (l .longest) (l .soonest) (l .most) _ _ (l .inv .1) (omega arith) (omega (arith, l .inv .0)) (s .pre .timed .measurable .stops .short) at (a .early) (d .is) (d .small) (rw (c .before .before .least .ensures) at (w .0 .left))))
     (c .before .if1 .came)) in
     (omega (arith, l .inv .0), step)
 
@@ -85,7 +88,7 @@ returns : tie.Need-returns Inv-loop μ-loop
 returns c =
     let s = c .before .before .before .before .before in
     let l = c .before .loop in
-    back-at-start (problem (s .args .locations) (s .args .legs .now) (s .args .latest .now) (s .args .depot)) (s .args .route .now) (l .lateness) (l .c) (l .longest) (l .soonest) (l .most) (omega (arith, c .loop-test .left)) (l .inv .1)
+    back-at-start (clock-by (lent s)) (s .args .depot) (s .args .route .now) (l .lateness) (l .c) (l .longest) (l .soonest) (l .most) (omega (arith, c .loop-test .left)) (l .inv .1)
 
 pub fill-lateness-spec : {M : Type 1} → statement M
 fill-lateness-spec =

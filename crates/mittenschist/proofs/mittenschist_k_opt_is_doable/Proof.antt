@@ -2,7 +2,7 @@
 use mathlib.Core.Path.{refl}
 use Rattle.theory.proofs.LastRule.{early}
 use Rattle.theory.specs.Answers.{doable-answer}
-use Rattle.cut_moves.specs.Entries.{doable-rules}
+use Rattle.move_calls.specs.Entries.{doable-rules}
 use Rattle.mittenschist.specs.Promises.{doable-values}
 use Rattle.mittenschist.proofs.Written.{answer-written}
 use borrow.Author.Needs.{needs}

@@ -1,8 +1,12 @@
 -- `mittenschist::mittenschist_polish_route` meets its contract. Assumes nothing.
+use Rattle.theory.specs.Question.{Question, question}
 use Rattle.mittenschist.proofs.PolishReply.{refused, fine, space, polished}
 use borrow.Author.Needs.{needs}
 use Rattle.mittenschist.proofs.mittenschist_polish_route.Statement.{statement}
 use Rattle.mittenschist.proofs.mittenschist_polish_route.Tie as tie
+
+abbrev question-at : tie.Start → Question
+question-at s = question (s .args .k) (s .args .allowance) (s .args .locations) (s .args .legs .now) (s .args .latest .now) (s .args .depot) (s .args .route .now)
 
 polish-refusal-requires : tie.Need-polish-refusal-requires
 polish-refusal-requires c κs = search needs
@@ -14,19 +18,19 @@ returns : tie.Need-returns
 returns c =
     let r = c .before .polish-refusal in
     let s = c .before .before .before .before .before .before .before in
-    refused (s .args .k) (s .args .allowance) (s .args .locations) (s .args .legs .now) (s .args .latest .now) (s .args .depot) (s .args .route .now) (s .args .result .now) (r .result) (r .ensures) (c .if1 .taken)
+    refused (question-at s) (s .args .result .now) (r .result) (r .ensures) (c .if1 .taken)
 
 polish-route-requires : tie.Need-polish-route-requires
 polish-route-requires c κs =
     let r = c .before .before .polish-refusal in
     let s = c .before .before .before .before .before .before .before .before in
-    fine (s .args .k) (s .args .allowance) (s .args .locations) (s .args .legs .now) (s .args .latest .now) (s .args .depot) (s .args .route .now) (s .args .result .now) (r .result) (r .ensures) (c .before .if1 .left)
+    fine (question-at s) (s .args .result .now) (r .result) (r .ensures) (c .before .if1 .left)
 
 put-polished-requires : tie.Need-put-polished-requires
 put-polished-requires c κs =
     let r = c .before .before .before .before .before .before .polish-refusal in
     let s = c .before .before .before .before .before .before .before .before .before .before .before .before in
-    space (s .args .k) (s .args .allowance) (s .args .locations) (s .args .legs .now) (s .args .latest .now) (s .args .depot) (s .args .route .now) (s .args .result .now) (r .result) (r .ensures) (c .before .before .before .before .before .if1 .left)
+    space (question-at s) (s .args .result .now) (r .result) (r .ensures) (c .before .before .before .before .before .if1 .left)
 
 same-length-2 : tie.Need-same-length-2
 same-length-2 c = search needs
@@ -38,7 +42,7 @@ returns-2 : tie.Need-returns-2
 returns-2 c =
     let r = c .before .before .before .before .before .before .before .before .before .polish-refusal in
     let s = c .before .before .before .before .before .before .before .before .before .before .before .before .before .before .before in
-    polished (s .args .k) (s .args .allowance) (s .args .locations) (s .args .legs .now) (s .args .latest .now) (s .args .depot) (s .args .route .now) (s .args .result .now) (r .result) (r .ensures) (c .before .before .before .before .before .before .before .before .if1 .left) _ _ _ (c .before .before .before .before .before .before .polish-route .ensures) (c .before .before .put-polished .ensures)
+    polished (question-at s) (s .args .result .now) (r .result) (r .ensures) (c .before .before .before .before .before .before .before .before .if1 .left) _ _ _ (c .before .before .before .before .before .before .polish-route .ensures) (c .before .before .put-polished .ensures)
 
 pub mittenschist-polish-route-spec : {M : Type 1} → statement M
 mittenschist-polish-route-spec =

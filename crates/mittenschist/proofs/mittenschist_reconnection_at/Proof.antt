@@ -2,7 +2,7 @@
 use mathlib.Core.Path.{refl}
 use Prim.Native.Nat.{_+_}
 use Rattle.moves.specs.Moves.{pattern-values}
-use Rattle.judging.specs.Rules.{pattern-rules}
+use Rattle.refusal_rules.specs.Rules.{pattern-rules}
 use Rattle.mittenschist.proofs.ReconnectionReply.{shown}
 use Rattle.mittenschist.proofs.Written.{nothing-written, values-written}
 use borrow.Author.Needs.{needs}

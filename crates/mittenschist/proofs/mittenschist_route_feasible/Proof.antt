@@ -1,8 +1,12 @@
 -- `mittenschist::mittenschist_route_feasible` meets its contract. Assumes nothing.
+use Rattle.theory.specs.Tables.{Trip, trip}
 use Rattle.mittenschist.proofs.FeasibleReply.{handed-written}
 use borrow.Author.Needs.{needs}
 use Rattle.mittenschist.proofs.mittenschist_route_feasible.Statement.{statement}
 use Rattle.mittenschist.proofs.mittenschist_route_feasible.Tie as tie
+
+abbrev trip-at : tie.Start → Trip
+trip-at s = trip (s .args .locations) (s .args .legs .now) (s .args .latest .now) (s .args .depot)
 
 route-feasible-requires : tie.Need-route-feasible-requires
 route-feasible-requires c κs = search needs
@@ -17,7 +21,7 @@ returns : tie.Need-returns
 returns c =
     let a = c .before .before .before .before .route-feasible in
     let s = c .before .before .before .before .before .before .before .before .before in
-    handed-written (s .args .locations) (s .args .legs .now) (s .args .latest .now) (s .args .depot) (s .args .route .now) (s .args .result .now) (a .result) (a .ensures) _ _ (c .before .before .put-feasibility .ensures)
+    handed-written (trip-at s) (s .args .route .now) (s .args .result .now) (a .result) (a .ensures) _ _ (c .before .before .put-feasibility .ensures)
 
 pub mittenschist-route-feasible-spec : {M : Type 1} → statement M
 mittenschist-route-feasible-spec =

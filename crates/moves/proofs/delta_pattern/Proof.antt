@@ -4,7 +4,7 @@ use mir.Syntax.{w64}
 use mir.Val.{toZ, ofZ}
 use borrow.Author.Needs.{needs}
 use Rattle.theory.specs.Tables.{legs-only}
-use Rattle.deltas.specs.Deltas.{delta-of}
+use Rattle.costs.specs.Deltas.{delta-of}
 use Rattle.moves.proofs.Found.{wide, long, own-cuts, for-k, same-move}
 use Rattle.moves.proofs.delta_pattern.Statement.{statement}
 use Rattle.moves.proofs.delta_pattern.Tie as tie

@@ -2,10 +2,10 @@
 use mathlib.Core.Path.{_≡_, refl, ap, _∙_}
 use Prim.Native.Nat.{_≤_, _-_, _+_}
 use lib.ListN.{length, take, length-take, length-set}
-use Rattle.neighbours.specs.Memo.{Memo}
-use Rattle.pouring.specs.Pouring.{pour}
-use Rattle.branches.specs.Branch.{lists-of}
-use Rattle.branches.proofs.Turns.{kept-below}
+use Rattle.nearby_neighbours.specs.Memo.{Memo}
+use Rattle.nearby_last_cut.specs.Pouring.{pour}
+use Rattle.nearby_from_cut.specs.Branch.{lists-of}
+use Rattle.nearby_from_cut.proofs.Turns.{kept-below}
 use Rattle.nearby.specs.Listing.{sets-of-state}
 use Rattle.nearby.proofs.First.{memo-empty, alone, first-below, missing-one, missing-two, segments-small, walk-from, first-ended, first-turned, first-most, first-over, nearby-start}
 use native.Mathlib.Omega.{arith}

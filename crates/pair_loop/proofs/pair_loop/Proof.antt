@@ -3,7 +3,7 @@ use mathlib.Core.Path.{_≡_, refl, _∙_}
 use Prim.Native.Nat.{_-_}
 use lib.ListN.{length}
 use Rattle.theory.specs.Route.{Problem}
-use Rattle.theory.specs.Tables.{problem}
+use Rattle.theory.specs.Tables.{problem, trip}
 use Rattle.pair_loop.specs.PairLoop.{reply-of, passes, pair-loop}
 use Rattle.pair_loop.specs.Parts.{Going}
 use Rattle.pair_loop.proofs.Progress.{going-after-pass, stopped-there, nothing-accepted, passes-further, examined-more, told, passes-first}
@@ -15,15 +15,15 @@ use Rattle.pair_loop.proofs.pair_loop.Tie as tie
 
 abbrev Inv-loop : tie.InvT-loop
 Inv-loop allowance locations legs latest depot route₀ so-far₀ route so-far =
-    Going allowance locations legs latest depot so-far route
+    Going allowance (trip locations legs latest depot) so-far route
     × (length route ≡ length route₀)
-    × (passes (problem locations legs latest depot) allowance (length route₀) allowance (reply-of so-far route) ≡ pair-loop (problem locations legs latest depot) allowance route₀)
+    × (passes (problem (trip locations legs latest depot)) allowance (length route₀) allowance (reply-of so-far route) ≡ pair-loop (problem (trip locations legs latest depot)) allowance route₀)
 
 abbrev μ-loop : tie.MeasureT-loop
 μ-loop allowance locations legs latest depot route₀ so-far₀ route so-far = allowance - so-far .examined
 
 abbrev P : tie.Start Inv-loop μ-loop → Problem
-P s = problem (s .args .locations) (s .args .legs .now) (s .args .latest .now) (s .args .depot)
+P s = problem (trip (s .args .locations) (s .args .legs .now) (s .args .latest .now) (s .args .depot))
 
 loop-holds : tie.Need-loop-holds Inv-loop μ-loop
 loop-holds c =

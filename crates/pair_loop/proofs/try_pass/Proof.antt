@@ -3,11 +3,11 @@ use mathlib.Core.Path.{_≡_, refl, sym, _∙_}
 use Prim.Native.Nat.{_+_, _-_, _≤_, _<_}
 use lib.ListN.{length}
 use Rattle.theory.specs.Route.{Problem}
-use Rattle.theory.specs.Tables.{problem}
+use Rattle.theory.specs.Tables.{problem, trip}
 use Rattle.pair_loop.specs.PairLoop.{reply-of, pass}
 use Rattle.pair_loop.specs.Parts.{Going}
 use Rattle.pair_loop.proofs.Steps.{pass-left, pass-first, pass-ended, pass-tried, pass-stopped}
-use Rattle.pair_loop.proofs.Progress.{going-after-row}
+use Rattle.pair_loop.proofs.Progress.{going-after-sweep}
 use native.Mathlib.Omega.{arith}
 use borrow.Author.Needs.{needs}
 use borrow.Author.Tests.{not-true, not-false}
@@ -16,17 +16,17 @@ use Rattle.pair_loop.proofs.try_pass.Tie as tie
 
 abbrev Inv-loop : tie.InvT-loop
 Inv-loop allowance locations legs latest depot route₀ passed₀ i₀ route passed i =
-    Going allowance locations legs latest depot passed route
+    Going allowance (trip locations legs latest depot) passed route
     × (length route ≡ length route₀)
     × (i ≤ length route₀)
-    × (pass-left (problem locations legs latest depot) allowance (length route₀) (reply-of passed route) i
-    ≡ pass (problem locations legs latest depot) allowance (length route₀) (reply-of passed₀ route₀))
+    × (pass-left (problem (trip locations legs latest depot)) allowance (length route₀) (reply-of passed route) i
+    ≡ pass (problem (trip locations legs latest depot)) allowance (length route₀) (reply-of passed₀ route₀))
 
 abbrev μ-loop : tie.MeasureT-loop
 μ-loop allowance locations legs latest depot route₀ passed₀ i₀ route passed i = length route₀ - i
 
 abbrev P : tie.Start Inv-loop μ-loop → Problem
-P s = problem (s .args .locations) (s .args .legs .now) (s .args .latest .now) (s .args .depot)
+P s = problem (trip (s .args .locations) (s .args .legs .now) (s .args .latest .now) (s .args .depot))
 
 loop-holds : tie.Need-loop-holds Inv-loop μ-loop
 loop-holds c =
@@ -36,8 +36,8 @@ loop-holds c =
 add-loop : tie.Need-add-loop Inv-loop μ-loop
 add-loop c = search needs
 
-try-row-requires : tie.Need-try-row-requires Inv-loop μ-loop
-try-row-requires c κs =
+try-sweep-requires : tie.Need-try-sweep-requires Inv-loop μ-loop
+try-sweep-requires c κs =
     let l = c .before .before .loop in
     record { so-far = l .inv .0; inside = omega (arith, c .before .loop-test .taken) }
 
@@ -49,7 +49,7 @@ returns c =
     let s = c .before .before .before .before .before .before .before .before .before .before .before in
     let l = c .before .before .before .before .before .before .before .loop in
     let h : l .i + 1 < length (s .args .route .now) = omega (arith, l .inv .1, c .before .before .before .before .before .before .loop-test .taken) in
-    pass-stopped (P s) (s .args .allowance) (length (s .args .route .now)) (reply-of (l .passed) (l .route)) _ (l .i) (l .inv .1) h (c .before .before .before .before .try-row .ensures) (not-true _ (c .if1 .taken)) ∙ l .inv .3
+    pass-stopped (P s) (s .args .allowance) (length (s .args .route .now)) (reply-of (l .passed) (l .route)) _ (l .i) (l .inv .1) h (c .before .before .before .before .try-sweep .ensures) (not-true _ (c .if1 .taken)) ∙ l .inv .3
 
 add-i : tie.Need-add-i Inv-loop μ-loop
 add-i c = search needs
@@ -62,8 +62,8 @@ loop-again c =
     let s = c .before .before .before .before .before .before .before .before .before .before .before in
     let l = c .before .before .before .before .before .before .before .loop in
     let h : l .i + 1 < length (s .args .route .now) = omega (arith, l .inv .1, c .before .before .before .before .before .before .loop-test .taken) in
-    let e = c .before .before .before .before .try-row .ensures in
-    let k = going-after-row (P s) (s .args .allowance) (l .inv .0) (length (l .route)) (l .i) e (not-false _ (c .if1 .left)) in
+    let e = c .before .before .before .before .try-sweep .ensures in
+    let k = going-after-sweep (P s) (s .args .allowance) (l .inv .0) (length (l .route)) (l .i) e (not-false _ (c .if1 .left)) in
     (k .0, k .1 ∙ l .inv .1, omega (arith, h), pass-tried (P s) (s .args .allowance) (length (s .args .route .now)) (reply-of (l .passed) (l .route)) _ (l .i) (l .inv .1) h e ∙ l .inv .3)
 
 same-length-2 : tie.Need-same-length-2 Inv-loop μ-loop
@@ -84,7 +84,7 @@ try-pass-spec =
     μ-loop
     loop-holds
     add-loop
-    try-row-requires
+    try-sweep-requires
     same-length
     returns
     add-i

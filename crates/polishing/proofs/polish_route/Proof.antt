@@ -1,5 +1,6 @@
 -- `polishing::polish_route` meets its contract. Assumes nothing.
 use native.Mathlib.Omega.{arith}
+use Rattle.theory.specs.Tables.{trip}
 use Rattle.polishing.proofs.Enumerated.{width-fits, orders-lent, masks-lent, orders-size, masks-size, rows-are, polishable}
 use borrow.Author.Needs.{needs}
 use Rattle.polishing.proofs.polish_route.Statement.{statement}
@@ -51,7 +52,7 @@ polish-rows-requires : tie.Need-polish-rows-requires
 polish-rows-requires c κs =
     let e = c .before .before .before .before .before .enumerate-reconnections in
     let s = c .before .before .before .before .before .before .before .before .before .before .before in
-    polishable (s .args .k) (e .result) _ _ _ _ (record { least = s .pre .least; most = s .pre .most }) (e .ensures) (s .args .locations) (s .args .legs .now) (s .args .latest .now) (s .args .depot) (s .args .route .now) (s .pre)
+    polishable (s .args .k) (e .result) _ _ _ _ (record { least = s .pre .least; most = s .pre .most }) (e .ensures) (trip (s .args .locations) (s .args .legs .now) (s .args .latest .now) (s .args .depot)) (s .args .route .now) (s .pre)
 
 same-length : tie.Need-same-length
 same-length c = search needs

@@ -4,14 +4,14 @@ use borrow.Author.Needs.{needs}
 use Rattle.refusals.proofs.check_own_round.Statement.{statement}
 use Rattle.refusals.proofs.check_own_round.Tie as tie
 
-some-other-requires : tie.Need-some-other-requires
-some-other-requires c κs = search needs
+any-other-requires : tie.Need-any-other-requires
+any-other-requires c κs = search needs
 
 returns : tie.Need-returns
-returns c = simp (sym (c .before .some-other .ensures) ∙ c .if1 .taken)
+returns c = simp (sym (c .before .any-other .ensures) ∙ c .if1 .taken)
 
 returns-2 : tie.Need-returns-2
-returns-2 c = simp (sym (c .before .some-other .ensures) ∙ c .if1 .left)
+returns-2 c = simp (sym (c .before .any-other .ensures) ∙ c .if1 .left)
 
 pub check-own-round-spec : {M : Type 1} → statement M
-check-own-round-spec = tie.close (tie.spec some-other-requires returns returns-2)
+check-own-round-spec = tie.close (tie.spec any-other-requires returns returns-2)

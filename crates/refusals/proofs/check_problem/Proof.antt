@@ -1,19 +1,14 @@
--- `refusals::check_problem` meets its contract: the checks in the one order. Assumes nothing.
-use mathlib.Core.Path.{sym, ap₂, _∙_}
-use Rattle.theory.specs.Refusals.{either, refusal}
-use Rattle.theory.proofs.Refusals.{either-zero}
+-- `refusals::check_problem` meets its contract: the tables, and then the depot and the route. Assumes nothing.
+use mathlib.Core.Path.{ap, _∙_}
+use Rattle.theory.specs.Tables.{trip}
+use Rattle.theory.specs.Refusals.{either}
 use borrow.Author.Needs.{needs}
+use Rattle.refusals.proofs.Either.{problem-parts}
 use Rattle.refusals.proofs.check_problem.Statement.{statement}
 use Rattle.refusals.proofs.check_problem.Tie as tie
 
-check-leg-table-requires : tie.Need-check-leg-table-requires
-check-leg-table-requires c κs = search needs
-
-check-deadline-list-requires : tie.Need-check-deadline-list-requires
-check-deadline-list-requires c κs = search needs
-
-check-leg-sizes-requires : tie.Need-check-leg-sizes-requires
-check-leg-sizes-requires c κs = search needs
+check-tables-requires : tie.Need-check-tables-requires
+check-tables-requires c κs = search needs
 
 check-known-stops-requires : tie.Need-check-known-stops-requires
 check-known-stops-requires c κs = search needs
@@ -27,27 +22,14 @@ first-requires c κs = search needs
 first-requires-2 : tie.Need-first-requires-2
 first-requires-2 c κs = search needs
 
-first-requires-3 : tie.Need-first-requires-3
-first-requires-3 c κs = search needs
-
-first-requires-4 : tie.Need-first-requires-4
-first-requires-4 c κs = search needs
-
 returns : tie.Need-returns
-unfolding refusal
-returns c = c .first4 .ensures ∙ ap₂ either (c .before .before .before .before .before .before .before .before .check-leg-table .ensures) (c .before .first3 .ensures ∙ ap₂ either (c .before .before .before .before .before .before .before .check-deadline-list .ensures) (c .before .before .first2 .ensures ∙ ap₂ either (c .before .before .before .before .before .before .check-leg-sizes .ensures) (c .before .before .before .first .ensures ∙ ap₂ either (c .before .before .before .before .before .check-known-stops .ensures) (c .before .before .before .before .check-stop-count .ensures ∙ sym (either-zero _)))))
+returns c =
+    let s = c .before .before .before .before .before .before .before .before in
+    c .first2 .ensures
+    ∙ ap (either _) (c .before .first .ensures)
+    ∙ problem-parts (trip (s .args .locations) (s .args .legs .now) (s .args .latest .now) (s .args .depot)) (s .args .route .now) _ _ _ (c .before .before .before .before .check-tables .ensures) (c .before .before .before .check-known-stops .ensures) (c .before .before .check-stop-count .ensures)
 
 pub check-problem-spec : {M : Type 1} → statement M
 check-problem-spec =
     tie.close
-    (tie.spec
-    check-leg-table-requires
-    check-deadline-list-requires
-    check-leg-sizes-requires
-    check-known-stops-requires
-    check-stop-count-requires
-    first-requires
-    first-requires-2
-    first-requires-3
-    first-requires-4
-    returns)
+    (tie.spec check-tables-requires check-known-stops-requires check-stop-count-requires first-requires first-requires-2 returns)

@@ -2,6 +2,7 @@
 use mathlib.Core.Path.{_≡_}
 use Prim.Native.Nat.{_+_, _-_, _*_}
 use lib.ListN.{length, getD}
+use Rattle.theory.specs.Tables.{Tables, Fleet, tables, fleet}
 use Rattle.run.proofs.Turn.{Running, begins, round-room, polishable, turn, ends}
 use native.Mathlib.Omega.{arith}
 use borrow.Author.Needs.{needs}
@@ -10,15 +11,21 @@ use Rattle.run.proofs.run_list_k_opt_in_phase.Tie as tie
 
 abbrev Inv-loop : tie.InvT-loop
 Inv-loop k allowance locations legs latest stops₀ lengths depots pins result₀ left₀ at₀ i₀ stops result left at i =
-    Running k allowance locations legs latest stops₀ lengths depots pins result₀ stops result left at i
+    Running k allowance (tables locations legs latest) (fleet stops₀ lengths depots pins) result₀ stops result left at i
 
 abbrev μ-loop : tie.MeasureT-loop
 μ-loop k allowance locations legs latest stops₀ lengths depots pins result₀ left₀ at₀ i₀ stops result left at i = length lengths - i
 
+abbrev lent : tie.Start Inv-loop μ-loop → Tables
+lent s = tables (s .args .locations) (s .args .legs .now) (s .args .latest .now)
+
+abbrev boats : tie.Start Inv-loop μ-loop → Fleet
+boats s = fleet (s .args .stops .now) (s .args .lengths .now) (s .args .depots .now) (s .args .pins .now)
+
 loop-holds : tie.Need-loop-holds Inv-loop μ-loop
 loop-holds c =
     let s = c .before .before .before .before .before .before .before in
-    begins (s .args .k) (s .args .allowance) (s .args .locations) (s .args .legs .now) (s .args .latest .now) (s .args .stops .now) (s .args .lengths .now) (s .args .depots .now) (s .args .pins .now) (s .args .result .now)
+    begins (s .args .k) (s .args .allowance) (lent s) (boats s) (s .args .result .now)
 
 mul-end : tie.Need-mul-end Inv-loop μ-loop
 mul-end c = search needs
@@ -30,7 +37,7 @@ add-end : tie.Need-add-end Inv-loop μ-loop
 add-end c =
     let s = c .before .before .before .before .before .before .before .before .before .before in
     let l = c .before .before .loop in
-    let g = round-room (s .args .k) (s .args .allowance) (s .args .locations) (s .args .legs .now) (s .args .latest .now) (s .args .stops .now) (s .args .lengths .now) (s .args .depots .now) (s .args .pins .now) (s .args .result .now) (s .pre) (l .stops) (l .result) (l .left) (l .at) (l .i) (l .inv) (c .before .loop-test .taken) in
+    let g = round-room (s .args .k) (s .args .allowance) (lent s) (boats s) (s .args .result .now) (s .pre) (l .stops) (l .result) (l .left) (l .at) (l .i) (l .inv) (c .before .loop-test .taken) in
     omega (arith, g, s .good)
 
 mul-depot : tie.Need-mul-depot Inv-loop μ-loop
@@ -46,7 +53,7 @@ mul-route : tie.Need-mul-route Inv-loop μ-loop
 mul-route c =
     let s = c .before .before .before .before .before .before .before .before .before .before .before .before in
     let l = c .before .before .before .before .loop in
-    let g = round-room (s .args .k) (s .args .allowance) (s .args .locations) (s .args .legs .now) (s .args .latest .now) (s .args .stops .now) (s .args .lengths .now) (s .args .depots .now) (s .args .pins .now) (s .args .result .now) (s .pre) (l .stops) (l .result) (l .left) (l .at) (l .i) (l .inv) (c .before .before .before .loop-test .taken) in
+    let g = round-room (s .args .k) (s .args .allowance) (lent s) (boats s) (s .args .result .now) (s .pre) (l .stops) (l .result) (l .left) (l .at) (l .i) (l .inv) (c .before .before .before .loop-test .taken) in
     omega (arith, g, s .good)
 
 sub-route : tie.Need-sub-route Inv-loop μ-loop
@@ -59,14 +66,14 @@ part-route-end : tie.Need-part-route-end Inv-loop μ-loop
 part-route-end c =
     let s = c .before .before .before .before .before .before .before .before .before .before .before .before in
     let l = c .before .before .before .before .loop in
-    round-room (s .args .k) (s .args .allowance) (s .args .locations) (s .args .legs .now) (s .args .latest .now) (s .args .stops .now) (s .args .lengths .now) (s .args .depots .now) (s .args .pins .now) (s .args .result .now) (s .pre) (l .stops) (l .result) (l .left) (l .at) (l .i) (l .inv) (c .before .before .before .loop-test .taken)
+    round-room (s .args .k) (s .args .allowance) (lent s) (boats s) (s .args .result .now) (s .pre) (l .stops) (l .result) (l .left) (l .at) (l .i) (l .inv) (c .before .before .before .loop-test .taken)
 
 run-round-requires : tie.Need-run-round-requires Inv-loop μ-loop
 run-round-requires c κs =
     let s = c .before .before .before .before .before .before .before .before .before .before .before .before .before in
     let l = c .before .before .before .before .before .loop in
     let q : l .at + getD (s .args .lengths .now) (l .i) 0 - l .at ≡ getD (s .args .lengths .now) (l .i) 0 = omega arith in
-    rw q (polishable (s .args .k) (s .args .allowance) (s .args .locations) (s .args .legs .now) (s .args .latest .now) (s .args .stops .now) (s .args .lengths .now) (s .args .depots .now) (s .args .pins .now) (s .args .result .now) (s .pre) (l .stops) (l .result) (l .left) (l .at) (l .i) (l .inv) (c .before .before .before .before .loop-test .taken))
+    rw q (polishable (s .args .k) (s .args .allowance) (lent s) (boats s) (s .args .result .now) (s .pre) (l .stops) (l .result) (l .left) (l .at) (l .i) (l .inv) (c .before .before .before .before .loop-test .taken))
 
 mul-row : tie.Need-mul-row Inv-loop μ-loop
 mul-row c = search needs
@@ -109,7 +116,7 @@ loop-again c =
     let p : 4 * l .i + 4 - 4 * l .i ≡ 4 = omega arith in
     let r = rw q at (c .before .before .before .before .before .before .before .run-round .ensures) in
     let n = rw p at (c .before .before .before .put-state .ensures) in
-    rw (q, p, c .examined .ensures) (turn (s .args .k) (s .args .allowance) (s .args .locations) (s .args .legs .now) (s .args .latest .now) (s .args .stops .now) (s .args .lengths .now) (s .args .depots .now) (s .args .pins .now) (s .args .result .now) (s .pre) (l .stops) (l .result) (l .left) (l .at) (l .i) (l .inv) (c .before .before .before .before .before .before .before .before .before .before .before .before .loop-test .taken) (c .before .before .before .before .before .before .before .run-round .result) _ _ r n)
+    rw (q, p, c .examined .ensures) (turn (s .args .k) (s .args .allowance) (lent s) (boats s) (s .args .result .now) (s .pre) (l .stops) (l .result) (l .left) (l .at) (l .i) (l .inv) (c .before .before .before .before .before .before .before .before .before .before .before .before .loop-test .taken) (c .before .before .before .before .before .before .before .run-round .result) _ _ r n)
 
 same-length : tie.Need-same-length Inv-loop μ-loop
 same-length c = search needs
@@ -121,7 +128,7 @@ returns : tie.Need-returns Inv-loop μ-loop
 returns c =
     let s = c .before .before .before .before .before .before .before .before .before in
     let l = c .before .loop in
-    ends (s .args .k) (s .args .allowance) (s .args .locations) (s .args .legs .now) (s .args .latest .now) (s .args .stops .now) (s .args .lengths .now) (s .args .depots .now) (s .args .pins .now) (s .args .result .now) (s .pre) (l .stops) (l .result) (l .left) (l .at) (l .i) (l .inv) (c .loop-test .left)
+    ends (s .args .k) (s .args .allowance) (lent s) (boats s) (s .args .result .now) (s .pre) (l .stops) (l .result) (l .left) (l .at) (l .i) (l .inv) (c .loop-test .left)
 
 pub run-list-k-opt-in-phase-spec : {M : Type 1} → statement M
 run-list-k-opt-in-phase-spec =

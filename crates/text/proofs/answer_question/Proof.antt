@@ -1,10 +1,14 @@
 -- `text::answer_question` meets its contract. Assumes nothing.
 use native.Mathlib.Omega.{arith}
 use borrow.Author.Needs.{needs}
-use Rattle.printing.proofs.Lengths.{refusal-length}
+use Rattle.theory.specs.Question.{Question, question}
+use Rattle.text_printing.proofs.Lengths.{refusal-length}
 use Rattle.text.proofs.Answering.{refused, polished, fine}
 use Rattle.text.proofs.answer_question.Statement.{statement}
 use Rattle.text.proofs.answer_question.Tie as tie
+
+abbrev question-at : tie.Start → Question
+question-at s = question (s .args .k) (s .args .allowance) (s .args .locations) (s .args .legs .now) (s .args .latest .now) (s .args .depot) (s .args .stops .now)
 
 question-refusal-requires : tie.Need-question-refusal-requires
 question-refusal-requires c κs = search needs
@@ -25,19 +29,19 @@ returns : tie.Need-returns
 returns c =
     let r = c .before .before .before .before .before .question-refusal in
     let s = c .before .before .before .before .before .before .before .before .before .before .before in
-    refused (s .args .k) (s .args .allowance) (s .args .locations) (s .args .legs .now) (s .args .latest .now) (s .args .depot) (s .args .stops .now) (r .result) (r .ensures) _ _ _ (c .before .before .before .before .if1 .taken) (c .before .before .print-refusal .ensures)
+    refused (question-at s) (r .result) (r .ensures) _ _ _ (c .before .before .before .before .if1 .taken) (c .before .before .print-refusal .ensures)
 
 polish-route-requires : tie.Need-polish-route-requires
 polish-route-requires c κs =
     let r = c .before .before .question-refusal in
     let s = c .before .before .before .before .before .before .before .before in
-    fine (s .args .k) (s .args .locations) (s .args .legs .now) (s .args .latest .now) (s .args .depot) (s .args .stops .now) (r .result) (r .ensures) (c .before .if1 .left)
+    fine (question-at s) (r .result) (r .ensures) (c .before .if1 .left)
 
 print-polished-requires : tie.Need-print-polished-requires
 print-polished-requires c κs =
     let r = c .before .before .before .before .before .before .before .question-refusal in
     let s = c .before .before .before .before .before .before .before .before .before .before .before .before .before in
-    let f = fine (s .args .k) (s .args .locations) (s .args .legs .now) (s .args .latest .now) (s .args .depot) (s .args .stops .now) (r .result) (r .ensures) (c .before .before .before .before .before .before .if1 .left) in
+    let f = fine (question-at s) (r .result) (r .ensures) (c .before .before .before .before .before .before .if1 .left) in
     record { few = omega (arith, c .before .before .before .before .polish-route .kept .1 .1 .1 .1 .1 .1 .0, f .timed .measurable .stops .short); room = s .pre }
 
 same-length-3 : tie.Need-same-length-3
@@ -50,7 +54,7 @@ returns-2 : tie.Need-returns-2
 returns-2 c =
     let r = c .before .before .before .before .before .before .before .before .before .before .question-refusal in
     let s = c .before .before .before .before .before .before .before .before .before .before .before .before .before .before .before .before in
-    polished (s .args .k) (s .args .allowance) (s .args .locations) (s .args .legs .now) (s .args .latest .now) (s .args .depot) (s .args .stops .now) (r .result) (r .ensures) _ _ _ (c .before .before .before .before .before .before .before .before .before .if1 .left) _ _ (c .before .before .before .before .before .before .before .polish-route .ensures) (c .before .before .print-polished .ensures)
+    polished (question-at s) (r .result) (r .ensures) _ _ _ (c .before .before .before .before .before .before .before .before .before .if1 .left) _ _ (c .before .before .before .before .before .before .before .polish-route .ensures) (c .before .before .print-polished .ensures)
 
 pub answer-question-spec : {M : Type 1} → statement M
 answer-question-spec =

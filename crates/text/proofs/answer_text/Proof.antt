@@ -1,10 +1,22 @@
 -- `text::answer_text` meets its contract. Assumes nothing.
+use mathlib.Core.Path.{sym}
 use native.Mathlib.Omega.{arith}
+use lib.Seq.{length-take-le}
 use borrow.Author.Needs.{needs}
-use Rattle.printing.proofs.Lengths.{refusal-length}
-use Rattle.text.proofs.Asked.{still-lent, malformed, cells-fit, legs-room, legs-size, latest-room, latest-size, stops-room, stops-size, asked}
+use Rattle.theory.specs.Tables.{tables}
+use Rattle.text_printing.proofs.Lengths.{refusal-length}
+use Rattle.text.proofs.Asked.{still-lent, malformed, Fits, fits, asked-of}
 use Rattle.text.proofs.answer_text.Statement.{statement}
 use Rattle.text.proofs.answer_text.Tie as tie
+
+-- The question that was read lies within the lent places.
+fits-at : (c : tie.After-answer) →
+    let q = c .before .before .before .before .before .before .before .before .read-question in
+    Fits (c .answer .given .0 .0) (c .answer .given .0 .1 .0) (tables 96 (q .last .1 .0) (q .last .1 .1 .0)) (q .last .1 .1 .1 .0)
+fits-at c =
+    let q = c .before .before .before .before .before .before .before .before .read-question in
+    let s = c .before .before .before .before .before .before .before .before .before .before .before .before .before .before .before .before .before in
+    fits (s .args .text .now) _ _ (q .ensures) _ _ (c .answer .given .1) (still-lent (s .pre .lent) (q .kept .1 .0) (q .kept .1 .1 .0) (q .kept .1 .1 .1 .0))
 
 read-question-requires : tie.Need-read-question-requires
 read-question-requires c κs = search needs
@@ -36,7 +48,7 @@ returns : tie.Need-returns
 returns c =
     let q = c .before .before .before .before .before .before .before .before .before .before .before .before .read-question in
     let s = c .before .before .before .before .before .before .before .before .before .before .before .before .before .before .before .before .before .before .before .before .before in
-    malformed (s .args .text .now) (q .last .1 .0) (q .last .1 .1 .0) (q .last .1 .1 .1 .0) (q .ensures) (c .before .before .before .before .enum-told .given .1) _ _ _ (c .before .before .print-refusal .ensures)
+    malformed (s .args .text .now) (tables 96 (q .last .1 .0) (q .last .1 .1 .0)) (q .last .1 .1 .1 .0) (q .ensures) (c .before .before .before .before .enum-told .given .1) _ _ _ (c .before .before .print-refusal .ensures)
 
 cast-k : tie.Need-cast-k
 cast-k c = search needs
@@ -45,60 +57,25 @@ cast-allowance : tie.Need-cast-allowance
 cast-allowance c = search needs
 
 mul-cells : tie.Need-mul-cells
-mul-cells c =
-    let a = c .before .before .before .answer in
-    let q = c .before .before .before .before .before .before .before .before .before .before .before .read-question in
-    let s = c .before .before .before .before .before .before .before .before .before .before .before .before .before .before .before .before .before .before .before .before in
-    let lent = still-lent (s .pre .lent) (q .kept .1 .0) (q .kept .1 .1 .0) (q .kept .1 .1 .1 .0) in
-    omega (arith, cells-fit (s .args .text .now) (q .last .1 .0) (q .last .1 .1 .0) (q .last .1 .1 .1 .0) (q .ensures) (a .given .0 .0) (a .given .0 .1 .0) (a .given .1) lent)
+mul-cells c = omega (arith, fits-at (c .before .before .before) .cells)
 
 slice-reshare-prefix-answer-question : tie.Need-slice-reshare-prefix-answer-question
-slice-reshare-prefix-answer-question c =
-    let a = c .before .before .before .answer in
-    let q = c .before .before .before .before .before .before .before .before .before .before .before .read-question in
-    let s = c .before .before .before .before .before .before .before .before .before .before .before .before .before .before .before .before .before .before .before .before in
-    let lent = still-lent (s .pre .lent) (q .kept .1 .0) (q .kept .1 .1 .0) (q .kept .1 .1 .1 .0) in
-    legs-room (s .args .text .now) (q .last .1 .0) (q .last .1 .1 .0) (q .last .1 .1 .1 .0) (q .ensures) (a .given .0 .0) (a .given .0 .1 .0) (a .given .1) lent
+slice-reshare-prefix-answer-question c = fits-at (c .before .before .before) .legs-fit
 
 slice-aggregate-answer-question : tie.Need-slice-aggregate-answer-question
-slice-aggregate-answer-question c =
-    let a = c .before .before .before .before .answer in
-    let q = c .before .before .before .before .before .before .before .before .before .before .before .before .read-question in
-    let s = c .before .before .before .before .before .before .before .before .before .before .before .before .before .before .before .before .before .before .before .before .before in
-    let lent = still-lent (s .pre .lent) (q .kept .1 .0) (q .kept .1 .1 .0) (q .kept .1 .1 .1 .0) in
-    legs-size (s .args .text .now) (q .last .1 .0) (q .last .1 .1 .0) (q .last .1 .1 .1 .0) (q .ensures) (a .given .0 .0) (a .given .0 .1 .0) (a .given .1) lent
+slice-aggregate-answer-question c = sym (length-take-le _ _ (fits-at (c .before .before .before .before) .legs-fit))
 
 slice-reshare-prefix-answer-question-2 : tie.Need-slice-reshare-prefix-answer-question-2
-slice-reshare-prefix-answer-question-2 c =
-    let a = c .before .before .before .before .answer in
-    let q = c .before .before .before .before .before .before .before .before .before .before .before .before .read-question in
-    let s = c .before .before .before .before .before .before .before .before .before .before .before .before .before .before .before .before .before .before .before .before .before in
-    let lent = still-lent (s .pre .lent) (q .kept .1 .0) (q .kept .1 .1 .0) (q .kept .1 .1 .1 .0) in
-    latest-room (s .args .text .now) (q .last .1 .0) (q .last .1 .1 .0) (q .last .1 .1 .1 .0) (q .ensures) (a .given .0 .0) (a .given .0 .1 .0) (a .given .1) lent
+slice-reshare-prefix-answer-question-2 c = fits-at (c .before .before .before .before) .latest-fit
 
 slice-aggregate-answer-question-2 : tie.Need-slice-aggregate-answer-question-2
-slice-aggregate-answer-question-2 c =
-    let a = c .before .before .before .before .before .answer in
-    let q = c .before .before .before .before .before .before .before .before .before .before .before .before .before .read-question in
-    let s = c .before .before .before .before .before .before .before .before .before .before .before .before .before .before .before .before .before .before .before .before .before .before in
-    let lent = still-lent (s .pre .lent) (q .kept .1 .0) (q .kept .1 .1 .0) (q .kept .1 .1 .1 .0) in
-    latest-size (s .args .text .now) (q .last .1 .0) (q .last .1 .1 .0) (q .last .1 .1 .1 .0) (q .ensures) (a .given .0 .0) (a .given .0 .1 .0) (a .given .1) lent
+slice-aggregate-answer-question-2 c = sym (length-take-le _ _ (fits-at (c .before .before .before .before .before) .latest-fit))
 
 slice-relend-prefix-answer-question : tie.Need-slice-relend-prefix-answer-question
-slice-relend-prefix-answer-question c =
-    let a = c .before .before .before .before .before .answer in
-    let q = c .before .before .before .before .before .before .before .before .before .before .before .before .before .read-question in
-    let s = c .before .before .before .before .before .before .before .before .before .before .before .before .before .before .before .before .before .before .before .before .before .before in
-    let lent = still-lent (s .pre .lent) (q .kept .1 .0) (q .kept .1 .1 .0) (q .kept .1 .1 .1 .0) in
-    stops-room (s .args .text .now) (q .last .1 .0) (q .last .1 .1 .0) (q .last .1 .1 .1 .0) (q .ensures) (a .given .0 .0) (a .given .0 .1 .0) (a .given .1) lent
+slice-relend-prefix-answer-question c = fits-at (c .before .before .before .before .before) .stops-fit
 
 slice-aggregate-answer-question-3 : tie.Need-slice-aggregate-answer-question-3
-slice-aggregate-answer-question-3 c =
-    let a = c .before .before .before .before .before .before .answer in
-    let q = c .before .before .before .before .before .before .before .before .before .before .before .before .before .before .read-question in
-    let s = c .before .before .before .before .before .before .before .before .before .before .before .before .before .before .before .before .before .before .before .before .before .before .before in
-    let lent = still-lent (s .pre .lent) (q .kept .1 .0) (q .kept .1 .1 .0) (q .kept .1 .1 .1 .0) in
-    stops-size (s .args .text .now) (q .last .1 .0) (q .last .1 .1 .0) (q .last .1 .1 .1 .0) (q .ensures) (a .given .0 .0) (a .given .0 .1 .0) (a .given .1) lent
+slice-aggregate-answer-question-3 c = sym (length-take-le _ _ (fits-at (c .before .before .before .before .before .before) .stops-fit))
 
 answer-question-requires : tie.Need-answer-question-requires
 answer-question-requires c κs = search needs
@@ -120,8 +97,7 @@ returns-2 c =
     let a = c .before .before .before .before .before .before .before .before .before .before .before .before .answer in
     let q = c .before .before .before .before .before .before .before .before .before .before .before .before .before .before .before .before .before .before .before .before .read-question in
     let s = c .before .before .before .before .before .before .before .before .before .before .before .before .before .before .before .before .before .before .before .before .before .before .before .before .before .before .before .before .before in
-    let lent = still-lent (s .pre .lent) (q .kept .1 .0) (q .kept .1 .1 .0) (q .kept .1 .1 .1 .0) in
-    asked (s .args .text .now) (q .last .1 .0) (q .last .1 .1 .0) (q .last .1 .1 .1 .0) (q .ensures) (a .given .0 .0) (a .given .0 .1 .0) (a .given .1) lent _ _ _ (c .before .before .before .before .answer-question .ensures)
+    asked-of (s .args .text .now) (tables 96 (q .last .1 .0) (q .last .1 .1 .0)) (q .last .1 .1 .1 .0) (q .ensures) (a .given .0 .0) (a .given .0 .1 .0) (a .given .1) _ _ _ (c .before .before .before .before .answer-question .ensures)
 
 pub answer-text-spec : {M : Type 1} → statement M
 answer-text-spec =

@@ -1,7 +1,7 @@
 -- `text::print_numbers` meets its contract: any answer has room. Assumes nothing.
 use native.Mathlib.Omega.{arith}
 use borrow.Author.Needs.{needs}
-use Rattle.printing.proofs.Lengths.{answer-length}
+use Rattle.text_printing.proofs.Lengths.{answer-length}
 use Rattle.text.proofs.print_numbers.Statement.{statement}
 use Rattle.text.proofs.print_numbers.Tie as tie
 

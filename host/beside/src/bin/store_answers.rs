@@ -1,5 +1,5 @@
-//! Prints the Rust's answers to the questions of crates/answers, or with the argument `moves` of crates/answers_moves, in that program's
-//! words: its file stdout. The questions are drawn by the same rule on both sides (`next`, `draw`, `filled`; crates/drawing), and the
+//! Prints the Rust's answers to the questions of crates/replay_answers, or with the argument `moves` of crates/replay_moves, in that program's
+//! words: its file stdout. The questions are drawn by the same rule on both sides (`next`, `draw`, `filled`; crates/replay_drawing), and the
 //! library is not called.
 
 #![forbid(unsafe_code)]

@@ -28,10 +28,11 @@ impl Case {
 
     /// The lowest number of "When it says no" that applies, 0 if none does.
     pub fn refusal(&self) -> u32 {
+        let [size, leg] = self.tables.rules();
         lowest(&[
             (1, bad_k(self.k)),
-            (2, self.tables.bad_size()),
-            (3, self.tables.bad_leg()),
+            size,
+            leg,
             (4, self.unknown_place()),
             (5, too_many_stops(self.route.len())),
             (21, self.room < RESULT_PLACES),

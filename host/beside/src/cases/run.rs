@@ -56,10 +56,11 @@ impl Case {
 
     /// The lowest number of "When it says no" that applies, 0 if none does.
     pub fn refusal(&self) -> u32 {
+        let [size, leg] = self.tables.rules();
         lowest(&[
             (1, bad_k(self.k)),
-            (2, self.tables.bad_size()),
-            (3, self.tables.bad_leg()),
+            size,
+            leg,
             (4, self.unknown_place()),
             (5, self.bad_rounds()),
             (21, self.room < self.lengths.len() * NUMBERS_A_ROUND),

@@ -17,9 +17,10 @@ struct Feasible {
 
 impl Feasible {
     fn refusal(&self) -> u32 {
+        let [size, leg] = self.route.tables.rules();
         lowest(&[
-            (2, self.route.tables.bad_size()),
-            (3, self.route.tables.bad_leg()),
+            size,
+            leg,
             (4, self.route.unknown()),
             (5, self.route.too_long()),
             (21, self.room < 1),

@@ -1,0 +1,6 @@
+pub mod Growth
+pub mod InTime
+pub mod Filling
+pub mod Held
+pub mod Judged
+mod Head

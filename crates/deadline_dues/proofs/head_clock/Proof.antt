@@ -1,0 +1,32 @@
+-- `deadline_dues::head_clock` meets its contract. Assumes nothing.
+use native.Mathlib.Omega.{arith}
+use Prim.Native.Nat.{ℕ, _<_}
+use mathlib.Core.Path.{_≡_}
+use borrow.Author.Needs.{needs}
+use Rattle.deadline_dues.proofs.Head.{first-within, no-head, some-head}
+use Rattle.deadline_dues.proofs.head_clock.Statement.{statement}
+use Rattle.deadline_dues.proofs.head_clock.Tie as tie
+
+positive : {n : ℕ} → (n ≡ 0 → ⊥) → 0 < n
+positive h = omega arith
+
+shared-slice-read-first : tie.Need-shared-slice-read-first
+shared-slice-read-first c = search needs
+
+returns : tie.Need-returns
+returns c = no-head (c .before .before .before .before .before .pre) (c .if1 .taken)
+
+sub-arrival : tie.Need-sub-arrival
+sub-arrival c = search needs
+
+arrival-requires : tie.Need-arrival-requires
+arrival-requires c κs =
+    let s = c .before .before .before .before .before in
+    record { measurable = s .pre .measurable; forwards = s .pre .forwards; within = omega (arith, first-within (s .pre), positive (c .if1 .left)) }
+
+returns-2 : tie.Need-returns-2
+returns-2 c = some-head (c .before .before .before .before .before .before .pre) _ (c .before .if1 .left) (c .arrival .ensures)
+
+pub head-clock-spec : {M : Type 1} → statement M
+head-clock-spec =
+    tie.close (tie.spec shared-slice-read-first returns sub-arrival arrival-requires returns-2)

@@ -1,4 +1,0 @@
-pub mod PlacedSegment
-pub mod Through
-pub mod Signed
-pub mod LengthDelta

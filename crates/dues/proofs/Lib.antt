@@ -1,5 +1,0 @@
-pub mod InTime
-pub mod Filling
-pub mod Held
-pub mod Judged
-mod Head

@@ -1,4 +1,0 @@
-pub mod States
-pub mod Chain
-pub mod Rows
-pub mod Ends

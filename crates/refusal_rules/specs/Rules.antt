@@ -1,0 +1,40 @@
+-- The rules by which each call is judged: those of document 01's refusals that speak of what it is handed, built from the rules of its parts.
+use mathlib.Core.List.{List, [], _∷_, _++_}
+use Prim.Native.Nat.{ℕ, _*_}
+use lib.Ieee.{Float}
+use lib.ListN.{length}
+use Rattle.theory.specs.Tables.{Tables, Fleet}
+use Rattle.theory.specs.Question.{Question, question-rules}
+use Rattle.theory.specs.Refusals.{Rule, cut-count, leg-table, leg-sizes, known-stops, stop-count, pattern-index, cut-positions, known-rounds, round-lists, nearby-input, room, table-rules}
+
+-- The rules of a call that writes its values into a lent result: 21 where that has fewer places than are needed.
+abbrev pub with-room : List Rule → ℕ → ℕ → List Rule
+with-room rules needed lent = rules ++ (room needed lent ∷ [])
+
+abbrev pub pattern-rules : ℕ → ℕ → List Rule
+pattern-rules k pattern = cut-count k ∷ pattern-index k pattern ∷ []
+
+abbrev pub next-cut-set-rules : ℕ → ℕ → List ℕ → List Rule
+next-cut-set-rules k n cuts = cut-count k ∷ stop-count n ∷ cut-positions k n cuts ∷ []
+
+abbrev pub reconnect-rules : ℕ → ℕ → List ℕ → ℕ → ℕ → List Rule
+reconnect-rules k pattern cuts n lent = with-room (pattern-index k pattern ∷ next-cut-set-rules k n cuts) n lent
+
+abbrev pub route-length-rules : ℕ → List ℕ → ℕ → List ℕ → List Rule
+route-length-rules locations legs depot route = leg-table locations legs ∷ leg-sizes legs ∷ known-stops locations depot route ∷ stop-count (length route) ∷ []
+
+abbrev pub delta-rules : ℕ → ℕ → List ℕ → ℕ → List ℕ → ℕ → List ℕ → List Rule
+delta-rules k pattern cuts locations legs depot route =
+    route-length-rules locations legs depot route ++ (cut-count k ∷ pattern-index k pattern ∷ cut-positions k (length route) cuts ∷ [])
+
+abbrev pub polish-rules : Question → ℕ → List Rule
+polish-rules q lent = with-room (question-rules q) 5 lent
+
+abbrev pub rounds-rules : ℕ → Fleet → List Rule
+rounds-rules locations F = known-rounds locations (F .depots) (F .stops) ∷ round-lists (F .lengths) (F .depots) (F .pins) (length (F .stops)) ∷ []
+
+abbrev pub run-rules : ℕ → Tables → Fleet → ℕ → List Rule
+run-rules k T F lent = with-room (cut-count k ∷ (table-rules T ++ rounds-rules (T .locations) F)) (4 * length (F .lengths)) lent
+
+abbrev pub nearby-rules : ℕ → List Float → ℕ → ℕ → ℕ → ℕ → List Rule
+nearby-rules n distances k m neighbours lent = with-room (cut-count k ∷ stop-count n ∷ nearby-input n distances m neighbours ∷ []) k lent

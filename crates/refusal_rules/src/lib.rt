@@ -1,0 +1,205 @@
+// What a call was handed, judged by its list of rules: the first number in the one order whose rule applies, or 0. Apply, undo and doable are judged in crate
+// move_calls, the deadline check in crate refusals. No entry: crates mittenschist and text call it.
+ghost use mathlib.Core.Path.{_≡_};
+ghost use mathlib.Core.List.{_∷_};
+ghost use Prim.Native.Nat.{_+_, _*_};
+ghost use lib.ListN.{length};
+ghost use Rattle.theory.specs.Tables.{tables, trip, fleet};
+ghost use Rattle.theory.specs.Refusals.{refusal, cut-count, problem-rules};
+ghost use Rattle.refusal_rules.specs.Rules.{pattern-rules, next-cut-set-rules, reconnect-rules, route-length-rules, delta-rules, rounds-rules, run-rules, nearby-rules, with-room};
+
+pub fn pattern_refusal(k: usize, pattern: usize) -> u32
+    ensures { λ r. ⌜ r ≡ refusal (pattern-rules k pattern) ⌝ }
+{
+    let bad_k = refusals::check_cut_count(k);
+    if bad_k != 0 {
+        return bad_k;
+    }
+    refusals::check_pattern_index(k, pattern)
+}
+
+pub fn next_cut_set_refusal(k: usize, n: usize, cuts: &[usize]) -> u32
+    ensures { λ r. ⌜ r ≡ refusal (next-cut-set-rules k n (now (cuts .entry))) ⌝ }
+{
+    let bad_k = refusals::check_cut_count(k);
+    let bad_n = refusals::check_stop_count(n);
+    let bad_cuts = refusals::check_cut_positions(k, n, cuts);
+    refusals::first(bad_k, refusals::first(bad_n, bad_cuts))
+}
+
+pub fn reconnect_refusal(k: usize, pattern: usize, cuts: &[usize], n: usize, lent: usize) -> u32
+    ensures { λ r. ⌜ r ≡ refusal (reconnect-rules k pattern (now (cuts .entry)) n lent) ⌝ }
+{
+    let bad_k = refusals::check_cut_count(k);
+    if bad_k != 0 {
+        return bad_k;
+    }
+    let bad_n = refusals::check_stop_count(n);
+    let bad_pattern = refusals::check_pattern_index(k, pattern);
+    let bad_cuts = refusals::check_cut_positions(k, n, cuts);
+    let bad_room = refusals::check_room(n, lent);
+    refusals::first(
+        bad_n,
+        refusals::first(bad_pattern, refusals::first(bad_cuts, bad_room)),
+    )
+}
+
+pub fn route_length_refusal(locations: usize, legs: &[u32], depot: u32, route: &[u32]) -> u32
+    ensures { λ r. ⌜ r ≡ refusal (route-length-rules locations (now (legs .entry)) depot (now (route .entry))) ⌝ }
+{
+    let bad_table = refusals::check_leg_table(locations, legs);
+    let bad_legs = refusals::check_leg_sizes(legs);
+    let bad_stops = refusals::check_known_stops(locations, depot, route);
+    let bad_n = refusals::check_stop_count(route.len());
+    refusals::first(
+        bad_table,
+        refusals::first(bad_legs, refusals::first(bad_stops, bad_n)),
+    )
+}
+
+pub fn delta_refusal(
+    k: usize,
+    pattern: usize,
+    cuts: &[usize],
+    locations: usize,
+    legs: &[u32],
+    depot: u32,
+    route: &[u32],
+) -> u32
+    ensures { λ r. ⌜ r ≡ refusal (delta-rules k pattern (now (cuts .entry)) locations (now (legs .entry)) depot (now (route .entry))) ⌝ }
+{
+    let bad_k = refusals::check_cut_count(k);
+    if bad_k != 0 {
+        return bad_k;
+    }
+    let bad_route = route_length_refusal(locations, legs, depot, route);
+    let bad_pattern = refusals::check_pattern_index(k, pattern);
+    let bad_cuts = refusals::check_cut_positions(k, route.len(), cuts);
+    refusals::first(bad_route, refusals::first(bad_pattern, bad_cuts))
+}
+
+// What polishing is handed, but for the result.
+pub fn question_refusal(
+    k: usize,
+    locations: usize,
+    legs: &[u32],
+    latest: &[u32],
+    depot: u32,
+    route: &[u32],
+) -> u32
+    ensures { λ r. ⌜ r ≡ refusal (cut-count k ∷ problem-rules (trip locations (now (legs .entry)) (now (latest .entry)) depot) (now (route .entry))) ⌝ }
+{
+    let bad_k = refusals::check_cut_count(k);
+    let bad_problem = refusals::check_problem(locations, legs, latest, depot, route);
+    refusals::first(bad_k, bad_problem)
+}
+
+pub fn polish_refusal(
+    k: usize,
+    locations: usize,
+    legs: &[u32],
+    latest: &[u32],
+    depot: u32,
+    route: &[u32],
+    lent: usize,
+) -> u32
+    ensures { λ r. ⌜ r ≡ refusal (with-room (cut-count k ∷ problem-rules (trip locations (now (legs .entry)) (now (latest .entry)) depot) (now (route .entry))) 5 lent) ⌝ }
+{
+    let bad_question = question_refusal(k, locations, legs, latest, depot, route);
+    let bad_room = refusals::check_room(5, lent);
+    refusals::first(bad_question, bad_room)
+}
+
+fn rounds_refusal(
+    locations: usize,
+    stops: &[u32],
+    lengths: &[usize],
+    depots: &[u32],
+    pins: &[u8],
+    lent: usize,
+) -> u32
+    ensures { λ r. ⌜ r ≡ refusal (with-room (rounds-rules locations (fleet (now (stops .entry)) (now (lengths .entry)) (now (depots .entry)) (now (pins .entry)))) (4 * length (now (lengths .entry))) lent) ⌝ }
+{
+    let bad_stops = refusals::check_known_rounds(locations, depots, stops);
+    let bad_rounds = refusals::check_round_lists(lengths, depots, pins, stops.len());
+    let bad_room = refusals::check_room(4 * lengths.len(), lent);
+    refusals::first(bad_stops, refusals::first(bad_rounds, bad_room))
+}
+
+pub fn run_refusal(
+    k: usize,
+    locations: usize,
+    legs: &[u32],
+    latest: &[u32],
+    stops: &[u32],
+    lengths: &[usize],
+    depots: &[u32],
+    pins: &[u8],
+    lent: usize,
+) -> u32
+    ensures { λ r. ⌜ r ≡ refusal (run-rules k (tables locations (now (legs .entry)) (now (latest .entry))) (fleet (now (stops .entry)) (now (lengths .entry)) (now (depots .entry)) (now (pins .entry))) lent) ⌝ }
+{
+    let bad_k = refusals::check_cut_count(k);
+    let bad_tables = refusals::check_tables(locations, legs, latest);
+    let bad_rounds = rounds_refusal(locations, stops, lengths, depots, pins, lent);
+    refusals::first(bad_k, refusals::first(bad_tables, bad_rounds))
+}
+
+pub fn nearby_refusal(
+    n: usize,
+    distances: &[f64],
+    k: usize,
+    m: usize,
+    neighbours: usize,
+    lent: usize,
+) -> u32
+    ensures { λ r. ⌜ r ≡ refusal (nearby-rules n (now (distances .entry)) k m neighbours lent) ⌝ }
+{
+    let bad_k = refusals::check_cut_count(k);
+    let bad_n = refusals::check_stop_count(n);
+    let bad_size = refusals::first(bad_k, bad_n);
+    if bad_size != 0 {
+        return bad_size;
+    }
+    let bad_input = refusals::check_nearby_input(n, distances, m, neighbours);
+    let bad_room = refusals::check_room(k, lent);
+    refusals::first(bad_input, bad_room)
+}
+
+// The same with the room of the lent result, of the C functions that must know it before they change anything.
+
+// k + 1 segment numbers and a mask.
+pub fn pattern_refusal_with_room(k: usize, pattern: usize, lent: usize) -> u32
+    ensures { λ r. ⌜ r ≡ refusal (with-room (pattern-rules k pattern) (k + 2) lent) ⌝ }
+{
+    let bad_pattern = pattern_refusal(k, pattern);
+    if bad_pattern != 0 {
+        return bad_pattern;
+    }
+    refusals::check_room(k + 2, lent)
+}
+
+pub fn next_cut_set_refusal_with_room(k: usize, n: usize, cuts: &[usize], lent: usize) -> u32
+    ensures { λ r. ⌜ r ≡ refusal (with-room (next-cut-set-rules k n (now (cuts .entry))) 1 lent) ⌝ }
+{
+    let bad_cuts = next_cut_set_refusal(k, n, cuts);
+    let bad_room = refusals::check_room(1, lent);
+    refusals::first(bad_cuts, bad_room)
+}
+
+// The sets' places and the result's.
+pub fn nearby_refusal_with_room(
+    n: usize,
+    distances: &[f64],
+    k: usize,
+    m: usize,
+    neighbours: usize,
+    sets: usize,
+    lent: usize,
+) -> u32
+    ensures { λ r. ⌜ r ≡ refusal (with-room (nearby-rules n (now (distances .entry)) k m neighbours sets) 2 lent) ⌝ }
+{
+    let bad_input = nearby_refusal(n, distances, k, m, neighbours, sets);
+    let bad_room = refusals::check_room(2, lent);
+    refusals::first(bad_input, bad_room)
+}

@@ -1,0 +1,142 @@
+// Replays the stored answers of the unchanged Rust on polishing, the run and nearby cuts: the file stdout beside src/ is written from them by
+// tools/store-answers, and this program prints what the library answers for the same questions, which both draw by the rule of crate replay_drawing.
+
+fn write(line: &[u8]) {
+    let _ = io::write_all(1, line);
+}
+
+// A line of a call: its refusal number and result, and the stops that it left.
+fn show_line(call: &[u8], refused: u32, result: &[u64], name: &[u8], stops: &[u32]) {
+    let mut line = [0u8; 1024];
+    let number = replay_lines::put_number(call, refused as u64, &mut line, 0);
+    let told = replay_lines::put_numbers(result, &mut line, number);
+    let word = replay_lines::put(name, &mut line, told);
+    let left = replay_lines::put_stops(stops, &mut line, word);
+    let end = replay_lines::put(b"\n", &mut line, left);
+    write(&line[..end]);
+}
+
+// Ten locations; legs to 99 seconds but for the first, deadlines to 799. For the questions that are refused: another number of locations, a longer leg,
+// another depot.
+fn show_polish(
+    seed: u16,
+    k: usize,
+    locations: usize,
+    leg: u32,
+    depot: u32,
+    route: &mut [u32],
+    result: &mut [u64],
+) {
+    let mut legs = [0u32; 100];
+    let mut latest = [0u32; 10];
+    replay_drawing::fill(seed, 99, &mut legs);
+    replay_drawing::fill(seed, 799, &mut latest);
+    replay_drawing::fill(seed, 9, route);
+    legs[0] = leg;
+    let refused = mittenschist::mittenschist_polish_route(
+        k,
+        replay_drawing::allowance_of(seed),
+        locations,
+        &legs,
+        &latest,
+        depot,
+        route,
+        result,
+    );
+    show_line(b"polish ", refused, &result[..], b" route", &route[..]);
+}
+
+// Three rounds; the middle one is short, and pinned for every other four seeds. The last one is longer than its stops where the run is refused.
+fn show_run(seed: u16, last: usize) {
+    let mut legs = [0u32; 100];
+    let mut latest = [0u32; 10];
+    let mut stops = [0u32; 16];
+    let mut result = [9u64; 13];
+    replay_drawing::fill(seed, 99, &mut legs);
+    replay_drawing::fill(seed, 799, &mut latest);
+    replay_drawing::fill(seed, 9, &mut stops);
+    let pin = (seed / 4 % 2) as u8;
+    let refused = mittenschist::mittenschist_run_list_k_opt(
+        replay_drawing::cuts_of(seed),
+        replay_drawing::allowance_of(seed),
+        10,
+        &legs,
+        &latest,
+        &mut stops,
+        &[6, 3, last],
+        &[0, 1, 2],
+        &[0, pin, 0],
+        &mut result,
+    );
+    show_line(b"run ", refused, &result, b" stops", &stops);
+}
+
+// Twelve positions; distances to 7, so that many are equal. From seed 29 on there are too many neighbours.
+fn show_nearby(seed: u16) {
+    let mut distances = [0.0f64; 144];
+    let mut sets = [99usize; 40];
+    let mut result = [9u64; 3];
+    replay_drawing::fill_floats(seed, 7, &mut distances);
+    let refused = mittenschist::mittenschist_nearby_cuts(
+        12,
+        &distances,
+        replay_drawing::cuts_of(seed),
+        (1 + seed / 4 % 2) as usize,
+        seed as usize + 4,
+        &mut sets,
+        &mut result,
+    );
+    let mut line = [0u8; 1024];
+    let number = replay_lines::put_number(b"nearby ", refused as u64, &mut line, 0);
+    let told = replay_lines::put_numbers(&result, &mut line, number);
+    let word = replay_lines::put(b" sets", &mut line, told);
+    let left = replay_lines::put_places(&sets, &mut line, word);
+    let end = replay_lines::put(b"\n", &mut line, left);
+    write(&line[..end]);
+}
+
+fn show_nine(seed: u16) {
+    let k = replay_drawing::cuts_of(seed);
+    show_polish(seed, k, 10, 0, 0, &mut [0u32; 9], &mut [9u64; 6]);
+}
+
+fn show_five(seed: u16, k: usize, locations: usize, leg: u32, depot: u32) {
+    show_polish(
+        seed,
+        k,
+        locations,
+        leg,
+        depot,
+        &mut [0u32; 5],
+        &mut [9u64; 6],
+    );
+}
+
+fn show_short_result() {
+    show_polish(1, 3, 10, 0, 0, &mut [0u32; 5], &mut [9u64; 4]);
+}
+
+fn show(seed: u16) {
+    show_nine(seed);
+    show_five(seed, replay_drawing::cuts_of(seed), 10, 0, 0);
+    show_run(seed, 7);
+    show_nearby(seed);
+}
+
+// A question for each refusal number that a small one can have.
+fn show_refused() {
+    show_five(1, 6, 10, 0, 0);
+    show_five(1, 3, 9, 0, 0);
+    show_five(1, 3, 10, 1000001, 0);
+    show_five(1, 3, 10, 0, 10);
+    show_short_result();
+    show_run(1, 8);
+    show_nearby(29);
+}
+
+fn main() {
+    for seed in 0..16u16 {
+        show(seed);
+    }
+    show_refused();
+}

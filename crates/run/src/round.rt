@@ -1,0 +1,109 @@
+// One round of a run: passed over, or polished with the allowance that is left. No entry: the crates above call it.
+use theory::Polished;
+use theory::RoundState;
+use theory::STOPS;
+ghost use mathlib.Core.Path.{_≡_};
+ghost use mathlib.Core.Bool.{cond};
+ghost use lib.ListN.{length};
+ghost use Rattle.theory.specs.Tables.{problem, trip};
+ghost use Rattle.polishing.specs.Loop.{Polishable};
+ghost use Rattle.run.specs.Round.{Replies, outcome, polish-round, Ends, RoundRan};
+
+// What the polishing of a round counted.
+struct Replied {
+    finished: bool,
+    examined: u64,
+    accepted: u64,
+}
+
+// Two cuts by the pair loop, three to five by polishing.
+fn polish_round(
+    k: usize,
+    left: u64,
+    locations: usize,
+    legs: &[u32],
+    latest: &[u32],
+    depot: u32,
+    route: &mut [u32],
+) -> Replied
+    requires { ⌜ Polishable k (trip locations (now legs) (now latest) depot) (now route) ⌝ }
+    ensures { λ r. ⌜ Replies (problem (trip locations (now (legs .entry)) (now (latest .entry)) depot)) k left (now (route .entry)) r (now (route .exit)) ⌝ }
+{
+    if k == 2 {
+        let pairs = pair_loop::pair_loop(left, locations, legs, latest, depot, route);
+        return Replied {
+            finished: pairs.finished,
+            examined: pairs.examined,
+            accepted: pairs.accepted,
+        };
+    }
+    match polishing::polish_route(k, left, locations, legs, latest, depot, route) {
+        Polished::Finished(counts) => Replied {
+            finished: true,
+            examined: counts.examined,
+            accepted: counts.accepted,
+        },
+        Polished::Spent(counts) => Replied {
+            finished: false,
+            examined: counts.examined,
+            accepted: counts.accepted,
+        },
+    }
+}
+
+fn keep_or_put_back(finished: bool, old: &[u32], route: &mut [u32])
+    requires { ⌜ length (now old) ≡ length (now route) ⌝ }
+    ensures { λ _. ⌜ now (route .exit) ≡ cond finished (now (route .entry)) (now (old .entry)) ⌝ }
+{
+    if finished {
+        return;
+    }
+    reconnection::copy_in(old, route, 0);
+}
+
+// The stops are kept beside the route while it is polished, for a spent round is put back.
+fn polish_or_put_back(
+    k: usize,
+    left: u64,
+    locations: usize,
+    legs: &[u32],
+    latest: &[u32],
+    depot: u32,
+    route: &mut [u32],
+) -> RoundState
+    requires { ⌜ Polishable k (trip locations (now legs) (now latest) depot) (now route) ⌝ }
+    ensures { λ r. ⌜ Ends (outcome (now (route .entry)) (polish-round (problem (trip locations (now (legs .entry)) (now (latest .entry)) depot)) k left (now (route .entry)))) r (now (route .exit)) ⌝ }
+{
+    let n = route.len();
+    let mut old = [0u32; STOPS];
+    reconnection::copy_in(&route[..], &mut old, 0);
+    let reply = polish_round(k, left, locations, legs, latest, depot, route);
+    keep_or_put_back(reply.finished, &old[..n], route);
+    run_numbers::state_after(reply.finished, reply.examined, reply.accepted)
+}
+
+// The order of the tests is document 01's: the allowance, the pin, the number of stops.
+pub fn run_round(
+    k: usize,
+    left: u64,
+    locations: usize,
+    legs: &[u32],
+    latest: &[u32],
+    depot: u32,
+    pin: u8,
+    route: &mut [u32],
+) -> RoundState
+    requires { ⌜ Polishable k (trip locations (now legs) (now latest) depot) (now route) ⌝ }
+    ensures { λ r. ⌜ RoundRan (problem (trip locations (now (legs .entry)) (now (latest .entry)) depot)) k left pin (now (route .entry)) r (now (route .exit)) ⌝ }
+{
+    if left == 0 {
+        return RoundState::NotReached;
+    }
+    if pin != 0 {
+        return RoundState::Pinned;
+    }
+    if route.len() < 4 {
+        return RoundState::Short;
+    }
+    polish_or_put_back(k, left, locations, legs, latest, depot, route)
+}

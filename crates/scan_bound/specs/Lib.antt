@@ -1,0 +1,2 @@
+pub mod NoGain
+pub mod Tests

@@ -1,0 +1,154 @@
+-- The scan's test of a candidate, from its chain in the joint table and from the dues of its states. Assumes nothing.
+use mathlib.Core.Path.{_≡_, refl, sym, ap, _∙_}
+use mathlib.Core.Bool.{Bool, true, false, _&&_, and-true, and-false}
+use mathlib.Core.List.{List}
+use Prim.Native.Nat.{ℕ, _+_, _-_, _*_, _^_, _≤_, _<_}
+use native.Mathlib.Decide.{decLt}
+use native.Mathlib.Omega.{arith}
+use lib.Dec.{ltb, leb}
+use lib.ListN.{length, getD}
+use lib.Seq.{slice}
+use borrow.Author.Tests.{lt-ltb, le-ltb, le-leb, lt-leb}
+use Rattle.theory.specs.Moves.{Pattern}
+use Rattle.theory.specs.Route.{Problem, Clock, path, tour-length, reconnected, feasible, on-time}
+use Rattle.theory.specs.Costs.{last-of}
+use Rattle.theory.specs.Scan.{improves}
+use Rattle.theory.specs.Polish.{search-of, move-at}
+use Rattle.theory.specs.Tables.{problem, clock-by, Trip}
+use Rattle.costs.proofs.Segments.{last-cut}
+use Rattle.deadlines.specs.Lateness.{lateness}
+use Rattle.scan_joints.specs.States.{row, standing-row, Patterned}
+use Rattle.scan_joints.specs.JointTable.{chain, JointOf}
+use Rattle.scan_joints.proofs.Chain.{chain-delta}
+use Rattle.deadline_dues.specs.Parts.{head, middle}
+use Rattle.deadline_dues.specs.Dues.{in-time, DuesOf}
+use Rattle.deadline_dues.proofs.InTime.{row-kept, row-known}
+use Rattle.deadline_dues.proofs.Judged.{candidate-judged}
+use Rattle.scan_cut_set.specs.Gain.{below, due-gain, Searchable, Findable, Chains, NextShorter, Tabled, FirstGain, DueRows, FirstDue}
+
+-- Below the threshold: so much shorter that the tail is on time.
+enough : (cost standing late : ℕ) → cost < standing → leb late (standing - cost) ≡ ltb cost (below standing late)
+enough cost standing late h = by (decLt (standing - cost) late)
+  where
+    by : Dec (standing - cost < late) → leb late (standing - cost) ≡ ltb cost (below standing late)
+    by (yes l) = lt-leb late (standing - cost) l ∙ sym (le-ltb cost (below standing late) (omega arith))
+    by (no n) = le-leb late (standing - cost) (omega arith) ∙ sym (lt-ltb cost (below standing late) (omega arith))
+
+module _ {T : Trip} {r cs rows J : List ℕ} {ps : List Pattern} {limit : ℕ}
+    (given : Tabled T r cs ps rows J limit) where
+  abbrev P : Problem
+  P = problem T
+
+  abbrev C : Clock
+  C = clock-by (T .tables)
+
+  abbrev pattern : ℕ → Pattern
+  pattern i = move-at ps cs i .pattern
+
+  abbrev gain : ℕ → Bool
+  gain i = improves (search-of P ps (length cs) (length r)) r (move-at ps cs i)
+
+  abbrev standing : ℕ
+  standing = chain J 9 (standing-row (length cs))
+
+  abbrev cost : ℕ → ℕ
+  cost i = chain J 9 (row rows i)
+
+  -- When the head is left.
+  abbrev clock : ℕ
+  clock = path (P .leg) (T .depot) (head r cs)
+
+  abbrev middle-on-time : ℕ → Bool
+  middle-on-time i = on-time C (last-of (T .depot) (head r cs)) clock (middle r cs (pattern i .order) (pattern i .mask))
+
+  pub chains : (from : ℕ) → from ≤ limit → Chains J rows from limit
+  chains from h =
+      record {
+        padded = given .joined .padded;
+        places = given .patterned .places;
+        few = omega (arith, given .allowed, given .patterned .few);
+        within = h;
+        known = λ c l. given .patterned .small c (omega (arith, given .allowed));
+      }
+
+  module _ {late : ℕ} (late-is : late ≡ lateness C (T .depot) r (getD cs (length cs - 1) 0)) (early : on-time C (T .depot) 0 (head r cs) ≡ true) where
+    gain-is : (i : ℕ) → i < length ps → gain i ≡ (middle-on-time i && ltb (cost i) (below standing late))
+    gain-is i h = by (decLt (cost i) standing)
+      where
+        after : ℕ
+        after = tour-length P (reconnected (record { cuts = cs; pattern = pattern i }) r)
+
+        moved : after + standing ≡ tour-length P r + cost i
+        moved =
+            chain-delta P cs r J (pattern i .order) (pattern i .mask) (given .cut-set) (given .patterned .for-k i h) (given .joined)
+            ∙ ap (λ s. tour-length P r + chain J 9 s) (sym (given .patterned .each i h))
+
+        kept : Bool
+        kept = feasible P (reconnected (record { cuts = cs; pattern = pattern i }) r)
+
+        by : Dec (cost i < standing) → gain i ≡ (middle-on-time i && ltb (cost i) (below standing late))
+        by (yes l) =
+            ap (λ b. kept && b) (lt-ltb after (tour-length P r) (omega (arith, moved)))
+            ∙ and-true kept
+            ∙ candidate-judged cs r (given .cut-set) P (pattern i) (standing - cost i) (given .patterned .for-k i h) early (omega (arith, moved))
+            ∙ ap (λ n. middle-on-time i && leb n (standing - cost i)) (sym late-is)
+            ∙ ap (λ b. middle-on-time i && b) (enough (cost i) standing late l)
+        by (no n) =
+            ap (λ b. kept && b) (le-ltb after (tour-length P r) (omega (arith, moved)))
+            ∙ and-false kept
+            ∙ sym (ap (λ b. middle-on-time i && b) (le-ltb (cost i) (below standing late) (omega arith)) ∙ and-false (middle-on-time i))
+
+    -- Where no pattern costs so little, none improves.
+    pub none-below : (limit′ b : ℕ) → limit′ ≡ limit → b ≡ below standing late → NextShorter J rows b 0 limit limit′ → FirstGain P ps (length cs) r cs limit limit
+    none-below limit′ b e is next =
+        record {
+          within = omega arith;
+          passed = λ x h.
+              gain-is x (omega (arith, given .allowed))
+              ∙ ap (λ t. middle-on-time x && t) (le-ltb (cost x) (below standing late) (omega (arith, is, next .passed x (omega arith) (omega arith))))
+              ∙ and-false (middle-on-time x);
+          gains = λ m. absurd (omega arith);
+        }
+
+    -- With the dues of the states.
+    module _ (D : List ℕ) (dues : DuesOf C cs r D) where
+      gain-due : (i : ℕ) → i < limit → gain i ≡ due-gain J rows D (length cs - 1) clock (below standing late) i
+      gain-due i h =
+          let k : i < length ps = omega (arith, given .allowed) in
+          gain-is i k
+          ∙ ap (λ b. b && ltb (cost i) (below standing late))
+          (sym (row-kept C cs r J D (given .cut-set) (given .joined) dues (pattern i .order) rows (pattern i .mask) i clock (given .patterned .for-k i k) (given .patterned .each i k)))
+
+      pub first-due-gain : (b i : ℕ) → b ≡ below standing late → FirstDue J rows D (length cs - 1) clock b limit i → FirstGain P ps (length cs) r cs limit i
+      first-due-gain b i e f =
+          let d : FirstDue J rows D (length cs - 1) clock (below standing late) limit i = rw e at f in
+          record {
+            within = d .within;
+            passed = λ x h. gain-due x (omega (arith, d .within)) ∙ d .passed x h;
+            gains = λ h. gain-due i h ∙ d .gains h;
+          }
+
+  -- The rows can be judged by the dues.
+  pub due-rows : (D : List ℕ) → length D ≡ 9 → (b shorter : ℕ) → clock ≤ 2 ^ 40 → NextShorter J rows b 0 limit shorter → DueRows J rows D (length cs - 1) clock b shorter limit
+  due-rows D places b shorter e next =
+      record {
+        chains = chains 0 (omega arith);
+        most = omega (arith, given .cut-set .most);
+        due-places = places;
+        states = λ i h c l m.
+            let k : i < length ps = omega (arith, given .allowed) in
+            row-known (length cs) (pattern i .order) rows (pattern i .mask) i (given .cut-set .least) (given .cut-set .most) (given .patterned .for-k i k) (given .patterned .each i k) c l m;
+        early = e;
+        first = next;
+      }
+
+-- Once the joint table is filled.
+pub tabled : {T : Trip} {r forwards backwards cs rows J : List ℕ} {ps : List Pattern} {limit : ℕ} →
+    Searchable T r forwards backwards cs → Patterned (length cs) ps rows → limit ≤ length ps → JointOf (T .tables .locations) (T .tables .legs) (T .depot) r cs J → Tabled T r cs ps rows J limit
+tabled s w l j = record { timed = s .timed; cut-set = s .cut-set; patterned = w; allowed = l; joined = j }
+
+-- What is read of the lateness is that of the tail.
+pub told-late : {T : Trip} {r forwards backwards cs rows late J D : List ℕ} {limit : ℕ} →
+    Findable T r forwards backwards cs rows late J D limit → {v : ℕ} → v ≡ getD late (getD cs (length cs - 1) 0) 0 →
+    v ≡ lateness (clock-by (T .tables)) (T .depot) r (getD cs (length cs - 1) 0)
+told-late {r = r} {cs = cs} given e = e ∙ given .latenesses .each _ (last-cut cs r (given .searchable .cut-set))

@@ -1,0 +1,110 @@
+-- The inner step of the scan: on one cut set, the first pattern whose candidate improves.
+use mathlib.Core.Path.{_≡_}
+use mathlib.Core.Bool.{Bool, true, false, _&&_}
+use mathlib.Core.List.{List}
+use Prim.Native.Nat.{ℕ, _+_, _-_, _*_, _^_, _≤_, _<_}
+use lib.Dec.{ltb}
+use lib.Seq.{slice}
+use lib.ListN.{length, getD, take}
+use Rattle.theory.specs.Moves.{Pattern}
+use Rattle.theory.specs.Scan.{improves}
+use Rattle.theory.specs.Polish.{search-of, move-at}
+use Rattle.theory.specs.Route.{Problem, on-time}
+use Rattle.theory.specs.Costs.{forward, backward}
+use Rattle.theory.specs.Tables.{problem, clock-by, Timed, CutSet, Trip}
+use Rattle.costs.specs.RouteCosts.{leg, Sums}
+use Rattle.deadlines.specs.Lateness.{Latenesses}
+use Rattle.scan_joints.specs.States.{row, Patterned}
+use Rattle.deadline_dues.specs.Parts.{head}
+use Rattle.deadline_dues.specs.Dues.{in-time, DuesHeld}
+use Rattle.scan_joints.specs.JointTable.{chain, Padded, JointOf}
+
+-- What the step reads: tables, the route with its running sums, and k cuts of it.
+pub record Searchable (T : Trip) (route forward-sums backward-sums cuts : List ℕ) : Type 0 where
+  pub timed : Timed T route
+  pub forwards : Sums route (forward (leg (T .tables .locations) (T .tables .legs)) route) forward-sums
+  pub backwards : Sums route (backward (leg (T .tables .locations) (T .tables .legs)) route) backward-sums
+  pub cut-set : CutSet (length cuts) (length route) cuts
+
+-- The first of the first `limit` patterns on the cut set that improves the route, or `limit` where none does.
+pub record FirstGain (P : Problem) (ps : List Pattern) (k : ℕ) (route cuts : List ℕ) (limit i : ℕ) : Type 0 where
+  pub within : i ≤ limit
+  pub passed : (x : ℕ) → x < i → improves (search-of P ps k (length route)) route (move-at ps cuts x) ≡ false
+  pub gains : i < limit → improves (search-of P ps k (length route)) route (move-at ps cuts i) ≡ true
+
+-- A cut, and a place for the lateness behind it.
+pub record LateBehind (late cuts : List ℕ) : Type 0 where
+  pub not-empty : 1 ≤ length cuts
+  pub within : getD cuts (length cuts - 1) 0 < length late
+  pub places : length late ≡ 513
+
+-- With what is known of the deadlines: the head is on time, by how much the stops behind are late, and what is held of the dues for the first cuts; rows of
+-- patterns of which the first `limit` are still allowed; and places for the joint table.
+pub record Findable (T : Trip) (route forward-sums backward-sums cuts rows late table dues : List ℕ) (limit : ℕ) : Type 0 where
+  pub searchable : Searchable T route forward-sums backward-sums cuts
+  pub patterns : List Pattern
+  pub patterned : Patterned (length cuts) patterns rows
+  pub allowed : limit ≤ length patterns
+  pub early : on-time (clock-by (T .tables)) (T .depot) 0 (head route cuts) ≡ true
+  pub latenesses : Latenesses (clock-by (T .tables)) (T .depot) route late
+  pub held : DuesHeld (clock-by (T .tables)) route (take (length cuts - 1) cuts) dues
+  pub behind : getD dues 8 0 ≤ getD cuts (length cuts - 1) 0
+  pub padded : Padded table
+
+-- The answer, of whichever patterns the rows are, with what is then held.
+pub record Found (T : Trip) (route cuts rows : List ℕ) (limit i : ℕ) (table dues : List ℕ) : Type 0 where
+  pub within : i ≤ limit
+  pub first : (ps : List Pattern) → Patterned (length cuts) ps rows → limit ≤ length ps → FirstGain (problem T) ps (length cuts) route cuts limit i
+  pub padded : Padded table
+  pub held : DuesHeld (clock-by (T .tables)) route (take (length cuts - 1) cuts) dues
+  pub behind : getD dues 8 0 ≤ getD cuts (length cuts - 1) 0
+
+-- ---- the parts of the step
+
+-- Rows of states up to `limit`, whose chains in the table can be added up.
+pub record Chains (table rows : List ℕ) (from limit : ℕ) : Type 0 where
+  pub padded : Padded table
+  pub places : length rows ≡ 1532
+  pub few : limit ≤ 383
+  pub within : from ≤ limit
+  pub known : (c : ℕ) → c < 4 * limit → getD rows c 0 ≤ 8
+
+-- The first row from `from` on whose chain is below `standing`, or `limit` where none is.
+pub record NextShorter (table rows : List ℕ) (standing from limit i : ℕ) : Type 0 where
+  pub least : from ≤ i
+  pub most : i ≤ limit
+  pub passed : (x : ℕ) → from ≤ x → x < i → standing ≤ chain table 9 (row rows x)
+  pub shorter : i < limit → chain table 9 (row rows i) < standing
+
+-- The step once the joint table is filled, for patterns that are rows of states.
+pub record Tabled (T : Trip) (route cuts : List ℕ) (ps : List Pattern) (rows table : List ℕ) (limit : ℕ) : Type 0 where
+  pub timed : Timed T route
+  pub cut-set : CutSet (length cuts) (length route) cuts
+  pub patterned : Patterned (length cuts) ps rows
+  pub allowed : limit ≤ length ps
+  pub joined : JointOf (T .tables .locations) (T .tables .legs) (T .depot) route cuts table
+
+-- What a pattern must cost less than: what stands, and so much less that the tail, late by at most `late`, is on time.
+abbrev pub below : ℕ → ℕ → ℕ
+below standing late = standing - (late - 1)
+
+-- ---- by the dues of the states
+
+-- Row x costs less than `below`, and its first `m` states are left in time.
+abbrev pub due-gain : List ℕ → List ℕ → List ℕ → ℕ → ℕ → ℕ → ℕ → Bool
+due-gain table rows dues m clock below x = in-time table dues 9 clock (slice (4 * x) (4 * x + m) rows) && ltb (chain table 9 (row rows x)) below
+
+-- Rows of states, the joint table and the dues, when the head is left, and the first row that costs less.
+pub record DueRows (table rows dues : List ℕ) (m clock below shorter limit : ℕ) : Type 0 where
+  pub chains : Chains table rows 0 limit
+  pub most : m ≤ 4
+  pub due-places : length dues ≡ 9
+  pub states : (i : ℕ) → i < limit → (c : ℕ) → 4 * i ≤ c → c < 4 * i + m → getD rows c 0 < 8
+  pub early : clock ≤ 2 ^ 40
+  pub first : NextShorter table rows below 0 limit shorter
+
+-- The first such row, or `limit` where none is.
+pub record FirstDue (table rows dues : List ℕ) (m clock below limit i : ℕ) : Type 0 where
+  pub within : i ≤ limit
+  pub passed : (x : ℕ) → x < i → due-gain table rows dues m clock below x ≡ false
+  pub gains : i < limit → due-gain table rows dues m clock below i ≡ true

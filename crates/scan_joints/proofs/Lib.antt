@@ -1,0 +1,6 @@
+pub mod States
+pub mod Chain
+pub mod Rows
+mod Cells
+pub mod Ends
+pub mod Filling

@@ -1,0 +1,3 @@
+mod Scanning
+mod NextCuts
+mod Passing

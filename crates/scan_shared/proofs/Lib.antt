@@ -1,0 +1,4 @@
+pub mod Padding
+mod Classes
+mod Filling
+pub mod Preparing

@@ -1,0 +1,352 @@
+-- A stretch, over plain lists: what holds at each step, and what each end of a step gives. Assumes nothing.
+use mathlib.Core.Path.{_≡_, refl, sym, ap, _∙_}
+use mathlib.Core.Bool.{Bool, true, false, true≢false, _&&_, and-false}
+use mathlib.Core.Logic.{inl}
+use mathlib.Core.List.{List, [], _∷_, _++_}
+use Prim.Native.Nat.{ℕ, suc, min, _+_, _-_, _*_, _≤_, _<_}
+use native.Mathlib.Omega.{arith}
+use native.Mathlib.Nat.{zero-mul}
+use native.Mathlib.Decide.{decLt}
+use lib.ListN.{length, getD, set, replicate}
+use lib.Seq.{set-at, getD-take}
+use Rattle.theory.specs.Moves.{Pattern}
+use Rattle.theory.specs.Route.{reconnected, feasible, tour-length}
+use Rattle.theory.specs.Scan.{improves}
+use Rattle.theory.specs.Polish.{search-of, move-at}
+use Rattle.theory.specs.Tables.{problem, clock-by, ForK, Trip}
+use Rattle.costs.proofs.Segments.{head-at, cuts-parted, first-many}
+use Rattle.scan_joints.specs.JointTable.{Padded}
+use Rattle.scan_joints.specs.States.{row, states, no-pattern}
+use Rattle.costs.specs.RouteCosts.{first-cuts, last-cut}
+use Rattle.scan_shared.specs.Prepared.{Cut, Opened}
+use Rattle.scan_shared.specs.Filling.{Preparable, PreparedNow}
+use Rattle.scan_shared.proofs.Preparing.{first-of-cuts, last-of-cuts, zero-at}
+use Rattle.scan_bound.specs.Tests.{Nextable, NextPromising}
+use Rattle.deadline_dues.specs.Dues.{DuesHeld}
+use Rattle.scan_cut_set.specs.Gain.{FirstGain, Findable, Found}
+use Rattle.scan_stretch.specs.declared.Step.{Step}
+use Rattle.scan_stretch.specs.declared.Step.the-variants.{Done, On}
+use Rattle.scan_stretch.specs.Stretch.{Listed, Hopeful, Ended, GainAt, Going, StepTo, Triable, Steppable, idle-end, improves-at}
+use Rattle.scan_stretch.proofs.LastCut.{first-below, long, at-cut}
+use Rattle.scan_stretch.proofs.Counting.{count-to, count-next, count-least, up-to}
+
+-- ---- the last cut as the array has it
+
+pub last-stored : (l : List ℕ) (v : ℕ) → 1 ≤ length l → set l (length l - 1) v ≡ first-cuts l ++ (v ∷ [])
+last-stored l v h = ap (λ z. set z (length l - 1) v) (cuts-parted l h) ∙ set-at (first-cuts l) (last-cut l) [] v (length l - 1) (first-many l)
+
+-- ---- what is known of the cut set at hand
+
+module _ {T : Trip} {ps : List Pattern} {r first : List ℕ} {left : ℕ} {cuts table dues : List ℕ} {examined : ℕ} (going : Going T ps r first left cuts table dues examined) where
+  stored : (v : ℕ) → set cuts (length cuts - 1) v ≡ first-cuts first ++ (v ∷ [])
+  stored v = last-stored cuts v (omega (arith, going .cut-set .least)) ∙ ap (λ l. l ++ (v ∷ [])) (going .same)
+
+  cuts-are : cuts ≡ first-cuts first ++ (last-cut cuts ∷ [])
+  cuts-are = cuts-parted cuts (omega (arith, going .cut-set .least)) ∙ ap (λ l. l ++ (last-cut cuts ∷ [])) (going .same)
+
+  pub last-most : last-cut cuts ≤ length r
+  last-most = first-below r cuts (going .cut-set) .1
+
+  first-same : getD cuts 0 0 ≡ getD first 0 0
+  first-same =
+      sym (getD-take (length cuts - 1) cuts 0 0 (omega (arith, going .cut-set .least)))
+      ∙ ap (λ l. getD l 0 0) (going .same)
+      ∙ getD-take (length first - 1) first 0 0 (omega (arith, going .begin .least))
+
+  answered : {e x : ℕ} {g w : Bool} {cuts′ table′ : List ℕ} → Padded table′ →
+      ((t y : ℕ) → last-cut first ≤ t → y < length ps → (t - last-cut first) * length ps + y < e → improves-at (problem T) ps r first t y ≡ false) → e ≤ left →
+      (g ≡ true → (e < left) × GainAt (problem T) ps r first e x cuts′) →
+      (w ≡ true → (e ≡ (length r + 1 - last-cut first) * length ps) × (cuts′ ≡ first-cuts first ++ (length r ∷ []))) →
+      (g ≡ false → w ≡ false → (e ≡ left) × (left < (length r + 1 - last-cut first) * length ps)) →
+      Ended (problem T) ps r first left (record { examined = e; gains = g; through = w; pattern = x }) cuts′ × Padded table′
+  answered p idle allowed gain over spent = (record { idle = λ t y h l i n. idle t y h i n; allowed = allowed; gain = gain; over = over; spent = spent }, p)
+
+  -- The next cut set is behind a head that is on time as well.
+  module _ {rows : List ℕ} {patterns : ℕ} {forwards backwards late table₀ : List ℕ} (given : Hopeful T rows patterns r forwards backwards late first table₀) where
+    pub hopeful-on : Hopeful T rows patterns r forwards backwards late cuts table
+    hopeful-on =
+        let g = given .searchable in
+        record {
+          searchable = record { timed = g .timed; forwards = g .forwards; backwards = g .backwards; cut-set = going .cut-set };
+          list = given .list;
+          listed = rw (going .many) (given .listed);
+          padded = going .padded;
+          early = rw first-same (given .early);
+          latenesses = given .latenesses;
+        }
+
+    pub triable-on : Triable T rows patterns r forwards backwards late cuts table dues examined left
+    triable-on = record { hopeful = hopeful-on; held = rw (going .same) (going .held); behind = going .behind; within = going .within }
+
+    pub prepared-on : {entries exits inside low : List ℕ} → PreparedNow (T .tables .locations) (T .tables .legs) (T .depot) r first rows patterns entries exits inside low →
+        PreparedNow (T .tables .locations) (T .tables .legs) (T .depot) r cuts rows patterns entries exits inside low
+    prepared-on k = record { places = k .places; prepared = rw (going .same) (k .prepared) }
+
+-- ---- the start
+
+module _ {T : Trip} {rows : List ℕ} {patterns : ℕ} {r forwards backwards late cuts table : List ℕ} (given : Hopeful T rows patterns r forwards backwards late cuts table) where
+  cut : Cut (T .tables .locations) (T .tables .legs) (T .depot) r forwards backwards cuts
+  cut = let g = given .searchable in record { measurable = g .timed .measurable; forwards = g .forwards; backwards = g .backwards; cut-set = g .cut-set }
+
+  pub few-patterns : patterns ≤ 383
+  few-patterns = omega (arith, given .listed .patterned .few, given .listed .many)
+
+  pub preparable : Opened cuts → Preparable (T .tables .locations) (T .tables .legs) (T .depot) r forwards backwards cuts rows patterns (replicate 8 0) (replicate 8 0) (replicate 8 0) (replicate 21 0)
+  preparable o =
+      let w = given .listed .patterned in
+      record {
+        cut = cut;
+        rows-fit = record { places = w .places; few = few-patterns; known = rw (given .listed .many) at (w .small) };
+        places = record { ends = record { entry-places = refl; exit-places = refl; inside-places = refl }; low-places = refl; low-small = λ c. rw (zero-at 21 c) (omega arith) };
+        first = o;
+      }
+
+  pub starts : (ps : List Pattern) (left : ℕ) {dues : List ℕ} → DuesHeld (clock-by (T .tables)) r (first-cuts cuts) dues → getD dues 8 0 ≤ last-cut cuts → Going T ps r cuts left cuts table dues 0
+  starts ps left held behind =
+      let z : last-cut cuts - last-cut cuts ≡ 0 = omega arith in
+      record {
+        begin = given .searchable .cut-set;
+        cut-set = given .searchable .cut-set;
+        many = refl;
+        same = refl;
+        from = omega arith;
+        count = sym (ap (λ n. n * length ps) z ∙ zero-mul (length ps));
+        within = omega arith;
+        idle = λ t x h l i. absurd (omega arith);
+        padded = given .padded;
+        held = held;
+        behind = behind;
+      }
+
+  -- Nothing is held of the dues.
+  pub starts-bare : (ps : List Pattern) (left : ℕ) → Going T ps r cuts left cuts table (replicate 9 0) 0
+  starts-bare ps left = starts ps left (record { places = refl; held = inl refl }) (rw (zero-at 9 8) (omega arith))
+
+-- ---- up to the first last cut that is promising
+
+module _ {T : Trip} {rows : List ℕ} {patterns : ℕ} {r forwards backwards late cuts entries exits inside low zero table dues : List ℕ} {examined left : ℕ}
+    (given : Steppable T rows patterns r forwards backwards late cuts entries exits inside low zero table dues examined left) where
+  pub nextable : Nextable (T .tables .locations) (T .tables .legs) (T .depot) r forwards backwards cuts entries exits inside low zero
+  nextable =
+      let k = given .prepared .prepared in
+      record {
+        cut = cut (given .triable .hopeful);
+        places = given .prepared .places;
+        prepared = record { entry = k .entry; exit = k .exit; within = k .within; standing = k .standing; least = λ i h. absurd (omega arith) };
+        zero-places = given .zero-places;
+        zero-is = given .zero-is;
+      }
+
+  module _ {hit : ℕ} (next : NextPromising (T .tables .locations) (T .tables .legs) (T .depot) r cuts entries exits inside low hit) where
+    pub few-sets : (hit - last-cut cuts ≤ 513) × (patterns ≤ 383)
+    few-sets = (omega (arith, next .most, given .triable .hopeful .searchable .cut-set .short), few-patterns (given .triable .hopeful))
+
+    module _ {first : List ℕ} {ps : List Pattern} (list : Listed (length first) patterns rows ps) (going : Going T ps r first left cuts table dues examined) where
+      behind-hit : last-cut first ≤ hit
+      behind-hit = omega (arith, going .from, next .least)
+
+      no-gain : (t x : ℕ) → last-cut cuts ≤ t → t < hit → x < length ps → improves-at (problem T) ps r first t x ≡ false
+      unfolding tour-length
+      no-gain t x h l i =
+          let p = getD ps x no-pattern in
+          let n : suc (length (first-cuts first)) ≡ length first = omega (arith, first-many first, going .begin .least) in
+          let f : ForK (suc (length (first-cuts first))) (p .order) (p .mask) = rw n (list .patterned .for-k x i) in
+          let w : row rows x ≡ states (suc (length (first-cuts first))) (p .order) (p .mask) = rw n (list .patterned .each x i) in
+          let q = rw (going .same) at (next .idle t h l) in
+          ap (λ b. feasible (problem T) (reconnected (move-at ps (first-cuts first ++ (t ∷ [])) x) r) && b)
+          (q rows patterns (rw (going .same) at (given .prepared .prepared)) (p .order) (p .mask) x (omega (arith, i, list .many)) f w)
+          ∙ and-false (feasible (problem T) (reconnected (move-at ps (first-cuts first ++ (t ∷ [])) x) r))
+
+      passed : (t x : ℕ) → last-cut first ≤ t → t < hit → x < length ps → improves-at (problem T) ps r first t x ≡ false
+      passed t x h l i = by (decLt t (last-cut cuts))
+        where
+          by : Dec (t < last-cut cuts) → improves-at (problem T) ps r first t x ≡ false
+          by (yes p) = going .idle t x h p i
+          by (no p) = no-gain t x (omega arith) l i
+
+      module _ {over : ℕ} (over-by : over ≡ (hit - last-cut cuts) * patterns) where
+        over-is : over ≡ (hit - last-cut cuts) * length ps
+        over-is = over-by ∙ ap (λ n. (hit - last-cut cuts) * n) (sym (list .many))
+
+        reaches : examined + over ≡ (hit - last-cut first) * length ps
+        reaches = ap (λ n. examined + n) over-is ∙ ap (λ n. n + (hit - last-cut cuts) * length ps) (going .count) ∙ count-to (last-cut first) (last-cut cuts) hit (length ps) (going .from) (next .least)
+
+        idle-below : (t x : ℕ) → last-cut first ≤ t → x < length ps → (t - last-cut first) * length ps + x < examined + over →
+            improves-at (problem T) ps r first t x ≡ false
+        idle-below t x h i n =
+            up-to (last-cut first) hit (length ps) 0 behind-hit (omega arith) (improves-at (problem T) ps r first) passed
+            (λ y l. absurd (omega arith)) t x h i (omega (arith, n, reaches))
+
+        -- The allowance ends among them.
+        pub spent-over : left - examined < over → StepTo T ps r first left (last-cut cuts) (Done (idle-end left false)) cuts table dues
+        spent-over b =
+            answered going (going .padded)
+            (λ t x h i n. idle-below t x h i (omega (arith, n, b, going .within)))
+            (omega arith)
+            (λ e. absurd (true≢false (sym e)))
+            (λ e. absurd (true≢false (sym e)))
+            (λ _ _. (refl, omega (arith, b, reaches, count-least (last-cut first) hit (length r + 1) (length ps) (next .most))))
+
+        module _ (room : over ≤ left - examined) where
+          -- No last cut is left.
+          pub through-over : length r < hit → StepTo T ps r first left (last-cut cuts) (Done (idle-end (examined + over) true)) (set cuts (length cuts - 1) (length r)) table dues
+          through-over b =
+              let e : hit ≡ length r + 1 = omega (arith, next .most) in
+              answered going (going .padded)
+              (λ t x h i n. idle-below t x h i n)
+              (omega (arith, room, going .within))
+              (λ e. absurd (true≢false (sym e)))
+              (λ _. (reaches ∙ ap (λ n. (n - last-cut first) * length ps) e, stored going (length r)))
+              (λ _ e. absurd (true≢false e))
+
+          -- At a last cut that is promising.
+          pub at-hit : hit ≤ length r → Going T ps r first left (set cuts (length cuts - 1) hit) table dues (examined + over)
+          at-hit l =
+              let f = first-of-cuts (first-cuts first) hit in
+              let e = last-of-cuts (first-cuts first) hit in
+              rw (stored going hit)
+              (record {
+                begin = going .begin;
+                cut-set = at-cut r first (going .begin) hit behind-hit l;
+                many = long r first (going .begin) hit;
+                same = f;
+                from = rw e behind-hit;
+                count = reaches ∙ ap (λ c. (c - last-cut first) * length ps) (sym e);
+                within = omega (arith, room, going .within);
+                idle = λ t x h b i. passed t x h (rw e at b) i;
+                padded = going .padded;
+                held = going .held;
+                behind = rw e (omega (arith, going .behind, next .least));
+              })
+
+          -- What is then tried leads on from here.
+          pub from-hit : (answer : Step) (cuts′ table′ dues′ : List ℕ) →
+              StepTo T ps r first left (last-cut (set cuts (length cuts - 1) hit)) answer cuts′ table′ dues′ → StepTo T ps r first left (last-cut cuts) answer cuts′ table′ dues′
+          from-hit (Done answer) cuts′ table′ dues′ w = w
+          from-hit (On reached) cuts′ table′ dues′ w =
+              let e : last-cut (set cuts (length cuts - 1) hit) ≡ hit = ap last-cut (stored going hit) ∙ last-of-cuts (first-cuts first) hit in
+              (w .0, omega (arith, w .1, e, next .least))
+
+pub hit-triable : {T : Trip} {rows : List ℕ} {patterns : ℕ} {r forwards backwards late cuts entries exits inside low zero table dues : List ℕ} {examined left : ℕ} →
+    Steppable T rows patterns r forwards backwards late cuts entries exits inside low zero table dues examined left →
+    {hit : ℕ} → NextPromising (T .tables .locations) (T .tables .legs) (T .depot) r cuts entries exits inside low hit → {over : ℕ} → over ≡ (hit - last-cut cuts) * patterns → over ≤ left - examined → hit ≤ length r →
+    Triable T rows patterns r forwards backwards late (set cuts (length cuts - 1) hit) table dues (examined + over) left
+hit-triable {T} {rows} {patterns} {r} {forwards} {backwards} {late} {cuts} {entries} {exits} {inside} {low} {zero} {table} {dues} given next {over} e room l =
+    let w = given .triable in
+    let h = w .hopeful in
+    let alone : Steppable T rows patterns r forwards backwards late cuts entries exits inside low zero table dues 0 over =
+    record { triable = record { hopeful = h; held = w .held; behind = w .behind; within = omega arith }; prepared = given .prepared; zero-places = given .zero-places; zero-is = given .zero-is } in
+    let t = triable-on (at-hit alone next (h .listed) (starts h (h .list) over (w .held) (w .behind)) e (omega arith) l) h in
+    record { hopeful = t .hopeful; held = t .held; behind = t .behind; within = omega (arith, room, w .within) }
+
+-- ---- at a last cut that is promising
+
+module _ {T : Trip} {rows : List ℕ} {patterns : ℕ} {r forwards backwards late cuts table dues : List ℕ} {examined left : ℕ}
+    (given : Triable T rows patterns r forwards backwards late cuts table dues examined left) {limit : ℕ} (limit-is : limit ≡ min patterns (left - examined)) where
+  pub findable : Findable T r forwards backwards cuts rows late table dues limit
+  findable =
+      let h = given .hopeful in
+      record {
+        searchable = h .searchable;
+        patterns = h .list;
+        patterned = h .listed .patterned;
+        allowed = omega (arith, h .listed .many);
+        early = rw (head-at cuts r (omega (arith, h .searchable .cut-set .least))) (h .early);
+        latenesses = h .latenesses;
+        held = given .held;
+        behind = given .behind;
+        padded = h .padded;
+      }
+
+  module _ {i : ℕ} {table′ dues′ : List ℕ} (found : Found T r cuts rows limit i table′ dues′) where
+    pub room-left : examined + i ≤ left
+    room-left = omega (arith, found .within, given .within)
+
+    module _ {first : List ℕ} {ps : List Pattern} (list : Listed (length first) patterns rows ps) (going : Going T ps r first left cuts table dues examined) where
+      gain : FirstGain (problem T) ps (length cuts) r cuts limit i
+      gain = found .first ps (rw (going .many) (list .patterned)) (omega (arith, list .many))
+
+      same-there : (x : ℕ) → improves-at (problem T) ps r first (last-cut cuts) x ≡ improves (search-of (problem T) ps (length cuts) (length r)) r (move-at ps cuts x)
+      same-there x =
+          ap (λ cs. improves (search-of (problem T) ps (length first) (length r)) r (move-at ps cs x)) (sym (cuts-are going))
+          ∙ ap (λ n. improves (search-of (problem T) ps n (length r)) r (move-at ps cuts x)) (sym (going .many))
+
+      here : (x : ℕ) → x < i → improves-at (problem T) ps r first (last-cut cuts) x ≡ false
+      here x h = same-there x ∙ gain .passed x h
+
+      idle-now : (t x : ℕ) → last-cut first ≤ t → x < length ps → (t - last-cut first) * length ps + x < examined + i →
+          improves-at (problem T) ps r first t x ≡ false
+      idle-now t x h l n =
+          up-to (last-cut first) (last-cut cuts) (length ps) i (going .from) (omega (arith, gain .within, list .many)) (improves-at (problem T) ps r first)
+          (going .idle) here t x h l (omega (arith, n, going .count))
+
+      pub gains : i < limit → StepTo T ps r first left (last-cut cuts) (Done (record { examined = examined + i; gains = true; through = false; pattern = i })) cuts table′ dues′
+      gains h =
+          answered going (found .padded) idle-now room-left
+          (λ _. (
+            omega (arith, going .within),
+            record {
+              last = last-cut cuts;
+              least = going .from;
+              most = last-most going;
+              cuts-are = cuts-are going;
+              listed = omega (arith, list .many);
+              is = ap (λ n. n + i) (going .count);
+              improves = same-there i ∙ gain .gains h;
+            },
+          ))
+          (λ e. absurd (true≢false (sym e)))
+          (λ e. absurd (true≢false e))
+
+      module _ (all : limit ≤ i) where
+        reached : i ≡ limit
+        reached = omega (arith, gain .within)
+
+        -- The allowance ends on this cut set.
+        pub spent-here : limit < patterns → StepTo T ps r first left (last-cut cuts) (Done (idle-end (examined + i) false)) cuts table′ dues′
+        spent-here h =
+            answered going (found .padded) idle-now room-left
+            (λ e. absurd (true≢false (sym e)))
+            (λ e. absurd (true≢false (sym e)))
+            (λ _ _. (
+              omega (arith, reached, going .within),
+              omega (arith, going .within, going .count, list .many, count-next (last-cut first) (last-cut cuts) (length ps) (going .from), count-least (last-cut first) (last-cut cuts + 1) (length r + 1) (length ps) (omega (arith, last-most going))),
+            ))
+
+        module _ (whole : patterns ≤ limit) where
+          counted : examined + i ≡ (last-cut cuts + 1 - last-cut first) * length ps
+          counted = omega (arith, reached, list .many, going .count, count-next (last-cut first) (last-cut cuts) (length ps) (going .from))
+
+          -- It was the last one.
+          pub ends : last-cut cuts ≡ length r → StepTo T ps r first left (last-cut cuts) (Done (idle-end (examined + i) true)) cuts table′ dues′
+          ends e =
+              answered going (found .padded) idle-now room-left
+              (λ e. absurd (true≢false (sym e)))
+              (λ _. (counted ∙ ap (λ c. (c + 1 - last-cut first) * length ps) e, cuts-are going ∙ ap (λ c. first-cuts first ++ (c ∷ [])) e))
+              (λ _ e. absurd (true≢false e))
+
+          pub goes-on : (last-cut cuts ≡ length r → ⊥) → StepTo T ps r first left (last-cut cuts) (On (examined + i)) (set cuts (length cuts - 1) (last-cut cuts + 1)) table′ dues′
+          goes-on n =
+              let f = first-of-cuts (first-cuts first) (last-cut cuts + 1) in
+              let e = last-of-cuts (first-cuts first) (last-cut cuts + 1) in
+              rw (stored going (last-cut cuts + 1)) (
+                record {
+                  begin = going .begin;
+                  cut-set = at-cut r first (going .begin) (last-cut cuts + 1) (omega (arith, going .from)) (omega (arith, last-most going, n));
+                  many = long r first (going .begin) (last-cut cuts + 1);
+                  same = f;
+                  from = rw e (omega (arith, going .from));
+                  count = counted ∙ ap (λ c. (c - last-cut first) * length ps) (sym e);
+                  within = room-left;
+                  idle = λ t x h b i. by t x h (rw e at b) i (decLt t (last-cut cuts));
+                  padded = found .padded;
+                  held = rw (going .same) at (found .held);
+                  behind = rw e (omega (arith, found .behind));
+                },
+                rw e (omega arith),
+              )
+            where
+              by : (t x : ℕ) → last-cut first ≤ t → t < last-cut cuts + 1 → x < length ps → Dec (t < last-cut cuts) →
+                  improves-at (problem T) ps r first t x ≡ false
+              by t x h b y (yes l) = going .idle t x h l y
+              by t x h b y (no l) = let q : t ≡ last-cut cuts = omega arith in rw q (here x (omega (arith, reached, list .many)))

@@ -1,0 +1,95 @@
+-- `scan_stretch::scan_last_cuts` meets its contract. The invariant, of whichever patterns the rows are: the candidates before the last cut at hand are examined, and none improves the route. Assumes nothing.
+use mathlib.Core.Path.{refl, _∙_}
+use mathlib.Core.List.{List}
+use Prim.Native.Nat.{_+_, _-_}
+use lib.ListN.{length}
+use native.Mathlib.Omega.{arith}
+use borrow.Author.Needs.{needs}
+use Rattle.theory.specs.Tables.{trip}
+use Rattle.theory.specs.Moves.{Pattern}
+use Rattle.costs.specs.RouteCosts.{last-cut}
+use Rattle.scan_shared.specs.Filling.{PreparedNow}
+use Rattle.scan_shared.proofs.Preparing.{zero-at}
+use Rattle.scan_stretch.specs.Stretch.{Listed, Going}
+use Rattle.scan_stretch.proofs.Stretching.{last-most, preparable, starts-bare, triable-on, prepared-on}
+use Rattle.scan_stretch.proofs.scan_last_cuts.Statement.{statement}
+use Rattle.scan_stretch.proofs.scan_last_cuts.Tie as tie
+
+abbrev Inv-loop : tie.InvT-loop
+Inv-loop locations legs latest depot rows patterns route forward backward lateness cuts₀ joint₀ left entries exits inside low dues₀ zero examined₀ cuts joint dues examined =
+    ((ps : List Pattern) → Listed (length cuts₀) patterns rows ps → Going (trip locations legs latest depot) ps route cuts₀ left cuts joint dues examined)
+    × PreparedNow locations legs depot route cuts₀ rows patterns entries exits inside low
+
+abbrev μ-loop : tie.MeasureT-loop
+μ-loop locations legs latest depot rows patterns route forward backward lateness cuts₀ joint₀ left entries exits inside low dues₀ zero examined₀ cuts joint dues examined = length route + 1 - last-cut cuts
+
+prepare-requires : tie.Need-prepare-requires Inv-loop μ-loop
+prepare-requires c κs = preparable (c .before .before .before .before .before .before .before .before .before .pre .hopeful) (c .before .before .before .before .before .before .before .before .before .pre .first)
+
+loop-holds : tie.Need-loop-holds Inv-loop μ-loop
+loop-holds c = (λ ps w. starts-bare (c .before .before .before .before .before .before .before .before .before .before .pre .hopeful) ps (c .before .before .before .before .before .before .before .before .before .before .args .left), c .prepare .ensures)
+
+take-step-requires : tie.Need-take-step-requires Inv-loop μ-loop
+take-step-requires c κs =
+    let s = c .before .before .before .before .before .before .before .before .before .before .before .before .before .before .before .before .before .before .before in
+    let l = c .before .before .before .before .before .before .before .before .loop in
+    let h = s .pre .hopeful in
+    let g = l .inv .0 (h .list) (h .listed) in
+    record { triable = triable-on g h; prepared = prepared-on g h (l .inv .1); zero-places = refl; zero-is = zero-at 21 }
+
+enum-known-step : tie.Need-enum-known-step Inv-loop μ-loop
+enum-known-step c = search needs
+
+same-length : tie.Need-same-length Inv-loop μ-loop
+same-length c =
+    let s = c .before .before .before .before .before .before .before .before .before .before .before .before .before .before .before .before .before .before .before .before .before .before .before .before .before in
+    let l = c .before .before .before .before .before .before .before .before .before .before .before .before .before .before .loop in
+    let t = c .before .before .before .before .before .take-step in
+    let h = s .pre .hopeful in
+    t .kept .1 .1 .1 .1 .1 .1 .1 .1 .1 .1 .0 ∙ l .inv .0 (h .list) (h .listed) .many
+
+returns : tie.Need-returns Inv-loop μ-loop
+returns c =
+    let s = c .before .before .before .before .before .before .before .before .before .before .before .before .before .before .before .before .before .before .before .before .before .before .before .before .before in
+    let l = c .before .before .before .before .before .before .before .before .before .before .before .before .before .before .loop in
+    let t = c .before .before .before .before .before .take-step in
+    let h = s .pre .hopeful in
+    record {
+      ended = λ ps w. (rw (c .before .step .given .1) at (t .ensures (s .args .cuts .now) ps w (l .inv .0 ps w))) .0;
+      padded = (rw (c .before .step .given .1) at (t .ensures (s .args .cuts .now) (h .list) (h .listed) (l .inv .0 (h .list) (h .listed)))) .1;
+    }
+
+enum-known-step-2 : tie.Need-enum-known-step-2 Inv-loop μ-loop
+enum-known-step-2 c = search needs
+
+loop-less : tie.Need-loop-less Inv-loop μ-loop
+loop-less c =
+    let s = c .before .before .before .before .before .before .before .before .before .before .before .before .before .before .before .before .before .before .before .before .before .before .before .before .before in
+    let l = c .before .before .before .before .before .before .before .before .before .before .before .before .before .before .loop in
+    let t = c .before .before .before .before .before .take-step in
+    let h = s .pre .hopeful in
+    let g = l .inv .0 (h .list) (h .listed) in
+    omega (arith, last-most g, (rw (c .before .step2 .given .1) at (t .ensures (s .args .cuts .now) (h .list) (h .listed) g)) .1)
+
+loop-again : tie.Need-loop-again Inv-loop μ-loop
+loop-again c =
+    let s = c .before .before .before .before .before .before .before .before .before .before .before .before .before .before .before .before .before .before .before .before .before .before .before .before .before in
+    let l = c .before .before .before .before .before .before .before .before .before .before .before .before .before .before .loop in
+    let t = c .before .before .before .before .before .take-step in
+    (λ ps w. (rw (c .before .step2 .given .1) at (t .ensures (s .args .cuts .now) ps w (l .inv .0 ps w))) .0, l .inv .1)
+
+pub scan-last-cuts-spec : {M : Type 1} → statement M
+scan-last-cuts-spec =
+    tie.close
+    (tie.spec
+    Inv-loop
+    μ-loop
+    prepare-requires
+    loop-holds
+    take-step-requires
+    enum-known-step
+    same-length
+    returns
+    enum-known-step-2
+    loop-less
+    loop-again)

@@ -1,0 +1,50 @@
+-- A route measured, and one taken in its place: what the functions ask and give.
+use mathlib.Core.Path.{_≡_}
+use mathlib.Core.List.{List}
+use Prim.Native.Nat.{ℕ, _≤_}
+use lib.ListN.{length, getD}
+use Rattle.theory.specs.Costs.{forward, backward}
+use Rattle.theory.specs.Tables.{clock-by, LegTable, Stops, Timed, Trip}
+use Rattle.costs.specs.RouteCosts.{leg, Sums}
+use Rattle.deadlines.specs.Lateness.{LongestHead, Latenesses}
+use Rattle.scan_taking.specs.Candidate.{candidate, Candidate}
+
+-- A route, and places for its sums and for its lateness.
+pub record MeasureAsked (T : Trip) (route forward-sums backward-sums late : List ℕ) : Type 0 where
+  pub timed : Timed T route
+  pub forward-places : length forward-sums ≡ 512
+  pub backward-places : length backward-sums ≡ 512
+  pub late-places : length late ≡ 513
+
+-- Its sums, the longest head, and the lateness from each position on.
+pub record Measured (T : Trip) (route forward-sums backward-sums : List ℕ) (longest : ℕ) (late : List ℕ) : Type 0 where
+  pub forwards : Sums route (forward (leg (T .tables .locations) (T .tables .legs)) route) forward-sums
+  pub backwards : Sums route (backward (leg (T .tables .locations) (T .tables .legs)) route) backward-sums
+  pub head : LongestHead (clock-by (T .tables)) (T .depot) route longest
+  pub latenesses : Latenesses (clock-by (T .tables)) (T .depot) route late
+
+-- Places for the lateness of a route of so many stops.
+pub record Clearable (stops : ℕ) (late : List ℕ) : Type 0 where
+  pub short : stops ≤ 512
+  pub places : length late ≡ 513
+
+-- They hold 0 up to the end, if they did where the first of them holds 0.
+pub record Cleared (stops : ℕ) (late late′ : List ℕ) : Type 0 where
+  pub places : length late′ ≡ 513
+  pub none : (getD late 0 0 ≡ 0 → (c : ℕ) → c ≤ stops → getD late c 0 ≡ 0) → (c : ℕ) → c ≤ stops → getD late′ c 0 ≡ 0
+
+-- A candidate of a route, and places for what is known of it.
+pub record Takeable (locations : ℕ) (legs cuts orders masks : List ℕ) (i : ℕ) (route forward-sums backward-sums late : List ℕ) : Type 0 where
+  pub table : LegTable locations legs
+  pub stops : Stops locations route
+  pub of : Candidate route cuts orders masks i
+  pub forward-places : length forward-sums ≡ 512
+  pub backward-places : length backward-sums ≡ 512
+  pub late-places : length late ≡ 513
+
+-- The route is the candidate, with its sums anew, and no lateness.
+pub record Taken (locations : ℕ) (legs cuts orders masks : List ℕ) (i : ℕ) (route late route′ forward-sums backward-sums late′ : List ℕ) : Type 0 where
+  pub route-is : route′ ≡ candidate route cuts orders masks i
+  pub forwards : Sums route′ (forward (leg locations legs) route′) forward-sums
+  pub backwards : Sums route′ (backward (leg locations legs) route′) backward-sums
+  pub cleared : Cleared (length route) late late′

@@ -1,0 +1,100 @@
+// A route measured: its sums, and what it leaves to its candidates; and an accepted candidate put in its place. No entry: crate scan_loop calls it.
+use theory::CUT_PLACES;
+use theory::STOPS;
+ghost use mathlib.Core.Path.{_≡_};
+ghost use Rattle.theory.specs.Tables.{trip};
+ghost use Rattle.scan_taking.specs.Candidate.{candidate, Buildable, BuildableFront, BuiltFront};
+ghost use Rattle.scan_taking.specs.Measure.{MeasureAsked, Measured, Clearable, Cleared, Takeable, Taken};
+
+// The running sums of a route, and what it leaves to its candidates; the answer is the longest head.
+pub fn measure(
+    locations: usize,
+    legs: &[u32],
+    latest: &[u32],
+    depot: u32,
+    route: &[u32],
+    forward: &mut [u64; STOPS],
+    backward: &mut [u64; STOPS],
+    lateness: &mut [u64; CUT_PLACES],
+) -> usize
+    requires { ⌜ MeasureAsked (trip locations (now legs) (now latest) depot) (now route) (now forward) (now backward) (now lateness) ⌝ }
+    ensures { λ r. ⌜ Measured (trip locations (now (legs .entry)) (now (latest .entry)) depot) (now (route .entry)) (now (forward .exit)) (now (backward .exit)) r (now (lateness .exit)) ⌝ }
+{
+    costs::forward_sums(locations, legs, route, forward);
+    costs::backward_sums(locations, legs, route, backward);
+    deadlines::fill_lateness(locations, legs, latest, depot, route, forward, lateness)
+}
+
+// The candidate of pattern i.
+fn build_candidate(
+    route: &[u32],
+    cuts: &[usize],
+    orders: &[u8],
+    masks: &[u8],
+    i: usize,
+    out: &mut [u32],
+)
+    requires { ⌜ Buildable (now route) (now cuts) (now orders) (now masks) i (now out) ⌝ }
+    ensures { λ _. ⌜ now (out .exit) ≡ candidate (now (route .entry)) (now (cuts .entry)) (now (orders .entry)) (now (masks .entry)) i ⌝ }
+{
+    let width = cuts.len() + 1;
+    let at = i * width;
+    let end = at + width;
+    reconnection::reconnect(route, cuts, &orders[at..end], masks[i], out);
+}
+
+// The same at the front of `spare`.
+fn build_front(
+    route: &[u32],
+    cuts: &[usize],
+    orders: &[u8],
+    masks: &[u8],
+    i: usize,
+    spare: &mut [u32],
+)
+    requires { ⌜ BuildableFront (now route) (now cuts) (now orders) (now masks) i (now spare) ⌝ }
+    ensures { λ _. ⌜ BuiltFront (now (route .entry)) (now (cuts .entry)) (now (orders .entry)) (now (masks .entry)) i (now (spare .exit)) ⌝ }
+{
+    let n = route.len();
+    build_candidate(route, cuts, orders, masks, i, &mut spare[..n]);
+}
+
+// No stop of an accepted route is late. Where none was before, the table says so already.
+fn clear_lateness(stops: usize, lateness: &mut [u64; CUT_PLACES])
+    requires { ⌜ Clearable stops (now lateness) ⌝ }
+    ensures { λ _. ⌜ Cleared stops (now (lateness .entry)) (now (lateness .exit)) ⌝ }
+{
+    if lateness[0] == 0 {
+        return;
+    }
+    let mut c = 0;
+    while c <= stops {
+        lateness[c] = 0;
+        c += 1;
+    }
+}
+
+// The candidate of pattern i as the route, with its sums: the old ones say nothing of it. No stop of it is late.
+pub fn take_gain(
+    locations: usize,
+    legs: &[u32],
+    cuts: &[usize],
+    orders: &[u8],
+    masks: &[u8],
+    i: usize,
+    route: &mut [u32],
+    forward: &mut [u64; STOPS],
+    backward: &mut [u64; STOPS],
+    lateness: &mut [u64; CUT_PLACES],
+)
+    requires { ⌜ Takeable locations (now legs) (now cuts) (now orders) (now masks) i (now route) (now forward) (now backward) (now lateness) ⌝ }
+    ensures { λ _. ⌜ Taken locations (now (legs .entry)) (now (cuts .entry)) (now (orders .entry)) (now (masks .entry)) i (now (route .entry)) (now (lateness .entry)) (now (route .exit)) (now (forward .exit)) (now (backward .exit)) (now (lateness .exit)) ⌝ }
+{
+    let n = route.len();
+    let mut spare = [0u32; STOPS];
+    build_front(&route[..], cuts, orders, masks, i, &mut spare);
+    reconnection::copy_in(&spare[..n], route, 0);
+    costs::forward_sums(locations, legs, &route[..], forward);
+    costs::backward_sums(locations, legs, &route[..], backward);
+    clear_lateness(n, lateness);
+}

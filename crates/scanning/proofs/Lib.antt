@@ -1,4 +1,0 @@
-mod Scanning
-mod NextCuts
-mod Passing
-mod Taking

@@ -1,3 +1,0 @@
-pub mod Candidate
-pub mod Gain
-pub mod FirstDue

@@ -1,2 +1,0 @@
-pub mod Candidate
-pub mod Gain

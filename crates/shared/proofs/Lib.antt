@@ -1,4 +1,0 @@
-pub mod Padding
-mod Classes
-mod Filling
-pub mod Keeping

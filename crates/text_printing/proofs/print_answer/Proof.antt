@@ -1,0 +1,99 @@
+-- `text_printing::print_answer` meets its contract: line by line. Assumes nothing.
+use mathlib.Core.Path.{_≡_, refl, sym}
+use mathlib.Core.List.{List, [], _++_, append-nil}
+use Prim.Native.Nat.{ℕ}
+use Rattle.text_decimal.specs.Text.{ascii, line}
+use Rattle.text_decimal.proofs.Putting.{Partway, put-none, put-room, put-more, put-rest}
+use Rattle.text_printing.specs.Answer.{outcome, answer-text}
+use Rattle.text_printing.proofs.Answer.{from-examined, from-accepted, from-before, from-after, answer-lines, from-start, printed}
+use borrow.Author.Needs.{needs}
+use Rattle.text_printing.proofs.print_answer.Statement.{statement}
+use Rattle.text_printing.proofs.print_answer.Tie as tie
+
+-- What is left of the answer, to be put at a place.
+abbrev Left : tie.Start → List ℕ → List ℕ → ℕ → Type 0
+Left s rest out at =
+    Partway (answer-text (s .args .finished) (s .args .examined) (s .args .accepted) (s .args .before) (s .args .after) (s .args .route .now)) (s .args .out .now) 0 rest out at
+
+lines : (s : tie.Start) →
+    answer-text (s .args .finished) (s .args .examined) (s .args .accepted) (s .args .before) (s .args .after) (s .args .route .now)
+    ≡ outcome (s .args .finished) ++ from-examined (s .args .examined) (s .args .accepted) (s .args .before) (s .args .after) (s .args .route .now)
+lines s = answer-lines (s .args .finished) (s .args .examined) (s .args .accepted) (s .args .before) (s .args .after) (s .args .route .now)
+
+outcome-put : (c : tie.After-put-outcome) →
+    let s = c .before .before .before .before in
+    Left s (from-examined (s .args .examined) (s .args .accepted) (s .args .before) (s .args .after) (s .args .route .now)) (c .put-outcome .last .1 .0) (c .put-outcome .result)
+outcome-put c = put-more (lines (c .before .before .before .before)) (put-none (from-start (c .before .before .before .before .pre))) (c .put-outcome .ensures)
+
+examined-put : (c : tie.After-put-value) →
+    let s = c .before .before .before .before .before .before .before .before .before in
+    Left s (from-accepted (s .args .accepted) (s .args .before) (s .args .after) (s .args .route .now)) (c .put-value .last .1 .1 .0) (c .put-value .result)
+examined-put c = put-more refl (outcome-put (c .before .before .before .before .before)) (c .put-value .ensures)
+
+accepted-put : (c : tie.After-put-value2) →
+    let s = c .before .before .before .before .before .before .before .before .before .before .before .before .before .before in
+    Left s (from-before (s .args .before) (s .args .after) (s .args .route .now)) (c .put-value2 .last .1 .1 .0) (c .put-value2 .result)
+accepted-put c = put-more refl (examined-put (c .before .before .before .before .before)) (c .put-value2 .ensures)
+
+before-put : (c : tie.After-put-value3) →
+    let s = c .before .before .before .before .before .before .before .before .before .before .before .before .before .before .before .before .before .before .before in
+    Left s (from-after (s .args .after) (s .args .route .now)) (c .put-value3 .last .1 .1 .0) (c .put-value3 .result)
+before-put c = put-more refl (accepted-put (c .before .before .before .before .before)) (c .put-value3 .ensures)
+
+after-put : (c : tie.After-put-value4) →
+    let s = c .before .before .before .before .before .before .before .before .before .before .before .before .before .before .before .before .before .before .before .before .before .before .before .before in
+    Left s (line (ascii "round=") (s .args .route .now)) (c .put-value4 .last .1 .1 .0) (c .put-value4 .result)
+after-put c = put-more refl (before-put (c .before .before .before .before .before)) (c .put-value4 .ensures)
+
+put-outcome-requires : tie.Need-put-outcome-requires
+put-outcome-requires c κs = put-room _ (lines (c .before .before .before)) (put-none (from-start (c .before .before .before .pre)))
+
+slice-aggregate-put-value : tie.Need-slice-aggregate-put-value
+slice-aggregate-put-value c = search needs
+
+put-value-requires : tie.Need-put-value-requires
+put-value-requires c κs = put-room _ refl (outcome-put (c .before .before .before .before))
+
+slice-aggregate-put-value-2 : tie.Need-slice-aggregate-put-value-2
+slice-aggregate-put-value-2 c = search needs
+
+put-value-requires-2 : tie.Need-put-value-requires-2
+put-value-requires-2 c κs = put-room _ refl (examined-put (c .before .before .before .before))
+
+slice-aggregate-put-value-3 : tie.Need-slice-aggregate-put-value-3
+slice-aggregate-put-value-3 c = search needs
+
+put-value-requires-3 : tie.Need-put-value-requires-3
+put-value-requires-3 c κs = put-room _ refl (accepted-put (c .before .before .before .before))
+
+slice-aggregate-put-value-4 : tie.Need-slice-aggregate-put-value-4
+slice-aggregate-put-value-4 c = search needs
+
+put-value-requires-4 : tie.Need-put-value-requires-4
+put-value-requires-4 c κs = put-room _ refl (before-put (c .before .before .before .before))
+
+put-route-requires : tie.Need-put-route-requires
+put-route-requires c κs = put-room [] (sym (append-nil _)) (after-put (c .before .before .before))
+
+same-length : tie.Need-same-length
+same-length c = search needs
+
+returns : tie.Need-returns
+returns c = printed (put-rest (after-put (c .before .before .before .before .before .before)) (c .before .before .put-route .ensures))
+
+pub print-answer-spec : {M : Type 1} → statement M
+print-answer-spec =
+    tie.close
+    (tie.spec
+    put-outcome-requires
+    slice-aggregate-put-value
+    put-value-requires
+    slice-aggregate-put-value-2
+    put-value-requires-2
+    slice-aggregate-put-value-3
+    put-value-requires-3
+    slice-aggregate-put-value-4
+    put-value-requires-4
+    put-route-requires
+    same-length
+    returns)

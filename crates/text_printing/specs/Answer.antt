@@ -1,0 +1,32 @@
+-- What the text program of document 01 prints.
+use mathlib.Core.Path.{_≡_}
+use mathlib.Core.Bool.{Bool, true, false}
+use mathlib.Core.List.{List, [], _∷_, _++_}
+use Prim.Native.Nat.{ℕ, _≤_}
+use lib.ListN.{length, drop}
+use Rattle.text_decimal.specs.Text.{ascii, line}
+
+-- "Answers: finished or spent .."
+abbrev pub outcome : Bool → List ℕ
+outcome true = ascii "answer=finished\n"
+outcome false = ascii "answer=spent\n"
+
+-- ".. examined, accepted, length before, length after"; then the round handed back. "An empty round is `round=`."
+unfoldable pub answer-text : Bool → (examined accepted before after : ℕ) → List ℕ → List ℕ
+answer-text finished examined accepted before after route =
+    outcome finished
+    ++ (line (ascii "examined=") (examined ∷ [])
+    ++ (line (ascii "accepted=") (accepted ∷ [])
+    ++ (line (ascii "before=") (before ∷ []) ++ (line (ascii "after=") (after ∷ []) ++ line (ascii "round=") route))))
+
+-- "A refusal prints only `refused=` and its number."
+abbrev pub refusal-text : ℕ → List ℕ
+refusal-text number = line (ascii "refused=") (number ∷ [])
+
+pub record Fits (text out : List ℕ) : Type 0 where
+  pub room : length text ≤ length out
+
+-- The text stands at the start of the buffer, up to the place told; the places beyond keep their contents.
+pub record Printed (text out out′ : List ℕ) (told : ℕ) : Type 0 where
+  pub count : told ≡ length text
+  pub contents : out′ ≡ text ++ drop told out

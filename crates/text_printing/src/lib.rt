@@ -1,0 +1,93 @@
+// The answer of the text program, written into lent bytes. No entry: the program above calls it.
+use text_decimal::put_number;
+use text_decimal::put_text;
+ghost use mathlib.Core.List.{[], _∷_};
+ghost use Rattle.text_decimal.specs.Text.{further, listed, line, ascii, Room, Put};
+ghost use Rattle.text_printing.specs.Answer.{outcome, answer-text, refusal-text, Fits, Printed};
+
+// Each number after a comma.
+fn put_further(values: &[u32], out: &mut [u8], at: usize) -> usize
+    requires { ⌜ Room (further (now values)) (now out) at ⌝ }
+    ensures { λ r. ⌜ Put (further (now (values .entry))) (now (out .entry)) at (now (out .exit)) r ⌝ }
+{
+    let mut at = at;
+    let mut i = 0;
+    while i < values.len() {
+        let number = put_text(b",", out, at);
+        at = put_number(values[i] as u64, out, number);
+        i += 1;
+    }
+    at
+}
+
+// Numbers with commas between.
+fn put_list(values: &[u32], out: &mut [u8], at: usize) -> usize
+    requires { ⌜ Room (listed (now values)) (now out) at ⌝ }
+    ensures { λ r. ⌜ Put (listed (now (values .entry))) (now (out .entry)) at (now (out .exit)) r ⌝ }
+{
+    if values.len() == 0 {
+        return at;
+    }
+    let rest = put_number(values[0] as u64, out, at);
+    put_further(&values[1..], out, rest)
+}
+
+// A line of one number.
+fn put_value(key: &[u8], value: u64, out: &mut [u8], at: usize) -> usize
+    requires { ⌜ Room (line (now key) (value ∷ [])) (now out) at ⌝ }
+    ensures { λ r. ⌜ Put (line (now (key .entry)) (value ∷ [])) (now (out .entry)) at (now (out .exit)) r ⌝ }
+{
+    let number = put_text(key, out, at);
+    let end = put_number(value, out, number);
+    put_text(b"\n", out, end)
+}
+
+// The line of the route.
+fn put_route(route: &[u32], out: &mut [u8], at: usize) -> usize
+    requires { ⌜ Room (line (ascii "round=") (now route)) (now out) at ⌝ }
+    ensures { λ r. ⌜ Put (line (ascii "round=") (now (route .entry))) (now (out .entry)) at (now (out .exit)) r ⌝ }
+{
+    let stops = put_text(b"round=", out, at);
+    let end = put_list(route, out, stops);
+    put_text(b"\n", out, end)
+}
+
+// The line that says how the polishing ended.
+fn put_outcome(finished: bool, out: &mut [u8], at: usize) -> usize
+    requires { ⌜ Room (outcome finished) (now out) at ⌝ }
+    ensures { λ r. ⌜ Put (outcome finished) (now (out .entry)) at (now (out .exit)) r ⌝ }
+{
+    if finished {
+        return put_text(b"answer=finished\n", out, at);
+    }
+    put_text(b"answer=spent\n", out, at)
+}
+
+// The answer to a polished route; how many bytes it has.
+pub fn print_answer(
+    finished: bool,
+    examined: u64,
+    accepted: u64,
+    before: u64,
+    after: u64,
+    route: &[u32],
+    out: &mut [u8],
+) -> usize
+    requires { ⌜ Fits (answer-text finished examined accepted before after (now route)) (now out) ⌝ }
+    ensures { λ r. ⌜ Printed (answer-text finished examined accepted before after (now (route .entry))) (now (out .entry)) (now (out .exit)) r ⌝ }
+{
+    let mut at = put_outcome(finished, out, 0);
+    at = put_value(b"examined=", examined, out, at);
+    at = put_value(b"accepted=", accepted, out, at);
+    at = put_value(b"before=", before, out, at);
+    at = put_value(b"after=", after, out, at);
+    put_route(route, out, at)
+}
+
+// The answer to a text that is refused; how many bytes it has.
+pub fn print_refusal(number: u32, out: &mut [u8]) -> usize
+    requires { ⌜ Fits (refusal-text number) (now out) ⌝ }
+    ensures { λ r. ⌜ Printed (refusal-text number) (now (out .entry)) (now (out .exit)) r ⌝ }
+{
+    put_value(b"refused=", number as u64, out, 0)
+}

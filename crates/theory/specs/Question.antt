@@ -1,0 +1,24 @@
+-- A question to polishing, as the entry's parameters and the lines of a text hold it.
+use mathlib.Core.List.{List, _∷_}
+use Prim.Native.Nat.{ℕ}
+use Rattle.theory.specs.Scan.{Reply}
+use Rattle.theory.specs.Polish.{polish}
+use Rattle.theory.specs.Tables.{Trip, problem, trip}
+use Rattle.theory.specs.Refusals.{Rule, cut-count, problem-rules}
+
+pub record Question : Type 0 where
+  pub k : ℕ
+  pub allowance : ℕ
+  pub trip : Trip
+  pub route : List ℕ
+
+abbrev pub question : (k allowance locations : ℕ) → (legs latest : List ℕ) → ℕ → List ℕ → Question
+question k allowance locations legs latest depot route = record { k = k; allowance = allowance; trip = trip locations legs latest depot; route = route }
+
+-- The rules by which it is refused.
+abbrev pub question-rules : Question → List Rule
+question-rules q = cut-count (q .k) ∷ problem-rules (q .trip) (q .route)
+
+-- Document 01's scan of it.
+abbrev pub asked : Question → Reply (List ℕ)
+asked q = polish (problem (q .trip)) (q .k) (q .allowance) (q .route)
