@@ -23,11 +23,12 @@
 extern "C" {
 #endif
 
-/* Refusals. Where several apply, the lowest number is returned. With each function: those that it gives. */
+/* Refusals, in the stated order: where several apply, the first of it is returned. With each function: those that it gives, in that order. */
 enum {
     MITTENSCHIST_CUT_COUNT = 1,      /* k outside 2 to 5 */
     MITTENSCHIST_TABLE_SIZE = 2,     /* locations outside 1 to 1,024; legs not locations x locations; latest not as many as locations */
     MITTENSCHIST_LONG_LEG = 3,       /* a leg above 1,000,000 seconds */
+    MITTENSCHIST_SERVICE_LIST = 23,  /* service not as many as locations, or an entry above 1,000,000 seconds */
     MITTENSCHIST_UNKNOWN_STOP = 4,   /* a depot or stop not below the locations */
     MITTENSCHIST_ROUND_SIZE = 5,     /* more than 512 stops; more than 64 rounds; lists of rounds whose sizes disagree */
     MITTENSCHIST_PATTERN_INDEX = 6,  /* a pattern index not below the number of patterns for k */
@@ -46,27 +47,30 @@ enum {
  * patterns(k) x C(n + 1, k) candidates, and at most (1 + seconds saved) times as many. A small allowance only ends it sooner.
  *   legs    read     locations x locations seconds, row = from
  *   latest  read     for each location its latest second; 4294967295 where none is in force
+ *   service read     for each location the seconds spent at a stop there, at most 1,000,000; 0 where none are. A stop is late if the legs up
+ *                    to it plus the service of the stops before it exceed its latest: its own service does not count, nor the depot's at
+ *                    the start, and each visit counts. Lengths are legs alone
  *   depot            a location
  *   route   written  the stops, at most 512, which may repeat and may be the depot; as before where nothing was accepted
  *   result  written  5 places: 0 finished or 1 spent, candidates examined, candidates accepted, length before, length after
- * Refuses 1, 2, 3, 4, 5, 21 (result under 5 places). */
+ * Refuses 1, 2, 3, 23, 4, 5, 21 (result under 5 places). */
 uint32_t mittenschist_polish_route(size_t k, uint64_t allowance, size_t locations,
-    const uint32_t *legs, size_t legs_len, const uint32_t *latest, size_t latest_len, uint32_t depot,
-    uint32_t *route, size_t route_len, uint64_t *result, size_t result_len);
+    const uint32_t *legs, size_t legs_len, const uint32_t *latest, size_t latest_len, const uint32_t *service, size_t service_len,
+    uint32_t depot, uint32_t *route, size_t route_len, uint64_t *result, size_t result_len);
 
 /* Polishes rounds one after the other under one allowance; for k = 2 by the pair loop, which only the allowance is promised to end and
  * which can end longer than it began. So there is no largest allowance for k = 2: hand in a few dozen passes of n (n - 1) / 2 pairs for
  * all rounds. For k from 3 to 5 a round costs what polishing it costs. A spent round is put back as handed in, and the run stops.
- *   legs, latest     as above
+ *   legs, latest, service  as above
  *   stops   written  the stops of all rounds, end to end; as before but for the rounds that changed
  *   lengths read     for each round the number of its stops
  *   depots  read     for each round its depot
  *   pins    read     for each round a byte: 0 free, else pinned
  *   result  written  4 places a round: state, candidates examined, candidates accepted, candidates applied. The state is 0 not reached,
  *                    1 pinned, 2 under 4 stops, 3 unchanged, 4 changed, 5 spent; applied is what was accepted in state 4, else 0
- * Every depot and every stop is judged, whichever round holds it. Refuses 1, 2, 3, 4, 5, 21 (result under 4 places a round). */
+ * Every depot and every stop is judged, whichever round holds it. Refuses 1, 2, 3, 23, 4, 5, 21 (result under 4 places a round). */
 uint32_t mittenschist_run_list_k_opt(size_t k, uint64_t allowance, size_t locations,
-    const uint32_t *legs, size_t legs_len, const uint32_t *latest, size_t latest_len,
+    const uint32_t *legs, size_t legs_len, const uint32_t *latest, size_t latest_len, const uint32_t *service, size_t service_len,
     uint32_t *stops, size_t stops_len, const size_t *lengths, size_t lengths_len,
     const uint32_t *depots, size_t depots_len, const uint8_t *pins, size_t pins_len,
     uint64_t *result, size_t result_len);
@@ -143,11 +147,11 @@ uint32_t mittenschist_delta(size_t k, size_t pattern, const size_t *cuts, size_t
     const uint32_t *route, size_t route_len, int64_t *result, size_t result_len);
 
 /* Whether a route keeps every deadline.
- *   legs, latest, depot, route  read     as for polishing
- *   result                      written  1 place: the position of a late stop (which one is free), or n where none is late
- * Refuses 2, 3, 4, 5, 21. */
+ *   legs, latest, service, depot, route  read     as for polishing
+ *   result                               written  1 place: the position of a late stop (which one is free), or n where none is late
+ * Refuses 2, 3, 23, 4, 5, 21. */
 uint32_t mittenschist_route_feasible(size_t locations, const uint32_t *legs, size_t legs_len, const uint32_t *latest, size_t latest_len,
-    uint32_t depot, const uint32_t *route, size_t route_len, uint64_t *result, size_t result_len);
+    const uint32_t *service, size_t service_len, uint32_t depot, const uint32_t *route, size_t route_len, uint64_t *result, size_t result_len);
 
 #ifdef __cplusplus
 }

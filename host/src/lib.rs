@@ -7,9 +7,9 @@
 //! ```
 //! use mittenschist::{polish_route, Ending, Tables};
 //!
-//! // Seconds from each location to each; no deadline in force.
+//! // Seconds from each location to each; no deadline in force, and no time spent at a stop.
 //! let legs = [0, 5, 1, 1, 0, 5, 5, 1, 0];
-//! let tables = Tables { locations: 3, legs: &legs, latest: &[u32::MAX; 3] };
+//! let tables = Tables::without_service(3, &legs, &[u32::MAX; 3]);
 //! let mut route = [1, 2];
 //! let polished = polish_route(3, 100, &tables, 0, &mut route)?;
 //! assert_eq!(route, [2, 1]);

@@ -61,12 +61,12 @@ pub fn reconnect(
     Refusal::check(raw::reconnect(k, pattern, cuts, route, out))
 }
 
-/// The seconds of a route, from the depot back to it. The deadlines are neither read nor judged. Refuses 2, 3, 4, 5.
+/// The seconds of a route, from the depot back to it. Deadlines and service are neither read nor judged. Refuses 2, 3, 4, 5.
 ///
 /// ```
 /// use mittenschist::{route_length, Tables};
 ///
-/// let tables = Tables { locations: 2, legs: &[0, 5, 7, 0], latest: &[] };
+/// let tables = Tables { locations: 2, legs: &[0, 5, 7, 0], latest: &[], service: &[] };
 /// assert_eq!(route_length(&tables, 0, &[1])?, 12);
 /// # Ok::<(), mittenschist::Refusal>(())
 /// ```
@@ -82,13 +82,13 @@ pub fn route_length(tables: &Tables, depot: u32, route: &[u32]) -> Result<u64, R
     Ok(result[0])
 }
 
-/// The seconds of a route after a move minus those before. The deadlines are neither read nor judged. Refuses 1 to 7.
+/// The seconds of a route after a move minus those before. Deadlines and service are neither read nor judged. Refuses 1, 2, 3, 4, 5, 6, 7.
 ///
 /// ```
 /// use mittenschist::{delta, Tables};
 ///
 /// let legs = [0, 5, 1, 1, 0, 5, 5, 1, 0];
-/// let tables = Tables { locations: 3, legs: &legs, latest: &[] };
+/// let tables = Tables { locations: 3, legs: &legs, latest: &[], service: &[] };
 /// assert_eq!(delta(3, 3, &[0, 1, 2], &tables, 0, &[1, 2])?, -12);
 /// # Ok::<(), mittenschist::Refusal>(())
 /// ```
@@ -134,13 +134,16 @@ impl Deadline {
     }
 }
 
-/// Whether a route keeps every deadline. Refuses 2, 3, 4, 5.
+/// Whether a route keeps every deadline: the legs up to a stop plus the service of the stops before it do not exceed its latest. A stop's own
+/// service does not count, nor the depot's at the start; each visit counts. Refuses 2, 3, 23, 4, 5.
 ///
 /// ```
 /// use mittenschist::{route_feasible, Deadline, Tables};
 ///
-/// let tables = Tables { locations: 2, legs: &[0, 5, 7, 0], latest: &[0, 4] };
-/// assert_eq!(route_feasible(&tables, 0, &[1])?, Deadline::Late(0));
+/// let tables = Tables { locations: 2, legs: &[1; 4], latest: &[u32::MAX, 11], service: &[5, 10] };
+/// assert_eq!(route_feasible(&tables, 0, &[1])?, Deadline::Kept);
+/// // 1 second to the first visit, 10 there and 1 to the second.
+/// assert_eq!(route_feasible(&tables, 0, &[1, 1])?, Deadline::Late(1));
 /// # Ok::<(), mittenschist::Refusal>(())
 /// ```
 pub fn route_feasible(tables: &Tables, depot: u32, route: &[u32]) -> Result<Deadline, Refusal> {
@@ -149,6 +152,7 @@ pub fn route_feasible(tables: &Tables, depot: u32, route: &[u32]) -> Result<Dead
         tables.locations,
         tables.legs,
         tables.latest,
+        tables.service,
         depot,
         route,
         &mut result,

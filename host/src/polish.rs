@@ -42,7 +42,7 @@ impl Polished {
     }
 }
 
-/// Polishes a route, examining at most `allowance` candidates. Refuses 1, 2, 3, 4, 5.
+/// Polishes a route, examining at most `allowance` candidates. Refuses 1, 2, 3, 23, 4, 5.
 ///
 /// A finished route of n stops has cost at least one whole pass, patterns(k) × C(n + 1, k) candidates (1, 7, 47, 383 patterns for
 /// k = 2, 3, 4, 5), and at most (1 + seconds saved) times as many. A spent route keeps what was accepted, so a small allowance only
@@ -52,13 +52,15 @@ impl Polished {
 /// use mittenschist::{polish_route, Ending, Refusal, Tables};
 ///
 /// let legs = [0, 5, 1, 1, 0, 5, 5, 1, 0];
-/// let tables = Tables { locations: 3, legs: &legs, latest: &[u32::MAX; 3] };
+/// let tables = Tables { locations: 3, legs: &legs, latest: &[u32::MAX; 3], service: &[0; 3] };
 /// let mut route = [1, 2];
 /// let polished = polish_route(3, 10, &tables, 0, &mut route)?;
 /// assert_eq!(polished.ending, Ending::Spent);
 /// assert_eq!((polished.saved(), route), (12, [2, 1]));
 ///
 /// assert_eq!(polish_route(3, 10, &tables, 3, &mut route), Err(Refusal::UnknownStop));
+/// let short = Tables { service: &[0; 2], ..tables };
+/// assert_eq!(polish_route(3, 10, &short, 3, &mut route), Err(Refusal::ServiceList));
 /// # Ok::<(), Refusal>(())
 /// ```
 pub fn polish_route(
@@ -75,6 +77,7 @@ pub fn polish_route(
         tables.locations,
         tables.legs,
         tables.latest,
+        tables.service,
         depot,
         route,
         &mut result,

@@ -1,7 +1,7 @@
 use std::error::Error;
 use std::fmt::{Display, Formatter, Result as Written};
 
-/// Why a call was refused. Where several apply, the first of this list is given.
+/// Why a call was refused, in the stated order: where several apply, the first of this list is given.
 ///
 /// ```
 /// use mittenschist::{next_cut_set, Refusal};
@@ -20,6 +20,8 @@ pub enum Refusal {
     TableSize,
     /// 3: a leg above 1,000,000 seconds.
     LongLeg,
+    /// 23: service not one entry for each location, or an entry above 1,000,000 seconds.
+    ServiceList,
     /// 4: a depot or stop not below the locations.
     UnknownStop,
     /// 5: more than 512 stops, more than 64 rounds, or lists of rounds whose sizes disagree.
@@ -47,6 +49,7 @@ impl Refusal {
             Self::CutCount => 1,
             Self::TableSize => 2,
             Self::LongLeg => 3,
+            Self::ServiceList => 23,
             Self::UnknownStop => 4,
             Self::RoundSize => 5,
             Self::PatternIndex => 6,
@@ -64,6 +67,7 @@ impl Refusal {
             1 => Self::CutCount,
             2 => Self::TableSize,
             3 => Self::LongLeg,
+            23 => Self::ServiceList,
             4 => Self::UnknownStop,
             5 => Self::RoundSize,
             6 => Self::PatternIndex,
@@ -93,6 +97,9 @@ impl Display for Refusal {
                 "locations are not from 1 to 1,024, or a table or the deadlines do not fit them"
             }
             Self::LongLeg => "a leg is longer than 1,000,000 seconds",
+            Self::ServiceList => {
+                "service is not one entry for each location, or one is longer than 1,000,000 seconds"
+            }
             Self::UnknownStop => "a depot or stop is not below the number of locations",
             Self::RoundSize => {
                 "more than 512 stops or 64 rounds, or lists of rounds whose sizes disagree"

@@ -70,13 +70,13 @@ impl RoundReply {
 
 /// Polishes round after round under one allowance; with k = 2 by the pair loop, which only the allowance is promised to end: there is no
 /// largest allowance to hand in, but a few dozen passes of n(n − 1)/2 pairs for all rounds. With k from 3 to 5 each round costs what
-/// [`polish_route`](crate::polish_route) says. Refuses 1, 2, 3, 4, 5.
+/// [`polish_route`](crate::polish_route) says. Refuses 1, 2, 3, 23, 4, 5.
 ///
 /// ```
 /// use mittenschist::{run_list_k_opt, RoundState, Rounds, Tables};
 ///
 /// let legs = [0, 5, 1, 1, 0, 5, 5, 1, 0];
-/// let tables = Tables { locations: 3, legs: &legs, latest: &[u32::MAX; 3] };
+/// let tables = Tables { locations: 3, legs: &legs, latest: &[u32::MAX; 3], service: &[0; 3] };
 /// let mut stops = [1, 2, 1, 2, 1, 2];
 /// let rounds = Rounds { stops: &mut stops, lengths: &[2, 4], depots: &[0, 0], pins: &[0, 0] };
 /// let replies = run_list_k_opt(3, 1000, &tables, rounds)?;
@@ -98,6 +98,7 @@ pub fn run_list_k_opt(
         tables.locations,
         tables.legs,
         tables.latest,
+        tables.service,
         rounds.stops,
         rounds.lengths,
         rounds.depots,

@@ -1,4 +1,4 @@
-//! The runs of document 01, by the safe functions, with canaries around what is lent.
+//! The runs of document 01, with no service times, and runs with them, by the safe functions, with canaries around what is lent.
 
 #![forbid(unsafe_code)]
 
@@ -6,8 +6,8 @@ mod support;
 
 use mittenschist::{
     k_opt_do_move, k_opt_is_doable, k_opt_undo_move, nearby_cuts, next_cut_set, polish_route,
-    reconnection_at, route_length, run_list_k_opt, Ending, Polished, Refusal, RoundReply,
-    RoundState, Rounds, Tables,
+    reconnection_at, route_feasible, route_length, run_list_k_opt, Deadline, Ending, Polished,
+    Refusal, RoundReply, RoundState, Rounds, Tables,
 };
 use support::lent::Lent;
 use support::{kept, written};
@@ -20,11 +20,23 @@ const PAIR_LEGS: [u32; 25] = [
 
 /// The text case: what polishing answers, and the route.
 fn text_case(k: usize, allowance: u64, latest_of_1: u32) -> (Polished, Vec<u64>) {
+    served_text_case(k, allowance, latest_of_1, 0)
+}
+
+/// With so many seconds spent at location 2.
+fn served_text_case(
+    k: usize,
+    allowance: u64,
+    latest_of_1: u32,
+    service_of_2: u32,
+) -> (Polished, Vec<u64>) {
     let latest = [NO_DEADLINE, latest_of_1, NO_DEADLINE];
+    let service = [0, 0, service_of_2];
     let tables = Tables {
         locations: 3,
         legs: &TEXT_LEGS,
         latest: &latest,
+        service: &service,
     };
     let mut route = Lent::new("route", &[1, 2]);
     let polished = polish_route(k, allowance, &tables, 0, route.slice()).unwrap();
@@ -51,6 +63,58 @@ fn the_text_case() {
     assert_eq!(text_case(3, 100, 1), unchanged);
 }
 
+/// The better order reaches location 1 after 2 seconds of legs and what is spent at location 2.
+#[test]
+fn the_text_case_with_service() {
+    let changed = (polished(Ending::Finished, 11, 1, 3), vec![2, 1]);
+    let unchanged = (polished(Ending::Finished, 7, 0, 15), vec![1, 2]);
+    assert_eq!(served_text_case(3, 100, 11, 10), unchanged);
+    assert_eq!(served_text_case(3, 100, 12, 10), changed);
+    assert_eq!(served_text_case(3, 100, NO_DEADLINE, 1_000_000), changed);
+}
+
+/// A stop's own service does not count, nor the depot's at the start; each visit counts, and the depot's where it is a stop.
+#[test]
+fn which_service_counts() {
+    let check = |latest_of_1: u32, route: &[u32]| {
+        let latest = [NO_DEADLINE, latest_of_1];
+        let tables = Tables {
+            locations: 2,
+            legs: &[1; 4],
+            latest: &latest,
+            service: &[5, 10],
+        };
+        route_feasible(&tables, 0, route).unwrap()
+    };
+    assert_eq!(check(1, &[1]), Deadline::Kept);
+    assert_eq!(check(0, &[1]), Deadline::Late(0));
+    assert_eq!(check(11, &[1, 1]), Deadline::Late(1));
+    assert_eq!(check(12, &[1, 1]), Deadline::Kept);
+    assert_eq!(check(6, &[0, 1]), Deadline::Late(1));
+    assert_eq!(check(7, &[0, 1]), Deadline::Kept);
+}
+
+/// 23 stands after 3 and before 4.
+#[test]
+fn service_in_the_stated_order() {
+    let check = |leg: u32, service: &[u32], depot: u32| {
+        let (legs, latest) = ([leg], [NO_DEADLINE]);
+        let tables = Tables {
+            locations: 1,
+            legs: &legs,
+            latest: &latest,
+            service,
+        };
+        route_feasible(&tables, depot, &[0, 0]).err()
+    };
+    assert_eq!(check(7, &[1_000_000], 0), None);
+    assert_eq!(check(7, &[1_000_001], 0), Some(Refusal::ServiceList));
+    for service in [&[][..], &[0, 0], &[u32::MAX]] {
+        assert_eq!(check(7, service, 1), Some(Refusal::ServiceList));
+        assert_eq!(check(1_000_001, service, 1), Some(Refusal::LongLeg));
+    }
+}
+
 #[test]
 fn the_text_case_at_other_allowances_and_cuts() {
     let spent = |examined, accepted, after| polished(Ending::Spent, examined, accepted, after);
@@ -66,6 +130,7 @@ fn bounds() {
         locations: 1,
         legs,
         latest: &[0],
+        service: &[0],
     };
     let polish = |legs, stops| polish_route(2, 5, &tables(legs), 0, &mut vec![0; stops]);
     assert!(polish(&[1_000_000], 512).is_ok());
@@ -80,10 +145,12 @@ fn the_most_locations() {
     let polish = |locations: usize| {
         let legs = vec![1; locations * locations];
         let latest = vec![NO_DEADLINE; locations];
+        let service = vec![1_000_000; locations];
         let tables = Tables {
             locations,
             legs: &legs,
             latest: &latest,
+            service: &service,
         };
         polish_route(5, 1000, &tables, 1023, &mut [1023, 0, 5, 7])
     };
@@ -94,11 +161,7 @@ fn the_most_locations() {
 /// The pair case: what the run answers, and the stops.
 fn pair_case(allowance: u64) -> (Vec<RoundReply>, Vec<u64>) {
     let latest = [NO_DEADLINE; 5];
-    let tables = Tables {
-        locations: 5,
-        legs: &PAIR_LEGS,
-        latest: &latest,
-    };
+    let tables = Tables::without_service(5, &PAIR_LEGS, &latest);
     let mut stops = Lent::new("stops", &[1, 2, 3, 4]);
     let rounds = Rounds {
         stops: stops.slice(),

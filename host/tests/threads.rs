@@ -21,6 +21,7 @@ const LOCATIONS: usize = 40;
 struct Tables<'t> {
     legs: &'t [u32],
     latest: &'t [u32],
+    service: &'t [u32],
     distances: &'t [f64],
 }
 
@@ -53,6 +54,7 @@ fn polished(tables: &Tables, number: u32) -> Vec<u64> {
         LOCATIONS,
         tables.legs,
         tables.latest,
+        tables.service,
         0,
         route.slice(),
         result.slice(),
@@ -69,6 +71,7 @@ fn ran(tables: &Tables, number: u32) -> Vec<u64> {
         LOCATIONS,
         tables.legs,
         tables.latest,
+        tables.service,
         all.slice(),
         &[9, 3, 8],
         &[0, 1, 2],
@@ -124,20 +127,24 @@ fn several_threads_at_once() {
     let latest: Vec<u32> = (0..LOCATIONS as u32)
         .map(|place| 20_000 + 100 * place)
         .collect();
+    let service: Vec<u32> = (0..LOCATIONS as u32).map(|place| place % 7 * 300).collect();
     let distances: Vec<f64> = legs.iter().map(|&leg| f64::from(leg)).collect();
     let mut lent = (
         Lent::new("legs", &legs),
         Lent::new("deadlines", &latest),
+        Lent::new("service", &service),
         Lent::new("distances", &distances),
     );
     at_once(&Tables {
         legs: lent.0.slice(),
         latest: lent.1.slice(),
-        distances: lent.2.slice(),
+        service: lent.2.slice(),
+        distances: lent.3.slice(),
     });
     kept(&lent.0);
     kept(&lent.1);
     kept(&lent.2);
+    kept(&lent.3);
 }
 
 fn at_once(tables: &Tables) {

@@ -38,7 +38,7 @@ last-held : (C : Clock) (r pre D : List ℕ) (c : ℕ) → 1 ≤ length pre → 
     SegmentDues C (slice (getD pre (length pre - 1) 0) c r) (getD D (2 * length pre - 2) 0) (getD D (2 * length pre - 2 + 1) 0)
 last-held C r pre D c h w = rw (List·getD-append pre (c ∷ []) 0 (length pre - 1) (omega arith), getD-append-seam pre c [] 0) at (w .each (length pre) h (omega arith))
 
-module _ {T : Tables} {r sums cs D : List ℕ} (given : DuesReachable T r sums cs D) where
+module _ {T : Tables} {r sums stayed cs D : List ℕ} (given : DuesReachable T r sums stayed cs D) where
   abbrev C : Clock
   C = clock-by T
 
@@ -48,13 +48,10 @@ module _ {T : Tables} {r sums cs D : List ℕ} (given : DuesReachable T r sums c
   start : getD (first-cuts cs) (last - 1) 0 ≡ getD cs (last - 1) 0
   start = getD-take last cs (last - 1) 0 (omega (arith, given .cut-set .least))
 
-  pub fillable : DuesFillable T r sums cs last D
+  pub fillable : DuesFillable T r sums stayed cs last D
   fillable =
       record {
-        table = given .table;
-        deadlines = given .deadlines;
-        stops = given .stops;
-        backwards = given .backwards;
+        read = given .read;
         cut-set = given .cut-set;
         fewer = omega (arith, given .cut-set .least);
         places = given .held .places;
@@ -64,14 +61,11 @@ module _ {T : Tables} {r sums cs D : List ℕ} (given : DuesReachable T r sums c
     reaching : DuesReach C r (first-cuts cs) D (getD D 8 0)
     reaching = reach-of C r (first-cuts cs) D (given .held) h
 
-    pub growing : GrowableTo T r sums (getD cs (last - 1) 0) (getD D 8 0) (getD cs last 0) (getD D (2 * last - 2) 0) (getD D (2 * last - 2 + 1) 0)
+    pub growing : GrowableTo T r sums stayed (getD cs (last - 1) 0) (getD D 8 0) (getD cs last 0) (getD D (2 * last - 2) 0) (getD D (2 * last - 2 + 1) 0)
     growing =
         record {
           of = record {
-            table = given .table;
-            deadlines = given .deadlines;
-            stops = given .stops;
-            backwards = given .backwards;
+            read = given .read;
             filled = rw (first-many cs, start) at (reaching .least);
             within = reaching .most;
           };

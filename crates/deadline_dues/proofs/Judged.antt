@@ -8,17 +8,18 @@ use native.Mathlib.Nat.{pow-suc}
 use native.Mathlib.Omega.{arith}
 use lib.Dec.{leb}
 use lib.ListN.{length, getD, take, drop, length-append, length-drop}
-use lib.Seq.{take-at, drop-at, getD-at, split-at, take-take, getD-take, length-take-le}
+use lib.Seq.{slice, take-at, drop-at, getD-at, split-at, take-take, getD-take, length-take-le}
 use borrow.Author.Tests.{le-leb}
 use Rattle.theory.specs.Moves.{Pattern, total, upfrom}
-use Rattle.theory.specs.Route.{Problem, Clock, clock-of, segments, reconnected, path, tour-length, arrival, timely, on-time}
+use Rattle.theory.specs.Route.{Problem, Timetable, Clock, timetable-of, clock, segments, reconnected, path, tour-length, left, timely, on-time, feasible}
 use Rattle.theory.specs.Costs.{last-of, first-of}
 use Rattle.theory.specs.Tables.{CutSet, ForK}
-use Rattle.theory.proofs.Clock.{timely-on-time}
+use Rattle.theory.proofs.Clock.{path-step, timely-on-time}
 use Rattle.theory.proofs.Costs.{path-append, delta}
 use Rattle.theory.proofs.Delta.{joined-split, even-head, small-tail, changes-nothing}
 use Rattle.theory.proofs.ForK.{for-k-order}
-use Rattle.theory.proofs.Route.{flatten-segments, length-segments, total-reconnected}
+use Rattle.theory.proofs.Moves.{total-append}
+use Rattle.theory.proofs.Route.{flatten-segments, length-segments, total-placed, total-reconnected}
 use Rattle.costs.proofs.Orders.{middle-is}
 use Rattle.costs.proofs.Segments.{head-at, tail-at, cut-below, last-cut}
 use Rattle.deadlines.specs.Lateness.{lateness, LongestHead}
@@ -28,59 +29,64 @@ use Rattle.deadline_dues.specs.Parts.{head, middle, tail}
 
 -- ---- a head, a middle and a tail; m stands, m′ is put in its place
 
--- When the standing tail's first stop is reached.
-tail-reached : (C : Clock) (depot : ℕ) (h m : List ℕ) (x : ℕ) (t : List ℕ) →
-    arrival C depot (h ++ (m ++ (x ∷ t))) (length h + length m) ≡ path (C .leg) depot h + path (C .leg) (last-of depot h) (m ++ (x ∷ []))
-unfolding arrival
-tail-reached C depot h m x t =
+-- When the standing tail's first stop is left.
+tail-left : (C : Clock) (depot : ℕ) (h m : List ℕ) (x : ℕ) (t : List ℕ) →
+    left C depot (h ++ (m ++ (x ∷ t))) (length h + length m) ≡ path (C .step) depot h + path (C .step) (last-of depot h) (m ++ (x ∷ []))
+unfolding left
+tail-left C depot h m x t =
     let e : h ++ (m ++ (x ∷ t)) ≡ (h ++ (m ++ (x ∷ []))) ++ t = simp append-assoc in
     let n : length (h ++ (m ++ (x ∷ []))) ≡ suc (length h + length m) = simp length-append (omega arith) in
-    rw (e, take-at (h ++ (m ++ (x ∷ []))) t (suc (length h + length m)) n, path-append (C .leg) depot h (m ++ (x ∷ [])))
+    rw (e, take-at (h ++ (m ++ (x ∷ []))) t (suc (length h + length m)) n, path-append (C .step) depot h (m ++ (x ∷ [])))
 
-module _ (P : Problem) (h m m′ : List ℕ) (g : ℕ) where
+module _ (P : Problem) (h m m′ : List ℕ) (same : total (P .service) m′ ≡ total (P .service) m) (g : ℕ) where
+  abbrev B : Timetable
+  B = timetable-of P
+
   abbrev C : Clock
-  C = clock-of P
+  C = clock B
 
   -- When the tail is set out for.
   abbrev from : ℕ
   from = last-of (last-of (P .depot) h) m′
 
-  abbrev clock : ℕ
-  clock = path (P .leg) (P .depot) h + path (P .leg) (last-of (P .depot) h) m′
+  abbrev now : ℕ
+  now = path (C .step) (P .depot) h + path (C .step) (last-of (P .depot) h) m′
 
-  no-tail : on-time C from clock [] ≡ leb (lateness C (P .depot) (h ++ (m ++ [])) (length h + length m)) g
+  no-tail : on-time C from now [] ≡ leb (lateness C (P .depot) (h ++ (m ++ [])) (length h + length m)) g
   unfolding on-time
   no-tail = rw (lateness-end C (P .depot) (h ++ (m ++ [])) (length h + length m) (simp length-append (omega arith))) (sym (le-leb 0 g (omega arith)))
 
   some-tail : (x : ℕ) (t : List ℕ) → tour-length P (h ++ (m′ ++ (x ∷ t))) + g ≡ tour-length P (h ++ (m ++ (x ∷ t))) →
-      on-time C from clock (x ∷ t) ≡ leb (lateness C (P .depot) (h ++ (m ++ (x ∷ t))) (length h + length m)) g
+      on-time C from now (x ∷ t) ≡ leb (lateness C (P .depot) (h ++ (m ++ (x ∷ t))) (length h + length m)) g
   unfolding first-of path
   some-tail x t e =
       let r = h ++ (m ++ (x ∷ t)) in
       let c = length h + length m in
       let parted : r ≡ (h ++ m) ++ (x ∷ t) = simp append-assoc in
       let many : length (h ++ m) ≡ c = simp length-append in
-      let left : drop c r ≡ x ∷ t = rw parted (drop-at (h ++ m) (x ∷ t) c many) in
+      let rest : drop c r ≡ x ∷ t = rw parted (drop-at (h ++ m) (x ∷ t) c many) in
       let first : getD r c 0 ≡ x = rw parted (getD-at (h ++ m) x t 0 c many) in
-      let there : clock + P .leg from x + g ≡ arrival C (P .depot) r c =
-      omega (arith, e, delta P h m m′ (x ∷ t), tail-reached C (P .depot) h m x t, path-append (P .leg) (last-of (P .depot) h) m′ (x ∷ [])) in
-      ap (on-time C from clock) (sym left)
-      ∙ tail-on-time C (P .depot) r c from clock g (simp length-append (omega arith)) (λ _. ap (λ y. clock + P .leg from y + g) first ∙ there)
+      let a = last-of (P .depot) h in
+      let there : now + C .step from x + g ≡ left C (P .depot) r c =
+      omega
+      (arith, e, delta P h m m′ (x ∷ t), tail-left C (P .depot) h m x t, path-append (C .step) a m′ (x ∷ []), path-step B a (m ++ (x ∷ [])), path-step B a (m′ ++ (x ∷ [])), total-append (P .service) m (x ∷ []), total-append (P .service) m′ (x ∷ []), same) in
+      ap (on-time C from now) (sym rest)
+      ∙ tail-on-time C (P .depot) r c from now g (simp length-append (omega arith)) (λ _. ap (λ y. now + C .step from y + g) first ∙ there)
 
-  -- The tail is on time exactly if what is gained is at least its lateness.
-  pub tail-judged : (t : List ℕ) → tour-length P (h ++ (m′ ++ t)) + g ≡ tour-length P (h ++ (m ++ t)) → on-time C from clock t ≡ leb (lateness C (P .depot) (h ++ (m ++ t)) (length h + length m)) g
+  -- The tail is on time exactly if what is gained is at least its lateness: the services before it are the same.
+  pub tail-judged : (t : List ℕ) → tour-length P (h ++ (m′ ++ t)) + g ≡ tour-length P (h ++ (m ++ t)) → on-time C from now t ≡ leb (lateness C (P .depot) (h ++ (m ++ t)) (length h + length m)) g
   tail-judged [] e = no-tail
   tail-judged (x ∷ t) e = some-tail x t e
 
   -- "A round keeps every deadline": by head, middle and tail.
   pub judged : (t : List ℕ) → tour-length P (h ++ (m′ ++ t)) + g ≡ tour-length P (h ++ (m ++ t)) →
-      timely C (P .depot) (h ++ (m′ ++ t))
-      ≡ (on-time C (P .depot) 0 h && (on-time C (last-of (P .depot) h) (path (P .leg) (P .depot) h) m′ && leb (lateness C (P .depot) (h ++ (m ++ t)) (length h + length m)) g))
+      timely B (P .depot) (h ++ (m′ ++ t))
+      ≡ (on-time C (P .depot) 0 h && (on-time C (last-of (P .depot) h) (path (C .step) (P .depot) h) m′ && leb (lateness C (P .depot) (h ++ (m ++ t)) (length h + length m)) g))
   judged t e =
-      let z : 0 + path (P .leg) (P .depot) h ≡ path (P .leg) (P .depot) h = omega arith in
-      timely-on-time C (P .depot) (h ++ (m′ ++ t))
+      let z : 0 + path (C .step) (P .depot) h ≡ path (C .step) (P .depot) h = omega arith in
+      timely-on-time B (P .depot) (h ++ (m′ ++ t))
       ∙ on-time-append C (P .depot) 0 h (m′ ++ t)
-      ∙ rw (z, on-time-append C (last-of (P .depot) h) (path (P .leg) (P .depot) h) m′ t, tail-judged t e)
+      ∙ rw (z, on-time-append C (last-of (P .depot) h) (path (C .step) (P .depot) h) m′ t, tail-judged t e)
 
 -- ---- a candidate
 
@@ -126,23 +132,35 @@ module _ (cs r : List ℕ) (cut-set : CutSet (length cs) (length r) cs) where
       let left : length (tail r cs) ≡ length r - getD cs (length cs - 1) 0 = ap length (tail-at 0 cs r (omega (arith, cut-set .least))) ∙ simp length-drop in
       omega (arith, whole, left, last-cut cs r cut-set)
 
+  -- Every sum over the middle is the same, whichever the pattern.
+  middle-total : (g : ℕ → ℕ) (p : Pattern) → ForK (length cs) (p .order) (p .mask) → total g (middle r cs (p .order) (p .mask)) ≡ total g stays
+  middle-total g p f = of p f ∙ sym (of (standing (length cs)) standing-for-k)
+    where
+      of : (p : Pattern) → ForK (length cs) (p .order) (p .mask) → total g (middle r cs (p .order) (p .mask)) ≡ total (λ i. total g (getD (segments 0 cs r) i [])) (upfrom 1 (length cs - 1))
+      of p f =
+          total-placed g (p .mask) (segments 0 cs r) (slice 1 (length cs) (p .order))
+          ∙ ap (total (λ i. total g (getD (segments 0 cs r) i []))) (middle-is (length cs) (p .order) (p .mask) (cut-set .least) f)
+          ∙ f .once (λ i. total g (getD (segments 0 cs r) i []))
+
   -- With a head that is on time, a candidate that gains g keeps every deadline exactly if its middle segments do and g is at least the lateness behind the last cut.
-  pub candidate-judged : (P : Problem) (p : Pattern) (g : ℕ) → ForK (length cs) (p .order) (p .mask) → on-time (clock-of P) (P .depot) 0 (head r cs) ≡ true →
+  pub candidate-judged : (P : Problem) (p : Pattern) (g : ℕ) → ForK (length cs) (p .order) (p .mask) → on-time (clock (timetable-of P)) (P .depot) 0 (head r cs) ≡ true →
       tour-length P (reconnected (record { cuts = cs; pattern = p }) r) + g ≡ tour-length P r →
-      timely (clock-of P) (P .depot) (reconnected (record { cuts = cs; pattern = p }) r)
-      ≡ (on-time (clock-of P) (last-of (P .depot) (head r cs)) (path (P .leg) (P .depot) (head r cs)) (middle r cs (p .order) (p .mask)) && leb (lateness (clock-of P) (P .depot) r (getD cs (length cs - 1) 0)) g)
+      feasible P (reconnected (record { cuts = cs; pattern = p }) r)
+      ≡ (on-time (clock (timetable-of P)) (last-of (P .depot) (head r cs)) (path (clock (timetable-of P) .step) (P .depot) (head r cs)) (middle r cs (p .order) (p .mask))
+      && leb (lateness (clock (timetable-of P)) (P .depot) r (getD cs (length cs - 1) 0)) g)
   candidate-judged P p g f early e =
+      let C = clock (timetable-of P) in
       let parts = candidate-parts r cs p (cut-set .least) f in
       let n = middle r cs (p .order) (p .mask) in
       let gained : tour-length P (head r cs ++ (n ++ tail r cs)) + g ≡ tour-length P (head r cs ++ (stays ++ tail r cs)) = omega (arith, e, ap (tour-length P) parts, ap (tour-length P) as-parts) in
-      let late : lateness (clock-of P) (P .depot) (head r cs ++ (stays ++ tail r cs)) (length (head r cs) + length stays) ≡ lateness (clock-of P) (P .depot) r (getD cs (length cs - 1) 0) =
-      ap (lateness (clock-of P) (P .depot) (head r cs ++ (stays ++ tail r cs))) tail-begins ∙ ap (λ l. lateness (clock-of P) (P .depot) l (getD cs (length cs - 1) 0)) (sym as-parts) in
-      ap (timely (clock-of P) (P .depot)) parts ∙ judged P (head r cs) stays n g (tail r cs) gained ∙ rw (early, late)
+      let late : lateness C (P .depot) (head r cs ++ (stays ++ tail r cs)) (length (head r cs) + length stays) ≡ lateness C (P .depot) r (getD cs (length cs - 1) 0) =
+      ap (lateness C (P .depot) (head r cs ++ (stays ++ tail r cs))) tail-begins ∙ ap (λ l. lateness C (P .depot) l (getD cs (length cs - 1) 0)) (sym as-parts) in
+      ap (feasible P) parts ∙ judged P (head r cs) stays n (middle-total (P .service) p f) g (tail r cs) gained ∙ rw (early, late)
 
   -- With a head beyond the longest, none does.
-  pub candidate-too-late : (C : Clock) (depot : ℕ) (longest : ℕ) → LongestHead C depot r longest → longest < getD cs 0 0 → (p : Pattern) → ForK (length cs) (p .order) (p .mask) →
-      timely C depot (reconnected (record { cuts = cs; pattern = p }) r) ≡ false
-  candidate-too-late C depot n f l p k =
+  pub candidate-too-late : (B : Timetable) (depot : ℕ) (longest : ℕ) → LongestHead (clock B) depot r longest → longest < getD cs 0 0 → (p : Pattern) → ForK (length cs) (p .order) (p .mask) →
+      timely B depot (reconnected (record { cuts = cs; pattern = p }) r) ≡ false
+  candidate-too-late B depot n f l p k =
       let c = getD cs 0 0 in
       let long : c ≤ length r = cut-below cs r cut-set 0 (omega (arith, cut-set .least)) in
       let whole : length (take c r) ≡ c = length-take-le c r long in
@@ -155,4 +173,4 @@ module _ (cs r : List ℕ) (cut-set : CutSet (length cs) (length r) cs) where
       ∙ append-assoc (take n r) (getD r n 0 ∷ drop (suc n) (take c r)) (middle r cs (p .order) (p .mask) ++ tail r cs) in
       let same : (g : ℕ → ℕ) → total g (take n r ++ (getD r n 0 ∷ rest)) ≡ total g r = λ g.
       ap (total g) (sym e) ∙ total-reconnected g (length r) (record { cuts = cs; pattern = p }) r (cut-set .rising) (for-k-order (length cs) (p .order) (p .mask) (omega (arith, cut-set .least)) k .once) in
-      ap (timely C depot) e ∙ head-too-long C depot r n (f .beyond (omega arith)) rest same
+      ap (timely B depot) e ∙ timely-on-time B depot (take n r ++ (getD r n 0 ∷ rest)) ∙ head-too-long (clock B) depot r n (f .beyond (omega arith)) rest same

@@ -3,4 +3,4 @@ pub mod InTime
 pub mod Filling
 pub mod Held
 pub mod Judged
-mod Head
+pub mod Head

@@ -1,7 +1,7 @@
 -- A candidate part by part: the head, the middle segments as the pattern places them, the tail.
 use mathlib.Core.Path.{_≡_}
 use mathlib.Core.List.{List, [], flatten}
-use Prim.Native.Nat.{ℕ, _*_, _≤_, _<_}
+use Prim.Native.Nat.{ℕ, _+_, _*_, _≤_, _<_}
 use lib.ListN.{length, getD}
 use lib.Seq.{slice}
 use Rattle.theory.specs.Route.{path, segments, placed}
@@ -18,13 +18,16 @@ middle route cuts order mask = flatten (placed mask (segments 0 cuts route) (sli
 abbrev pub tail : List ℕ → List ℕ → List ℕ
 tail route cuts = getD (segments 0 cuts route) (length cuts) []
 
--- A route with its forward sums, and a cut set of it.
-pub record HeadTimed (locations : ℕ) (legs : List ℕ) (depot : ℕ) (route forward-sums cuts : List ℕ) : Type 0 where
+-- A route with its forward sums and its stays, and a cut set of it.
+pub record HeadTimed (locations : ℕ) (legs : List ℕ) (depot : ℕ) (route forward-sums stayed cuts : List ℕ) : Type 0 where
   pub measurable : Measurable locations legs depot route
   pub forwards : Sums route (forward (leg locations legs) route) forward-sums
+  pub places : length stayed ≡ 513
+  pub none : getD stayed 0 0 ≡ 0
+  pub small : (c : ℕ) → c ≤ length route → getD stayed c 0 ≤ 1000000 * c
   pub cut-set : CutSet (length cuts) (length route) cuts
 
 -- When the head is left.
-pub record HeadClock (locations : ℕ) (legs : List ℕ) (depot : ℕ) (route cuts : List ℕ) (clock : ℕ) : Type 0 where
-  pub is : clock ≡ path (leg locations legs) depot (head route cuts)
-  pub early : clock ≤ 513 * 1000000
+pub record HeadClock (locations : ℕ) (legs : List ℕ) (depot : ℕ) (route stayed cuts : List ℕ) (seconds : ℕ) : Type 0 where
+  pub is : seconds ≡ path (leg locations legs) depot (head route cuts) + getD stayed (getD cuts 0 0) 0
+  pub early : seconds ≤ 1025 * 1000000

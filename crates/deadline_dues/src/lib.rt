@@ -7,16 +7,16 @@ use scan_joints::ROW;
 use scan_joints::ROW_BYTES;
 use scan_joints::STATES;
 use scan_joints::WIDTH;
+use theory::CUT_PLACES;
 use theory::STOPS;
 ghost use mathlib.Core.Path.{_≡_};
 ghost use Prim.Native.Nat.{_+_, _-_, _*_, _<_};
 ghost use lib.Seq.{slice};
 ghost use lib.ListN.{length, getD, set};
 ghost use Rattle.theory.specs.Tables.{clock-by, tables};
-ghost use Rattle.deadlines.specs.Lateness.{LatestOf};
-ghost use Rattle.deadline_dues.specs.Due.{OwnDueIs, Growable, GrowableTo, Spannable, SegmentDues};
+ghost use Rattle.deadline_dues.specs.Due.{OwnDueAsked, OwnDue, WayBackAsked, WayBack, Growable, GrowableTo, Spannable, SegmentDues};
 ghost use Rattle.deadline_dues.specs.Parts.{HeadTimed, HeadClock};
-ghost use Rattle.deadline_dues.specs.Dues.{in-time, is-in-time, Puttable, DuesFillable, SegmentsDue, DuesReachable, DuesReached, RowTimed};
+ghost use Rattle.deadline_dues.specs.Dues.{in-time, is-in-time, Puttable, DuesFillable, SegmentsDue, DuesReachable, DuesReached, StaysAsked, StaysTold, StatesTimable, StatesTimed, RowTimed};
 
 // ---- the dues of one segment, grown stop by stop
 
@@ -26,12 +26,21 @@ pub struct Dues {
     pub reversed: u64,
 }
 
-// The second behind the latest one of a stop.
-fn own_due(latest: &[u32], stop: u32) -> u64
-    requires { ⌜ LatestOf (now latest) stop ⌝ }
-    ensures { λ r. ⌜ OwnDueIs (now (latest .entry)) stop r ⌝ }
+// The second behind the last one at which a stop may be left.
+fn own_due(latest: &[u32], stop: u32, served: u64) -> u64
+    requires { ⌜ OwnDueAsked (now latest) stop served ⌝ }
+    ensures { λ r. ⌜ OwnDue (now (latest .entry)) stop served r ⌝ }
 {
-    deadlines::latest_of(latest, stop) + 1
+    let place = stop as usize;
+    latest[place] as u64 + served + 1
+}
+
+// The seconds from leaving the stop at `end` to leaving the one at `start`, back along the route.
+fn way_back(backward: &[u64; STOPS], stayed: &[u64; CUT_PLACES], start: usize, end: usize) -> u64
+    requires { ⌜ WayBackAsked (now backward) (now stayed) start end ⌝ }
+    ensures { λ r. ⌜ WayBack (now (backward .entry)) (now (stayed .entry)) start end r ⌝ }
+{
+    (backward[end] - backward[start]) + (stayed[end] - stayed[start])
 }
 
 // The dues of route[start..end + 1] from those of route[start..end].
@@ -39,23 +48,26 @@ fn take_in(
     locations: usize,
     legs: &[u32],
     latest: &[u32],
+    service: &[u32],
     route: &[u32],
     backward: &[u64; STOPS],
+    stayed: &[u64; CUT_PLACES],
     start: usize,
     end: usize,
     straight: u64,
     reversed: u64,
 ) -> Dues
-    requires { ⌜ Growable (tables locations (now legs) (now latest)) (now route) (now backward) start end straight reversed ⌝ }
-    ensures { λ r. ⌜ SegmentDues (clock-by (tables locations (now (legs .entry)) (now (latest .entry)))) (slice start (end + 1) (now (route .entry))) (r .straight) (r .reversed) ⌝ }
+    requires { ⌜ Growable (tables locations (now legs) (now latest) (now service)) (now route) (now backward) (now stayed) start end straight reversed ⌝ }
+    ensures { λ r. ⌜ SegmentDues (clock-by (tables locations (now (legs .entry)) (now (latest .entry)) (now (service .entry)))) (slice start (end + 1) (now (route .entry))) (r .straight) (r .reversed) ⌝ }
 {
     let last = route[end - 1];
     let stop = route[end];
-    let own = own_due(latest, stop);
-    let leg = costs::route_distance(locations, legs, last, stop);
-    let back = backward[end] - backward[start];
+    let served = deadlines::service_of(service, stop);
+    let own = own_due(latest, stop, served);
+    let step = costs::route_distance(locations, legs, last, stop) + served;
+    let back = way_back(backward, stayed, start, end);
     Dues {
-        straight: least(straight + leg, own),
+        straight: least(straight + step, own),
         reversed: least(reversed, own + back),
     }
 }
@@ -65,16 +77,18 @@ pub fn grow_dues(
     locations: usize,
     legs: &[u32],
     latest: &[u32],
+    service: &[u32],
     route: &[u32],
     backward: &[u64; STOPS],
+    stayed: &[u64; CUT_PLACES],
     start: usize,
     from: usize,
     to: usize,
     straight: u64,
     reversed: u64,
 ) -> Dues
-    requires { ⌜ GrowableTo (tables locations (now legs) (now latest)) (now route) (now backward) start from to straight reversed ⌝ }
-    ensures { λ r. ⌜ SegmentDues (clock-by (tables locations (now (legs .entry)) (now (latest .entry)))) (slice start to (now (route .entry))) (r .straight) (r .reversed) ⌝ }
+    requires { ⌜ GrowableTo (tables locations (now legs) (now latest) (now service)) (now route) (now backward) (now stayed) start from to straight reversed ⌝ }
+    ensures { λ r. ⌜ SegmentDues (clock-by (tables locations (now (legs .entry)) (now (latest .entry)) (now (service .entry)))) (slice start to (now (route .entry))) (r .straight) (r .reversed) ⌝ }
 {
     let mut dues = Dues { straight, reversed };
     let mut upto = from;
@@ -83,8 +97,10 @@ pub fn grow_dues(
             locations,
             legs,
             latest,
+            service,
             route,
             backward,
+            stayed,
             start,
             upto,
             dues.straight,
@@ -100,21 +116,27 @@ pub fn segment_dues(
     locations: usize,
     legs: &[u32],
     latest: &[u32],
+    service: &[u32],
     route: &[u32],
     backward: &[u64; STOPS],
+    stayed: &[u64; CUT_PLACES],
     start: usize,
     end: usize,
 ) -> Dues
-    requires { ⌜ Spannable (tables locations (now legs) (now latest)) (now route) (now backward) start end ⌝ }
-    ensures { λ r. ⌜ SegmentDues (clock-by (tables locations (now (legs .entry)) (now (latest .entry)))) (slice start end (now (route .entry))) (r .straight) (r .reversed) ⌝ }
+    requires { ⌜ Spannable (tables locations (now legs) (now latest) (now service)) (now route) (now backward) (now stayed) start end ⌝ }
+    ensures { λ r. ⌜ SegmentDues (clock-by (tables locations (now (legs .entry)) (now (latest .entry)) (now (service .entry)))) (slice start end (now (route .entry))) (r .straight) (r .reversed) ⌝ }
 {
-    let own = own_due(latest, route[start]);
+    let stop = route[start];
+    let served = deadlines::service_of(service, stop);
+    let own = own_due(latest, stop, served);
     grow_dues(
         locations,
         legs,
         latest,
+        service,
         route,
         backward,
+        stayed,
         start,
         start + 1,
         end,
@@ -145,20 +167,32 @@ fn fill_dues(
     locations: usize,
     legs: &[u32],
     latest: &[u32],
+    service: &[u32],
     route: &[u32],
     backward: &[u64; STOPS],
+    stayed: &[u64; CUT_PLACES],
     cuts: &[usize],
     count: usize,
     dues: &mut [u64; DUE_PLACES],
 )
-    requires { ⌜ DuesFillable (tables locations (now legs) (now latest)) (now route) (now backward) (now cuts) count (now dues) ⌝ }
-    ensures { λ _. ⌜ SegmentsDue (clock-by (tables locations (now (legs .entry)) (now (latest .entry)))) (now (cuts .entry)) (now (route .entry)) count (now (dues .exit)) ⌝ }
+    requires { ⌜ DuesFillable (tables locations (now legs) (now latest) (now service)) (now route) (now backward) (now stayed) (now cuts) count (now dues) ⌝ }
+    ensures { λ _. ⌜ SegmentsDue (clock-by (tables locations (now (legs .entry)) (now (latest .entry)) (now (service .entry)))) (now (cuts .entry)) (now (route .entry)) count (now (dues .exit)) ⌝ }
 {
     let mut i = 1;
     while i <= count {
         let start = cuts[i - 1];
         let end = cuts[i];
-        let found = segment_dues(locations, legs, latest, route, backward, start, end);
+        let found = segment_dues(
+            locations,
+            legs,
+            latest,
+            service,
+            route,
+            backward,
+            stayed,
+            start,
+            end,
+        );
         put_dues(dues, i, found.straight, found.reversed);
         i += 1;
     }
@@ -169,13 +203,15 @@ fn stretch_dues(
     locations: usize,
     legs: &[u32],
     latest: &[u32],
+    service: &[u32],
     route: &[u32],
     backward: &[u64; STOPS],
+    stayed: &[u64; CUT_PLACES],
     cuts: &[usize],
     dues: &mut [u64; DUE_PLACES],
 )
-    requires { ⌜ DuesReachable (tables locations (now legs) (now latest)) (now route) (now backward) (now cuts) (now dues) × (0 < getD (now dues) 8 0) ⌝ }
-    ensures { λ _. ⌜ SegmentsDue (clock-by (tables locations (now (legs .entry)) (now (latest .entry)))) (now (cuts .entry)) (now (route .entry)) (length (now (cuts .entry)) - 1) (now (dues .exit)) ⌝ }
+    requires { ⌜ DuesReachable (tables locations (now legs) (now latest) (now service)) (now route) (now backward) (now stayed) (now cuts) (now dues) × (0 < getD (now dues) 8 0) ⌝ }
+    ensures { λ _. ⌜ SegmentsDue (clock-by (tables locations (now (legs .entry)) (now (latest .entry)) (now (service .entry)))) (now (cuts .entry)) (now (route .entry)) (length (now (cuts .entry)) - 1) (now (dues .exit)) ⌝ }
 {
     let segment = cuts.len() - 1;
     let start = cuts[segment - 1];
@@ -186,8 +222,10 @@ fn stretch_dues(
         locations,
         legs,
         latest,
+        service,
         route,
         backward,
+        stayed,
         start,
         from,
         end,
@@ -198,27 +236,95 @@ fn stretch_dues(
 }
 
 // The dues of every middle segment, from those held of the cut sets before with the same first cuts.
-pub fn reach_dues(
+fn reach_dues(
     locations: usize,
     legs: &[u32],
     latest: &[u32],
+    service: &[u32],
     route: &[u32],
     backward: &[u64; STOPS],
+    stayed: &[u64; CUT_PLACES],
     cuts: &[usize],
     dues: &mut [u64; DUE_PLACES],
 )
-    requires { ⌜ DuesReachable (tables locations (now legs) (now latest)) (now route) (now backward) (now cuts) (now dues) ⌝ }
-    ensures { λ _. ⌜ DuesReached (clock-by (tables locations (now (legs .entry)) (now (latest .entry)))) (now (route .entry)) (now (cuts .entry)) (now (dues .exit)) ⌝ }
+    requires { ⌜ DuesReachable (tables locations (now legs) (now latest) (now service)) (now route) (now backward) (now stayed) (now cuts) (now dues) ⌝ }
+    ensures { λ _. ⌜ DuesReached (clock-by (tables locations (now (legs .entry)) (now (latest .entry)) (now (service .entry)))) (now (route .entry)) (now (cuts .entry)) (now (dues .exit)) ⌝ }
 {
     let last = cuts.len() - 1;
     let reach = cuts[last] as u64;
     let held = dues[REACH];
     if held == 0 {
-        fill_dues(locations, legs, latest, route, backward, cuts, last, dues);
+        fill_dues(
+            locations,
+            legs,
+            latest,
+            service,
+            route,
+            backward,
+            stayed,
+            cuts,
+            last,
+            dues,
+        );
     } else {
-        stretch_dues(locations, legs, latest, route, backward, cuts, dues);
+        stretch_dues(
+            locations,
+            legs,
+            latest,
+            service,
+            route,
+            backward,
+            stayed,
+            cuts,
+            dues,
+        );
     }
     dues[REACH] = reach;
+}
+
+// The service of the stops of each middle segment, for both of its states.
+fn state_stays(stayed: &[u64; CUT_PLACES], cuts: &[usize], stays: &mut [u64; DUE_PLACES])
+    requires { ⌜ StaysAsked (now stayed) (now cuts) (now stays) ⌝ }
+    ensures { λ _. ⌜ StaysTold (now (stayed .entry)) (now (cuts .entry)) (now (stays .exit)) ⌝ }
+{
+    let mut i = 1;
+    while i < cuts.len() {
+        let start = cuts[i - 1];
+        let end = cuts[i];
+        let stay = stayed[end] - stayed[start];
+        put_dues(stays, i, stay, stay);
+        i += 1;
+    }
+}
+
+// The dues and the service of every state.
+pub fn time_states(
+    locations: usize,
+    legs: &[u32],
+    latest: &[u32],
+    service: &[u32],
+    route: &[u32],
+    backward: &[u64; STOPS],
+    stayed: &[u64; CUT_PLACES],
+    cuts: &[usize],
+    dues: &mut [u64; DUE_PLACES],
+    stays: &mut [u64; DUE_PLACES],
+)
+    requires { ⌜ StatesTimable (tables locations (now legs) (now latest) (now service)) (now route) (now backward) (now stayed) (now cuts) (now dues) (now stays) ⌝ }
+    ensures { λ _. ⌜ StatesTimed (tables locations (now (legs .entry)) (now (latest .entry)) (now (service .entry))) (now (route .entry)) (now (cuts .entry)) (now (dues .exit)) (now (stays .exit)) ⌝ }
+{
+    reach_dues(
+        locations,
+        legs,
+        latest,
+        service,
+        route,
+        backward,
+        stayed,
+        cuts,
+        dues,
+    );
+    state_stays(stayed, cuts, stays);
 }
 
 // Whether the middle of a candidate is left in time.
@@ -231,13 +337,14 @@ pub enum Timing {
 pub fn judge_row(
     joint: &[u64; CELLS],
     rows: &[u8; ROW_BYTES],
+    stays: &[u64; DUE_PLACES],
     dues: &[u64; DUE_PLACES],
     i: usize,
     m: usize,
     clock: u64,
 ) -> Timing
-    requires { ⌜ RowTimed (now joint) (now rows) (now dues) i m clock ⌝ }
-    ensures { λ r. ⌜ is-in-time r ≡ in-time (now (joint .entry)) (now (dues .entry)) 9 clock (slice (4 * i) (4 * i + m) (now (rows .entry))) ⌝ }
+    requires { ⌜ RowTimed (now joint) (now rows) (now stays) (now dues) i m clock ⌝ }
+    ensures { λ r. ⌜ is-in-time r ≡ in-time (now (joint .entry)) (now (stays .entry)) (now (dues .entry)) 9 clock (slice (4 * i) (4 * i + m) (now (rows .entry))) ⌝ }
 {
     let mut from = HEAD;
     let mut now = clock;
@@ -245,7 +352,7 @@ pub fn judge_row(
     let end = ROW * i + m;
     while at < end {
         let state = scan_joints::wide(rows[at]);
-        now += joint[WIDTH * from + state];
+        now += joint[WIDTH * from + state] + stays[state];
         if dues[state] <= now {
             return Timing::Late;
         }
@@ -262,14 +369,15 @@ pub fn head_clock(
     depot: u32,
     route: &[u32],
     forward: &[u64; STOPS],
+    stayed: &[u64; CUT_PLACES],
     cuts: &[usize],
 ) -> u64
-    requires { ⌜ HeadTimed locations (now legs) depot (now route) (now forward) (now cuts) ⌝ }
-    ensures { λ r. ⌜ HeadClock locations (now (legs .entry)) depot (now (route .entry)) (now (cuts .entry)) r ⌝ }
+    requires { ⌜ HeadTimed locations (now legs) depot (now route) (now forward) (now stayed) (now cuts) ⌝ }
+    ensures { λ r. ⌜ HeadClock locations (now (legs .entry)) depot (now (route .entry)) (now (stayed .entry)) (now (cuts .entry)) r ⌝ }
 {
     let first = cuts[0];
     if first == 0 {
         return 0;
     }
-    deadlines::arrival(locations, legs, depot, route, forward, first - 1)
+    deadlines::left_at(locations, legs, depot, route, forward, stayed, first - 1)
 }

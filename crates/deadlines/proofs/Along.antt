@@ -21,9 +21,9 @@ and-assoc false b c = refl
 
 -- A part and then another: both are on time exactly when the first is, and the second from where and when the first ends.
 pub on-time-append : (C : Clock) (a t : ℕ) (xs ys : List ℕ) →
-    on-time C a t (xs ++ ys) ≡ (on-time C a t xs && on-time C (last-of a xs) (t + path (C .leg) a xs) ys)
+    on-time C a t (xs ++ ys) ≡ (on-time C a t xs && on-time C (last-of a xs) (t + path (C .step) a xs) ys)
 unfolding on-time last-of path
 on-time-append C a t [] ys = let e : t + 0 ≡ t = omega arith in rw e
 on-time-append C a t (x ∷ xs) ys =
-    let e : t + C .leg a x + path (C .leg) x xs ≡ t + (C .leg a x + path (C .leg) x xs) = omega arith in
-    rw (on-time-append C x (t + C .leg a x) xs ys, e) (sym (and-assoc (leb (t + C .leg a x) (C .latest x)) (on-time C x (t + C .leg a x) xs) _))
+    let e : t + C .step a x + path (C .step) x xs ≡ t + (C .step a x + path (C .step) x xs) = omega arith in
+    rw (on-time-append C x (t + C .step a x) xs ys, e) (sym (and-assoc (leb (t + C .step a x) (C .until x)) (on-time C x (t + C .step a x) xs) _))

@@ -4,11 +4,10 @@ use mathlib.Core.Logic.{_⊎_, inl, inr}
 use mathlib.Core.List.{List}
 use Prim.Native.Nat.{ℕ, suc, min, max, _+_, _-_, _*_, _≤_, _<_}
 use native.Mathlib.Decide.{decLt, ℕ-discrete}
-use native.Mathlib.Numerals.{add-one}
 use native.Mathlib.Omega.{arith}
 use lib.ListN.{length, getD, set, take, length-set}
 use lib.Seq.{getD-set-same, getD-set-other}
-use Rattle.theory.specs.Route.{Clock, path, arrival}
+use Rattle.theory.specs.Route.{Clock, path, left}
 use Rattle.deadlines.specs.Lateness.{late-by, lateness, TooLate, LongestHead, Latenesses, LatenessFilled}
 use Rattle.deadlines.proofs.Lateness.{lateness-end, lateness-step}
 
@@ -17,22 +16,22 @@ pub record SoonestAt (C : Clock) (r : List ℕ) (c soonest : ℕ) : Type 0 where
   pub position : ℕ
   pub least : c ≤ position
   pub most : position < length r
-  pub is : soonest ≡ C .latest (getD r position 0)
+  pub is : soonest ≡ C .until (getD r position 0)
 
 -- Back to position c.
 pub record Back (C : Clock) (depot : ℕ) (r table : List ℕ) (c longest soonest most : ℕ) : Type 0 where
   pub places : length table ≡ 513
   pub most-is : most ≡ lateness C depot r c
-  pub few : most ≤ 513 * 1000000
+  pub few : most ≤ 1025 * 1000000
   pub each : (j : ℕ) → c ≤ j → j ≤ length r → getD table j 0 ≡ lateness C depot r j
-  pub soon : (j : ℕ) → c ≤ j → j < length r → soonest ≤ C .latest (getD r j 0)
-  pub whose : (soonest ≡ 4294967295) ⊎ SoonestAt C r c soonest
+  pub soon : (j : ℕ) → c ≤ j → j < length r → soonest ≤ C .until (getD r j 0)
+  pub whose : (soonest ≡ 4295967295) ⊎ SoonestAt C r c soonest
   pub within : longest ≤ length r
   pub from : c ≤ longest
-  pub in-time : (i j : ℕ) → c ≤ i → i < longest → i ≤ j → j < length r → arrival C depot r i ≤ C .latest (getD r j 0)
+  pub in-time : (i j : ℕ) → c ≤ i → i < longest → i ≤ j → j < length r → left C depot r i ≤ C .until (getD r j 0)
   pub beyond : longest < length r → TooLate C depot r longest
 
-pub back-at-end : (C : Clock) (depot : ℕ) (r table : List ℕ) → length table ≡ 513 → length r ≤ 512 → Back C depot r (set table (length r) 0) (length r) (length r) 4294967295 0
+pub back-at-end : (C : Clock) (depot : ℕ) (r table : List ℕ) → length table ≡ 513 → length r ≤ 512 → Back C depot r (set table (length r) 0) (length r) (length r) 4295967295 0
 back-at-end C depot r table h k =
     record {
       places = simp length-set h;
@@ -47,13 +46,9 @@ back-at-end C depot r table h k =
       beyond = λ l. absurd (omega arith);
     }
 
-pub reached-at : (C : Clock) (depot : ℕ) (r : List ℕ) (i : ℕ) {seconds : ℕ} → seconds ≡ path (C .leg) depot (take (i + 1) r) → seconds ≡ arrival C depot r i
-unfolding arrival
-reached-at C depot r i e = e ∙ rw (add-one i)
-
 -- One stop more.
 module _ (C : Clock) (depot : ℕ) (r table : List ℕ) (c c₀ longest soonest most reached deadline : ℕ) (back : Back C depot r table c₀ longest soonest most) (e : c₀ ≡ suc c) (n : c < length r)
-    (short : length r ≤ 512) (at : reached ≡ arrival C depot r c) (early : reached ≤ 513 * 1000000) (due : deadline ≡ C .latest (getD r c 0)) (small : deadline ≤ 4294967295) where
+    (short : length r ≤ 512) (at : reached ≡ left C depot r c) (early : reached ≤ 1025 * 1000000) (due : deadline ≡ C .until (getD r c 0)) (small : deadline ≤ 4295967295) where
   abbrev most′ : ℕ
   most′ = max (reached - deadline) most
 
@@ -71,17 +66,17 @@ module _ (C : Clock) (depot : ℕ) (r table : List ℕ) (c c₀ longest soonest 
       by (yes q) = rw q (getD-set-same table c most′ 0 (omega (arith, back .places)) ∙ most-there)
       by (no q) = getD-set-other table c j most′ 0 q ∙ back .each j (omega arith) m
 
-  sooner : (j : ℕ) → c ≤ j → j < length r → soonest′ ≤ C .latest (getD r j 0)
+  sooner : (j : ℕ) → c ≤ j → j < length r → soonest′ ≤ C .until (getD r j 0)
   sooner j l m = by (ℕ-discrete j c)
     where
-      by : Dec (j ≡ c) → soonest′ ≤ C .latest (getD r j 0)
+      by : Dec (j ≡ c) → soonest′ ≤ C .until (getD r j 0)
       by (yes q) = rw q (omega arith)
       by (no q) = omega (arith, back .soon j (omega arith) m)
 
-  of-whom : (soonest′ ≡ 4294967295) ⊎ SoonestAt C r c soonest′
+  of-whom : (soonest′ ≡ 4295967295) ⊎ SoonestAt C r c soonest′
   of-whom = by (decLt soonest deadline) (back .whose)
     where
-      by : Dec (soonest < deadline) → (soonest ≡ 4294967295) ⊎ SoonestAt C r c₀ soonest → (soonest′ ≡ 4294967295) ⊎ SoonestAt C r c soonest′
+      by : Dec (soonest < deadline) → (soonest ≡ 4295967295) ⊎ SoonestAt C r c₀ soonest → (soonest′ ≡ 4295967295) ⊎ SoonestAt C r c soonest′
       by (yes l) (inl s) = absurd (omega arith)
       by (yes l) (inr s) = inr (record { position = s .position; least = omega (arith, s .least); most = s .most; is = omega (arith, s .is) })
       by (no q) s = inr (record { position = c; least = omega arith; most = n; is = omega arith })
@@ -101,7 +96,7 @@ module _ (C : Clock) (depot : ℕ) (r table : List ℕ) (c c₀ longest soonest 
         beyond = back .beyond;
       }
     where
-      by : (i j : ℕ) → c ≤ i → i < longest → i ≤ j → j < length r → Dec (i ≡ c) → arrival C depot r i ≤ C .latest (getD r j 0)
+      by : (i j : ℕ) → c ≤ i → i < longest → i ≤ j → j < length r → Dec (i ≡ c) → left C depot r i ≤ C .until (getD r j 0)
       by i j h k m o (yes q) = rw q (omega (arith, sooner j (omega arith) o))
       by i j h k m o (no q) = back .in-time i j (omega arith) k m o
 
@@ -120,7 +115,7 @@ module _ (C : Clock) (depot : ℕ) (r table : List ℕ) (c c₀ longest soonest 
         beyond = λ _. by of-whom;
       }
     where
-      by : (soonest′ ≡ 4294967295) ⊎ SoonestAt C r c soonest′ → TooLate C depot r c
+      by : (soonest′ ≡ 4295967295) ⊎ SoonestAt C r c soonest′ → TooLate C depot r c
       by (inl s) = absurd (omega arith)
       by (inr s) = record { position = s .position; least = s .least; most = s .most; missed = omega (arith, s .is) }
 

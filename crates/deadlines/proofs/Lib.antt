@@ -1,6 +1,7 @@
 pub mod Clock
 pub mod Answer
 pub mod Along
+pub mod Stays
 pub mod Lateness
-mod Arriving
+mod Leaving
 mod Filling

@@ -7,7 +7,7 @@ use Prim.Native.Nat.{ℕ}
 use native.Mathlib.Omega.{arith}
 use lib.ListN.{length, getD}
 use Rattle.theory.specs.Route.{Timely}
-use Rattle.theory.specs.Tables.{Trip, clock-by, Timed}
+use Rattle.theory.specs.Tables.{Trip, timetable-by, Timed}
 use Rattle.theory.specs.Refusals.{refusal, problem-rules}
 use Rattle.theory.specs.Answers.{reply, Checked, Verdict, deadline-position, feasibility-answer}
 use Rattle.theory.specs.declared.Deadline.{Deadline}
@@ -32,7 +32,7 @@ module _ (T : Trip) (route : List ℕ) (number : ℕ) (judged : number ≡ refus
     unfolding known
     fine = timed-fine T route (taken-passes (problem-rules T route) number judged refl h)
 
-    pub checked : (d : Deadline) → Checked (clock-by (T .tables)) (T .depot) route d → FeasibleReply T route (Answer.Checked d)
+    pub checked : (d : Deadline) → Checked (timetable-by (T .tables)) (T .depot) route d → FeasibleReply T route (Answer.Checked d)
     checked d c =
         record {
           position = deadline-position (length route) d;
@@ -47,20 +47,20 @@ no-value n position e = let z : _≡_ {A = ℕ} 0 1 = ap (λ a. length (a .value
 module _ (T : Trip) (route : List ℕ) where
   -- What the value says that is written for an answer.
   verdict-of : (position : ℕ) (answer : Feasibility) → Says T route answer → feasibility-answer (length route) answer ≡ reply 0 (position ∷ []) →
-      Verdict (clock-by (T .tables)) (T .depot) route position
+      Verdict (timetable-by (T .tables)) (T .depot) route position
   verdict-of position (Answer.Refused n) s e = absurd (no-value n position e)
-  verdict-of position (Answer.Checked d) s e = subst (Verdict (clock-by (T .tables)) (T .depot) route) (ap (λ a. getD (a .values) 0 0) e) (by d s)
+  verdict-of position (Answer.Checked d) s e = subst (Verdict (timetable-by (T .tables)) (T .depot) route) (ap (λ a. getD (a .values) 0 0) e) (by d s)
     where
-      by : (d : Deadline) → Checked (clock-by (T .tables)) (T .depot) route d → Verdict (clock-by (T .tables)) (T .depot) route (deadline-position (length route) d)
+      by : (d : Deadline) → Checked (timetable-by (T .tables)) (T .depot) route d → Verdict (timetable-by (T .tables)) (T .depot) route (deadline-position (length route) d)
       by Kept c = inl (refl, c)
       by (Late p) c = inr c
 
   -- The promise leaves a kept route one answer: not late at the number of stops, though that has the same value.
-  pub kept-forced : (answer : Feasibility) → FeasibleReply T route answer → refusal (problem-rules T route) ≡ 0 → Timely (clock-by (T .tables)) (T .depot) route → answer ≡ Answer.Checked Kept
+  pub kept-forced : (answer : Feasibility) → FeasibleReply T route answer → refusal (problem-rules T route) ≡ 0 → Timely (timetable-by (T .tables)) (T .depot) route → answer ≡ Answer.Checked Kept
   kept-forced (Answer.Refused n) a z f = absurd (no-value n (a .position) (a .reply-is ∙ ap (λ n. reply n (a .position ∷ [])) z))
   kept-forced (Answer.Checked Kept) a z f = refl
   kept-forced (Answer.Checked (Late p)) a z f =
-      absurd (true≢false (sym (kept-timely (clock-by (T .tables)) (T .depot) route f) ∙ late-untimely (clock-by (T .tables)) (T .depot) route (a .says)))
+      absurd (true≢false (sym (kept-timely (timetable-by (T .tables)) (T .depot) route f) ∙ late-untimely (timetable-by (T .tables)) (T .depot) route (a .says)))
 
   pub handed-written : (result : List ℕ) (answer : Feasibility) → FeasibleReply T route answer →
       (n : ℕ) (result′ : List ℕ) → Handed (feasibility-answer (length route) answer) result n result′ → FeasibleWritten T route result n result′

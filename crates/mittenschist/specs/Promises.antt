@@ -9,7 +9,7 @@ use lib.ListN.{length, getD, drop, replicate}
 use Rattle.theory.specs.Moves.{Pattern, patterns, next-cuts}
 use Rattle.theory.specs.Route.{tour-length, reconnected}
 use Rattle.theory.specs.Polish.{move-at, Demand3}
-use Rattle.theory.specs.Tables.{Tables, Trip, Fleet, problem, clock-by, legs-only}
+use Rattle.theory.specs.Tables.{Tables, Trip, Fleet, problem, timetable-by, legs-only}
 use Rattle.theory.specs.Question.{Question, asked}
 use Rattle.theory.specs.Refusals.{Rule, refusal, if-taken, problem-rules}
 use Rattle.refusal_rules.specs.Rules.{pattern-rules, next-cut-set-rules, reconnect-rules, route-length-rules, delta-rules, polish-rules, run-rules, nearby-rules, with-room}
@@ -80,7 +80,7 @@ pub record DeltaReply (k pattern : ℕ) (cuts : List ℕ) (locations : ℕ) (leg
 -- What an answer says of a route: what the check does, by the case it holds. A refusal says nothing.
 abbrev pub Says : Trip → List ℕ → Feasibility → Type 0
 Says T route (Judged.Refused n) = Unit {0}
-Says T route (Judged.Checked d) = Checked (clock-by (T .tables)) (T .depot) route d
+Says T route (Judged.Checked d) = Checked (timetable-by (T .tables)) (T .depot) route d
 
 -- The late position is loose, and nothing else is. One value alone leaves the case open, since kept is written as the number of stops; so the answer itself is held to the route.
 pub record FeasibleReply (T : Trip) (route : List ℕ) (answer : Feasibility) : Type 0 where
@@ -91,7 +91,7 @@ pub record FeasibleReply (T : Trip) (route : List ℕ) (answer : Feasibility) : 
 pub record FeasibleWritten (T : Trip) (route result : List ℕ) (answer : ℕ) (result′ : List ℕ) : Type 0 where
   pub position : ℕ
   pub written : Written (problem-rules T route) 1 (position ∷ []) result answer result′
-  pub verdict : answer ≡ 0 → Verdict (clock-by (T .tables)) (T .depot) route position
+  pub verdict : answer ≡ 0 → Verdict (timetable-by (T .tables)) (T .depot) route position
 
 -- ---- polishing
 

@@ -10,6 +10,7 @@ ghost use Rattle.move_calls.specs.Entries.{DoMoveReply, UndoReply, doable-rules
 ghost use Rattle.moves.specs.Moves.{length-change, pattern-values};
 ghost use Rattle.refusal_rules.specs.Rules.{route-length-rules, pattern-rules, delta-rules};
 ghost use Rattle.mittenschist.specs.Promises.{NextCutSetReply, RouteLengthReply, ReconnectionReply, ReconnectReply, DeltaReply, FeasibleReply, PolishReply, Written, NextCutSetWritten, FeasibleWritten, doable-values, RunReply, NearbyReply, NearbyWritten};
+use polishing::polish_route;
 use theory::CutStep;
 use theory::Feasibility;
 use theory::LengthDelta;
@@ -86,25 +87,26 @@ pub fn delta(
     LengthDelta::Seconds(moves::delta_pattern(k, pattern, cuts, locations, legs, depot, route))
 }
 
-// The deadline check. Refuses 2, 3, 4, 5.
+// The deadline check. Refuses 2, 3, 23, 4, 5.
 pub fn route_feasible(
     locations: usize,
     legs: &[u32],
     latest: &[u32],
+    service: &[u32],
     depot: u32,
     route: &[u32],
 ) -> Feasibility
-    ensures { λ r. ⌜ FeasibleReply (trip locations (now (legs .entry)) (now (latest .entry)) depot) (now (route .entry)) r ⌝ }
+    ensures { λ r. ⌜ FeasibleReply (trip locations (now (legs .entry)) (now (latest .entry)) (now (service .entry)) depot) (now (route .entry)) r ⌝ }
 {
-    let refused = refusals::check_problem(locations, legs, latest, depot, route);
+    let refused = refusals::check_problem(locations, legs, latest, service, depot, route);
     if refused != 0 {
         return Feasibility::Refused(refused);
     }
-    let answer = deadlines::check_deadlines(locations, legs, latest, depot, route);
+    let answer = deadlines::check_deadlines(locations, legs, latest, service, depot, route);
     Feasibility::Checked(answer)
 }
 
-// Polishes a route. Refuses 1, 2, 3, 4, 5, 21. The result receives 0 finished or 1 spent, examined, accepted, length before, length after.
+// Polishes a route. Refuses 1, 2, 3, 23, 4, 5, 21. The result receives 0 finished or 1 spent, examined, accepted, length before, length after.
 #[no_mangle]
 pub extern "C" fn mittenschist_polish_route(
     k: usize,
@@ -112,17 +114,19 @@ pub extern "C" fn mittenschist_polish_route(
     locations: usize,
     legs: &[u32],
     latest: &[u32],
+    service: &[u32],
     depot: u32,
     route: &mut [u32],
     result: &mut [u64],
 ) -> u32
-    ensures { λ r. ⌜ PolishReply (question k allowance locations (now (legs .entry)) (now (latest .entry)) depot (now (route .entry))) (now (result .entry)) r (now (route .exit)) (now (result .exit)) ⌝ }
+    ensures { λ r. ⌜ PolishReply (question k allowance locations (now (legs .entry)) (now (latest .entry)) (now (service .entry)) depot (now (route .entry))) (now (result .entry)) r (now (route .exit)) (now (result .exit)) ⌝ }
 {
     let refused = refusal_rules::polish_refusal(
         k,
         locations,
         legs,
         latest,
+        service,
         depot,
         &route[..],
         result.len(),
@@ -130,7 +134,7 @@ pub extern "C" fn mittenschist_polish_route(
     if refused != 0 {
         return refused;
     }
-    let answer = polishing::polish_route(k, allowance, locations, legs, latest, depot, route);
+    let answer = polish_route(k, allowance, locations, legs, latest, service, depot, route);
     polishing::put_polished(answer, result);
     0
 }
@@ -215,19 +219,20 @@ pub extern "C" fn mittenschist_delta(
     entry_results::put_delta(answer, result)
 }
 
-// A late position, or the number of stops where every deadline is kept. Refuses 2, 3, 4, 5, 21.
+// A late position, or the number of stops where every deadline is kept. Refuses 2, 3, 23, 4, 5, 21.
 #[no_mangle]
 pub extern "C" fn mittenschist_route_feasible(
     locations: usize,
     legs: &[u32],
     latest: &[u32],
+    service: &[u32],
     depot: u32,
     route: &[u32],
     result: &mut [u64],
 ) -> u32
-    ensures { λ r. ⌜ FeasibleWritten (trip locations (now (legs .entry)) (now (latest .entry)) depot) (now (route .entry)) (now (result .entry)) r (now (result .exit)) ⌝ }
+    ensures { λ r. ⌜ FeasibleWritten (trip locations (now (legs .entry)) (now (latest .entry)) (now (service .entry)) depot) (now (route .entry)) (now (result .entry)) r (now (result .exit)) ⌝ }
 {
-    let answer = route_feasible(locations, legs, latest, depot, route);
+    let answer = route_feasible(locations, legs, latest, service, depot, route);
     entry_results::put_feasibility(answer, route.len(), result)
 }
 
@@ -272,7 +277,7 @@ pub extern "C" fn mittenschist_k_opt_is_doable(
     entry_results::put_doable(answer, result)
 }
 
-// The run over rounds that lie end to end. Refuses 1, 2, 3, 4, 5, 21. The result receives four numbers a round: state, examined, accepted, applied.
+// The run over rounds that lie end to end. Refuses 1, 2, 3, 23, 4, 5, 21. The result receives four numbers a round: state, examined, accepted, applied.
 #[no_mangle]
 pub extern "C" fn mittenschist_run_list_k_opt(
     k: usize,
@@ -280,13 +285,14 @@ pub extern "C" fn mittenschist_run_list_k_opt(
     locations: usize,
     legs: &[u32],
     latest: &[u32],
+    service: &[u32],
     stops: &mut [u32],
     lengths: &[usize],
     depots: &[u32],
     pins: &[u8],
     result: &mut [u64],
 ) -> u32
-    ensures { λ r. ⌜ RunReply k allowance (tables locations (now (legs .entry)) (now (latest .entry))) (fleet (now (stops .entry)) (now (lengths .entry)) (now (depots .entry)) (now (pins .entry))) (now (result .entry)) r (now (stops .exit)) (now (result .exit)) ⌝ }
+    ensures { λ r. ⌜ RunReply k allowance (tables locations (now (legs .entry)) (now (latest .entry)) (now (service .entry))) (fleet (now (stops .entry)) (now (lengths .entry)) (now (depots .entry)) (now (pins .entry))) (now (result .entry)) r (now (stops .exit)) (now (result .exit)) ⌝ }
 {
     let lent = result.len();
     let refused = refusal_rules::run_refusal(
@@ -294,6 +300,7 @@ pub extern "C" fn mittenschist_run_list_k_opt(
         locations,
         legs,
         latest,
+        service,
         &stops[..],
         lengths,
         depots,
@@ -309,6 +316,7 @@ pub extern "C" fn mittenschist_run_list_k_opt(
         locations,
         legs,
         latest,
+        service,
         stops,
         lengths,
         depots,

@@ -29,13 +29,14 @@ fn try_sweep(
     locations: usize,
     legs: &[u32],
     latest: &[u32],
+    service: &[u32],
     depot: u32,
     i: usize,
     so_far: PairLoop,
     route: &mut [u32],
 ) -> PairLoop
-    requires { ⌜ Sweep allowance (trip locations (now legs) (now latest) depot) i «so_far» (now route) ⌝ }
-    ensures { λ r. ⌜ reply-of r (now (route .exit)) ≡ sweep (problem (trip locations (now (legs .entry)) (now (latest .entry)) depot)) allowance (length (now (route .entry))) (reply-of «so_far» (now (route .entry))) i ⌝ }
+    requires { ⌜ Sweep allowance (trip locations (now legs) (now latest) (now service) depot) i «so_far» (now route) ⌝ }
+    ensures { λ r. ⌜ reply-of r (now (route .exit)) ≡ sweep (problem (trip locations (now (legs .entry)) (now (latest .entry)) (now (service .entry)) depot)) allowance (length (now (route .entry))) (reply-of «so_far» (now (route .entry))) i ⌝ }
 {
     let mut examined = so_far.examined;
     let mut accepted = so_far.accepted;
@@ -51,7 +52,7 @@ fn try_sweep(
             };
         }
         examined += 1;
-        if pair_reversal::try_pair(locations, legs, latest, depot, a, b, i, j, route) {
+        if pair_reversal::try_pair(locations, legs, latest, service, depot, a, b, i, j, route) {
             accepted += 1;
         }
         j += 1;
@@ -69,17 +70,28 @@ fn try_pass(
     locations: usize,
     legs: &[u32],
     latest: &[u32],
+    service: &[u32],
     depot: u32,
     so_far: PairLoop,
     route: &mut [u32],
 ) -> PairLoop
-    requires { ⌜ Going allowance (trip locations (now legs) (now latest) depot) «so_far» (now route) ⌝ }
-    ensures { λ r. ⌜ reply-of r (now (route .exit)) ≡ pass (problem (trip locations (now (legs .entry)) (now (latest .entry)) depot)) allowance (length (now (route .entry))) (reply-of «so_far» (now (route .entry))) ⌝ }
+    requires { ⌜ Going allowance (trip locations (now legs) (now latest) (now service) depot) «so_far» (now route) ⌝ }
+    ensures { λ r. ⌜ reply-of r (now (route .exit)) ≡ pass (problem (trip locations (now (legs .entry)) (now (latest .entry)) (now (service .entry)) depot)) allowance (length (now (route .entry))) (reply-of «so_far» (now (route .entry))) ⌝ }
 {
     let mut passed = so_far;
     let mut i = 0;
     while i + 1 < route.len() {
-        passed = try_sweep(allowance, locations, legs, latest, depot, i, passed, route);
+        passed = try_sweep(
+            allowance,
+            locations,
+            legs,
+            latest,
+            service,
+            depot,
+            i,
+            passed,
+            route,
+        );
         if !passed.finished {
             return passed;
         }
@@ -94,11 +106,12 @@ pub fn pair_loop(
     locations: usize,
     legs: &[u32],
     latest: &[u32],
+    service: &[u32],
     depot: u32,
     route: &mut [u32],
 ) -> PairLoop
-    requires { ⌜ Timed (trip locations (now legs) (now latest) depot) (now route) ⌝ }
-    ensures { λ r. ⌜ PairsTried (problem (trip locations (now (legs .entry)) (now (latest .entry)) depot)) allowance (now (route .entry)) r (now (route .exit)) ⌝ }
+    requires { ⌜ Timed (trip locations (now legs) (now latest) (now service) depot) (now route) ⌝ }
+    ensures { λ r. ⌜ PairsTried (problem (trip locations (now (legs .entry)) (now (latest .entry)) (now (service .entry)) depot)) allowance (now (route .entry)) r (now (route .exit)) ⌝ }
 {
     let mut so_far = PairLoop {
         finished: true,
@@ -106,7 +119,16 @@ pub fn pair_loop(
         accepted: 0,
     };
     loop {
-        let passed = try_pass(allowance, locations, legs, latest, depot, so_far, route);
+        let passed = try_pass(
+            allowance,
+            locations,
+            legs,
+            latest,
+            service,
+            depot,
+            so_far,
+            route,
+        );
         if !passed.finished {
             return passed;
         }

@@ -5,7 +5,7 @@ use mathlib.Core.List.{List}
 use Prim.Native.Nat.{ℕ, _≤_}
 use lib.ListN.{length, getD}
 use Rattle.theory.specs.Moves.{total}
-use Rattle.theory.specs.Route.{Problem, clock-of, timely}
+use Rattle.theory.specs.Route.{Problem, timetable-of, timely}
 use Rattle.theory.specs.Tables.{Timed, Trip}
 use Rattle.theory.proofs.Stops.{as-many, stops-rearranged}
 use Rattle.pair_reversal.specs.Reversal.{stop-after, turned, shortens, accepts, Tried}
@@ -18,13 +18,13 @@ timed-rearranged {T} {r = r} {r′ = r′} same t =
     let m = t .measurable in (
       record {
         measurable = record { table = m .table; depot-known = m .depot-known; stops = stops-rearranged r r′ same (T .tables .locations) (m .stops) };
-        deadlines = t .deadlines;
+        times = t .times;
       },
       as-many r r′ same,
     )
 
 module _ (P : Problem) (a b i j : ℕ) (r : List ℕ) where
-  of : (x y : Bool) → shortens (P .leg) a b (getD r j 0) (stop-after (P .depot) r j) ≡ x → timely (clock-of P) (P .depot) (turned i j r) ≡ y → accepts P a b i r j ≡ (x && y)
+  of : (x y : Bool) → shortens (P .leg) a b (getD r j 0) (stop-after (P .depot) r j) ≡ x → timely (timetable-of P) (P .depot) (turned i j r) ≡ y → accepts P a b i r j ≡ (x && y)
   unfolding accepts
   of x y s f = rw (s, f)
 
@@ -34,17 +34,17 @@ module _ (P : Problem) (a b i j : ℕ) (r : List ℕ) where
     shorter-is = sym (rw after at found)
 
     pub tried-longer : shorter ≡ false → Tried P a b i j r false r
-    tried-longer s = let d = of false (timely (clock-of P) (P .depot) (turned i j r)) (shorter-is ∙ s) refl in record { is = sym d; route-is = rw d }
+    tried-longer s = let d = of false (timely (timetable-of P) (P .depot) (turned i j r)) (shorter-is ∙ s) refl in record { is = sym d; route-is = rw d }
 
     -- And whether the route, turned once, keeps every deadline.
     module _ (s : shorter ≡ true) {once : List ℕ} (turn : once ≡ turned i j r) where
-      judged : (kept : Bool) → kept ≡ timely (clock-of P) (P .depot) once → accepts P a b i r j ≡ kept
+      judged : (kept : Bool) → kept ≡ timely (timetable-of P) (P .depot) once → accepts P a b i r j ≡ kept
       judged kept f = of true kept (shorter-is ∙ s) (sym (rw turn at f))
 
-      pub tried-kept : true ≡ timely (clock-of P) (P .depot) once → Tried P a b i j r true once
+      pub tried-kept : true ≡ timely (timetable-of P) (P .depot) once → Tried P a b i j r true once
       tried-kept f = let d = judged true f in record { is = sym d; route-is = rw d turn }
 
-      pub tried-late : false ≡ timely (clock-of P) (P .depot) once → {back : List ℕ} → back ≡ r → Tried P a b i j r false back
+      pub tried-late : false ≡ timely (timetable-of P) (P .depot) once → {back : List ℕ} → back ≡ r → Tried P a b i j r false back
       tried-late f t = let d = judged false f in record { is = sym d; route-is = rw d t }
 
   -- The route after a pair has the same stops.

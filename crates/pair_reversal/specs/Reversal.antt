@@ -6,7 +6,7 @@ use Prim.Native.Nat.{ℕ, suc, _+_, _<_}
 use lib.Dec.{ltb}
 use lib.ListN.{length, getD, take, drop}
 use lib.Seq.{slice}
-use Rattle.theory.specs.Route.{Problem, clock-of, timely}
+use Rattle.theory.specs.Route.{Problem, timetable-of, timely}
 use Rattle.theory.specs.Tables.{Timed, LegTable, Trip}
 
 -- "The one after, or the depot."
@@ -24,7 +24,7 @@ shortens d a b c e = ltb (d a c + d b e) (d a b + d c e)
 -- "c is stop j and e the one after, or the depot. If .., turn i..j; late, turn back": the turn stays exactly where it shortens and keeps every deadline.
 unfoldable pub accepts : Problem → (a b i : ℕ) → List ℕ → (j : ℕ) → Bool
 unfolding shortens turned
-accepts P a b i r j = shortens (P .leg) a b (getD r j 0) (stop-after (P .depot) r j) && timely (clock-of P) (P .depot) (turned i j r)
+accepts P a b i r j = shortens (P .leg) a b (getD r j 0) (stop-after (P .depot) r j) && timely (timetable-of P) (P .depot) (turned i j r)
 
 -- Four locations of a leg table.
 pub record KnownLegs (locations : ℕ) (legs : List ℕ) (a b c e : ℕ) : Type 0 where

@@ -51,6 +51,7 @@ pub fn try_pair(
     locations: usize,
     legs: &[u32],
     latest: &[u32],
+    service: &[u32],
     depot: u32,
     a: u32,
     b: u32,
@@ -58,8 +59,8 @@ pub fn try_pair(
     j: usize,
     route: &mut [u32],
 ) -> bool
-    requires { ⌜ Pair (trip locations (now legs) (now latest) depot) a b i j (now route) ⌝ }
-    ensures { λ r. ⌜ Tried (problem (trip locations (now (legs .entry)) (now (latest .entry)) depot)) a b i j (now (route .entry)) r (now (route .exit)) ⌝ }
+    requires { ⌜ Pair (trip locations (now legs) (now latest) (now service) depot) a b i j (now route) ⌝ }
+    ensures { λ r. ⌜ Tried (problem (trip locations (now (legs .entry)) (now (latest .entry)) (now (service .entry)) depot)) a b i j (now (route .entry)) r (now (route .exit)) ⌝ }
 {
     let c = route[j];
     let e = stop_after(depot, &route[..], j);
@@ -68,7 +69,7 @@ pub fn try_pair(
     }
     let end = j + 1;
     reverse(&mut route[i..end]);
-    let answer = deadlines::check_deadlines(locations, legs, latest, depot, &route[..]);
+    let answer = deadlines::check_deadlines(locations, legs, latest, service, depot, &route[..]);
     if let Deadline::Late(_) = answer {
         reverse(&mut route[i..end]);
         return false;

@@ -5,15 +5,15 @@ use Rattle.theory.specs.Tables.{Trip, Timed}
 use Rattle.theory.specs.Refusals.{problem-rules}
 use Rattle.theory.specs.Question.{Question, question-rules}
 use Rattle.theory.proofs.Refusals.{Passes}
-use Rattle.theory.proofs.Judged.{cut-count-fine, measurable-fine, deadlines-fine}
+use Rattle.theory.proofs.Judged.{cut-count-fine, measurable-fine, times-fine}
 use Rattle.polishing.specs.Loop.{Polishable}
 
 pub timed-fine : (T : Trip) (route : List ℕ) → Passes (problem-rules T route) → Timed T route
 timed-fine T route p =
     let t = T .tables in
     record {
-      measurable = measurable-fine (t .locations) (t .legs) (T .depot) route (p .0) (p .1 .1 .0) (p .1 .1 .1 .0) (p .1 .1 .1 .1 .0);
-      deadlines = deadlines-fine (t .locations) (t .latest) (p .1 .0);
+      measurable = measurable-fine (t .locations) (t .legs) (T .depot) route (p .0) (p .1 .1 .0) (p .1 .1 .1 .1 .0) (p .1 .1 .1 .1 .1 .0);
+      times = times-fine t (p .1 .0) (p .1 .1 .1 .0);
     }
 
 pub polishable-fine : (q : Question) → Passes (question-rules q) → Polishable (q .k) (q .trip) (q .route)

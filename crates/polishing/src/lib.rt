@@ -21,13 +21,14 @@ pub fn polish_rows(
     locations: usize,
     legs: &[u32],
     latest: &[u32],
+    service: &[u32],
     depot: u32,
     orders: &[u8],
     masks: &[u8],
     route: &mut [u32],
 ) -> Polished
-    requires { ⌜ PolishableRows k (trip locations (now legs) (now latest) depot) (now orders) (now masks) (now route) ⌝ }
-    ensures { λ r. ⌜ Polishes (problem (trip locations (now (legs .entry)) (now (latest .entry)) depot)) (pattern-rows k (now (orders .entry)) (now (masks .entry))) k allowance (now (route .entry)) r (now (route .exit)) ⌝ }
+    requires { ⌜ PolishableRows k (trip locations (now legs) (now latest) (now service) depot) (now orders) (now masks) (now route) ⌝ }
+    ensures { λ r. ⌜ Polishes (problem (trip locations (now (legs .entry)) (now (latest .entry)) (now (service .entry)) depot)) (pattern-rows k (now (orders .entry)) (now (masks .entry))) k allowance (now (route .entry)) r (now (route .exit)) ⌝ }
 {
     let before = costs::route_length(locations, legs, depot, &route[..]);
     if route.len() + 1 < k {
@@ -46,6 +47,7 @@ pub fn polish_rows(
         locations,
         legs,
         latest,
+        service,
         depot,
         orders,
         masks,
@@ -78,11 +80,12 @@ pub fn polish_route(
     locations: usize,
     legs: &[u32],
     latest: &[u32],
+    service: &[u32],
     depot: u32,
     route: &mut [u32],
 ) -> Polished
-    requires { ⌜ Polishable k (trip locations (now legs) (now latest) depot) (now route) ⌝ }
-    ensures { λ r. ⌜ Polishes (problem (trip locations (now (legs .entry)) (now (latest .entry)) depot)) (patterns k) k allowance (now (route .entry)) r (now (route .exit)) ⌝ }
+    requires { ⌜ Polishable k (trip locations (now legs) (now latest) (now service) depot) (now route) ⌝ }
+    ensures { λ r. ⌜ Polishes (problem (trip locations (now (legs .entry)) (now (latest .entry)) (now (service .entry)) depot)) (patterns k) k allowance (now (route .entry)) r (now (route .exit)) ⌝ }
 {
     let mut orders = [0u8; ORDER_BYTES];
     let mut masks = [0u8; PATTERNS];
@@ -94,6 +97,7 @@ pub fn polish_route(
         locations,
         legs,
         latest,
+        service,
         depot,
         &orders[..width],
         &masks[..count],

@@ -84,13 +84,14 @@ pub fn question_refusal(
     locations: usize,
     legs: &[u32],
     latest: &[u32],
+    service: &[u32],
     depot: u32,
     route: &[u32],
 ) -> u32
-    ensures { λ r. ⌜ r ≡ refusal (cut-count k ∷ problem-rules (trip locations (now (legs .entry)) (now (latest .entry)) depot) (now (route .entry))) ⌝ }
+    ensures { λ r. ⌜ r ≡ refusal (cut-count k ∷ problem-rules (trip locations (now (legs .entry)) (now (latest .entry)) (now (service .entry)) depot) (now (route .entry))) ⌝ }
 {
     let bad_k = refusals::check_cut_count(k);
-    let bad_problem = refusals::check_problem(locations, legs, latest, depot, route);
+    let bad_problem = refusals::check_problem(locations, legs, latest, service, depot, route);
     refusals::first(bad_k, bad_problem)
 }
 
@@ -99,13 +100,14 @@ pub fn polish_refusal(
     locations: usize,
     legs: &[u32],
     latest: &[u32],
+    service: &[u32],
     depot: u32,
     route: &[u32],
     lent: usize,
 ) -> u32
-    ensures { λ r. ⌜ r ≡ refusal (with-room (cut-count k ∷ problem-rules (trip locations (now (legs .entry)) (now (latest .entry)) depot) (now (route .entry))) 5 lent) ⌝ }
+    ensures { λ r. ⌜ r ≡ refusal (with-room (cut-count k ∷ problem-rules (trip locations (now (legs .entry)) (now (latest .entry)) (now (service .entry)) depot) (now (route .entry))) 5 lent) ⌝ }
 {
-    let bad_question = question_refusal(k, locations, legs, latest, depot, route);
+    let bad_question = question_refusal(k, locations, legs, latest, service, depot, route);
     let bad_room = refusals::check_room(5, lent);
     refusals::first(bad_question, bad_room)
 }
@@ -131,16 +133,17 @@ pub fn run_refusal(
     locations: usize,
     legs: &[u32],
     latest: &[u32],
+    service: &[u32],
     stops: &[u32],
     lengths: &[usize],
     depots: &[u32],
     pins: &[u8],
     lent: usize,
 ) -> u32
-    ensures { λ r. ⌜ r ≡ refusal (run-rules k (tables locations (now (legs .entry)) (now (latest .entry))) (fleet (now (stops .entry)) (now (lengths .entry)) (now (depots .entry)) (now (pins .entry))) lent) ⌝ }
+    ensures { λ r. ⌜ r ≡ refusal (run-rules k (tables locations (now (legs .entry)) (now (latest .entry)) (now (service .entry))) (fleet (now (stops .entry)) (now (lengths .entry)) (now (depots .entry)) (now (pins .entry))) lent) ⌝ }
 {
     let bad_k = refusals::check_cut_count(k);
-    let bad_tables = refusals::check_tables(locations, legs, latest);
+    let bad_tables = refusals::check_tables(locations, legs, latest, service);
     let bad_rounds = rounds_refusal(locations, stops, lengths, depots, pins, lent);
     refusals::first(bad_k, refusals::first(bad_tables, bad_rounds))
 }

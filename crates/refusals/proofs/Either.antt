@@ -5,7 +5,7 @@ use Prim.Native.Nat.{ℕ, zero, suc}
 use native.Mathlib.Omega.{arith}
 use lib.ListN.{length}
 use Rattle.theory.specs.Tables.{Tables, Trip}
-use Rattle.theory.specs.Refusals.{either, refusal, number, leg-table, deadline-list, leg-sizes, known-stops, stop-count, table-rules, problem-rules}
+use Rattle.theory.specs.Refusals.{either, refusal, number, leg-table, deadline-list, leg-sizes, service-list, known-stops, stop-count, table-rules, problem-rules}
 use Rattle.theory.proofs.Refusals.{either-assoc, either-zero}
 
 pub either-none : (a b : ℕ) → a ≡ 0 → b ≡ either a b
@@ -21,7 +21,7 @@ either-some (suc a) b h = refl
 -- The rules of the tables, and then the others.
 pub tables-then : (T : Tables) (rest : ℕ) →
     either (refusal (table-rules T)) rest
-    ≡ either (number (leg-table (T .locations) (T .legs))) (either (number (deadline-list (T .locations) (T .latest))) (either (number (leg-sizes (T .legs))) rest))
+    ≡ either (number (leg-table (T .locations) (T .legs))) (either (number (deadline-list (T .locations) (T .latest))) (either (number (leg-sizes (T .legs))) (either (number (service-list (T .locations) (T .service))) rest)))
 unfolding refusal
 tables-then T rest = simp (either-assoc, either-zero)
 

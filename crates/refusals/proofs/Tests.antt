@@ -2,13 +2,14 @@
 use mathlib.Core.Path.{_≡_, refl, sym, ap, subst, _∙_}
 use mathlib.Core.Bool.{Bool, true, false, _&&_, _||_, false≢true}
 use mathlib.Core.List.{List, [], _∷_}
-use Prim.Native.Nat.{ℕ, zero, suc, _+_, _-_, _<_, _≤_}
+use Prim.Native.Nat.{ℕ, zero, suc, max, _+_, _-_, _<_, _≤_}
+use native.Mathlib.Decide.{decLt}
 use native.Mathlib.Numerals.{add-one}
 use native.Mathlib.Omega.{arith}
 use lib.Dec.{ltb, T}
 use lib.Ieee.{Float, nan, inf, fin, ne}
 use lib.Ieee.Compare.{differs-from-itself, nan-differs}
-use borrow.Author.Tests.{ltb-false}
+use borrow.Author.Tests.{ltb-false, lt-ltb, le-ltb}
 use lib.ListN.{length, getD, drop, drop-of-length-le}
 use lib.Seq.{drop-cons}
 use Rattle.theory.specs.Moves.{total}
@@ -26,6 +27,40 @@ any-more z t l i h n e = e ∙ any-drop z t l i h ∙ rw n
 
 pub any-here : {A : Type 0} (z : A) (t : A → Bool) (l : List A) (i : ℕ) → i < length l → t (getD l i z) ≡ true → any t l ≡ any t (drop i l) → true ≡ any t l
 any-here z t l i h y e = sym (e ∙ any-drop z t l i h ∙ rw y)
+
+-- ---- by the greatest so far
+
+above-both : (limit a b : ℕ) → ltb limit (max a b) ≡ (ltb limit a || ltb limit b)
+above-both limit a b = by (decLt limit a) (decLt limit b)
+  where
+    by : Dec (limit < a) → Dec (limit < b) → ltb limit (max a b) ≡ (ltb limit a || ltb limit b)
+    by (yes l) y = rw (lt-ltb limit a l) (lt-ltb limit (max a b) (omega arith))
+    by (no n) (yes l) = rw (le-ltb limit a (omega arith), lt-ltb limit b l) (lt-ltb limit (max a b) (omega arith))
+    by (no n) (no m) = rw (le-ltb limit a (omega arith), le-ltb limit b (omega arith)) (le-ltb limit (max a b) (omega arith))
+
+or-assoc : (a b c : Bool) → (a || (b || c)) ≡ ((a || b) || c)
+or-assoc true b c = refl
+or-assoc false b c = refl
+
+or-none : (a : Bool) → (a || false) ≡ a
+or-none true = refl
+or-none false = refl
+
+module _ (limit : ℕ) (l : List ℕ) where
+  pub above-none : any (λ x. ltb limit x) l ≡ (ltb limit 0 || any (λ x. ltb limit x) (drop 0 l))
+  above-none = rw (le-ltb limit 0 (omega arith))
+
+  pub above-more : (most i most′ : ℕ) → i < length l → most′ ≡ max most (getD l i 0) → any (λ x. ltb limit x) l ≡ (ltb limit most || any (λ x. ltb limit x) (drop i l)) →
+      any (λ x. ltb limit x) l ≡ (ltb limit most′ || any (λ x. ltb limit x) (drop (i + 1) l))
+  above-more most i most′ h is e =
+      e
+      ∙ ap (λ b. ltb limit most || b) (any-drop 0 (λ x. ltb limit x) l i h)
+      ∙ or-assoc (ltb limit most) (ltb limit (getD l i 0)) (any (λ x. ltb limit x) (drop (i + 1) l))
+      ∙ ap (λ b. b || any (λ x. ltb limit x) (drop (i + 1) l)) (sym (above-both limit most (getD l i 0)) ∙ ap (ltb limit) (sym is))
+
+  pub above-all : (most i : ℕ) → length l ≤ i → any (λ x. ltb limit x) l ≡ (ltb limit most || any (λ x. ltb limit x) (drop i l)) → ltb limit most ≡ any (λ x. ltb limit x) l
+  unfolding any
+  above-all most i h e = sym (e ∙ rw (drop-of-length-le l h) (or-none (ltb limit most)))
 
 pub any-none : {A : Type 0} (t : A → Bool) (l : List A) (i : ℕ) → length l ≤ i → any t l ≡ any t (drop i l) → false ≡ any t l
 unfolding any

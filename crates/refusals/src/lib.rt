@@ -1,9 +1,9 @@
 // One small check for each refusal number: the number where its rule applies to the raw input, else 0. No entry: the crates above call them.
 ghost use mathlib.Core.Path.{_≡_};
 ghost use mathlib.Core.Bool.{not};
-ghost use Prim.Native.Nat.{_≤_};
+ghost use Prim.Native.Nat.{max, _≤_};
 ghost use lib.Dec.{ltb, leb, eqb};
-ghost use Rattle.theory.specs.Refusals.{any, rises, no-number, either, number, cut-count, leg-table, deadline-list, leg-sizes, known-stops, stop-count, pattern-index, cut-positions, room, refusal, table-rules, problem-rules, cut-lists, own-round, journal-length, known-rounds, round-lists, nearby-input};
+ghost use Rattle.theory.specs.Refusals.{any, rises, no-number, either, number, cut-count, leg-table, deadline-list, leg-sizes, service-list, known-stops, stop-count, pattern-index, cut-positions, room, refusal, table-rules, problem-rules, cut-lists, own-round, journal-length, known-rounds, round-lists, nearby-input};
 ghost use Rattle.theory.specs.Moves.{total};
 ghost use Rattle.theory.specs.Tables.{tables, trip};
 ghost use Rattle.patterns.specs.Enumeration.{CutCount};
@@ -11,18 +11,27 @@ ghost use Rattle.refusals.specs.Rounds.{ShortRounds};
 
 // ---- tests over a list
 
-// Whether an entry is above the limit.
+// The greater of two.
+fn greater(a: u32, b: u32) -> u32
+    ensures { λ r. ⌜ r ≡ max a b ⌝ }
+{
+    if a < b {
+        return b;
+    }
+    a
+}
+
+// Whether an entry is above the limit: by the greatest, so that no turn of the loop leaves it and the compiler takes several entries at a time.
 pub fn any_above(entries: &[u32], limit: u32) -> bool
     ensures { λ r. ⌜ r ≡ any (λ x. ltb limit x) (now (entries .entry)) ⌝ }
 {
+    let mut most = 0u32;
     let mut i = 0;
     while i < entries.len() {
-        if limit < entries[i] {
-            return true;
-        }
+        most = greater(most, entries[i]);
         i += 1;
     }
-    false
+    limit < most
 }
 
 // Whether a stop is not below the locations.
@@ -168,6 +177,18 @@ pub fn check_leg_sizes(legs: &[u32]) -> u32
     0
 }
 
+pub fn check_service_list(locations: usize, service: &[u32]) -> u32
+    ensures { λ r. ⌜ r ≡ number (service-list locations (now (service .entry))) ⌝ }
+{
+    if service.len() != locations {
+        return 23;
+    }
+    if any_above(service, 1000000) {
+        return 23;
+    }
+    0
+}
+
 pub fn check_known_stops(locations: usize, depot: u32, route: &[u32]) -> u32
     ensures { λ r. ⌜ r ≡ number (known-stops locations depot (now (route .entry))) ⌝ }
 {
@@ -252,13 +273,14 @@ pub fn check_journal_length(n: usize, journal: usize) -> u32
 }
 
 // The tables, in the one order.
-pub fn check_tables(locations: usize, legs: &[u32], latest: &[u32]) -> u32
-    ensures { λ r. ⌜ r ≡ refusal (table-rules (tables locations (now (legs .entry)) (now (latest .entry)))) ⌝ }
+pub fn check_tables(locations: usize, legs: &[u32], latest: &[u32], service: &[u32]) -> u32
+    ensures { λ r. ⌜ r ≡ refusal (table-rules (tables locations (now (legs .entry)) (now (latest .entry)) (now (service .entry)))) ⌝ }
 {
     let bad_table = check_leg_table(locations, legs);
     let bad_latest = check_deadline_list(locations, latest);
     let bad_legs = check_leg_sizes(legs);
-    first(bad_table, first(bad_latest, bad_legs))
+    let bad_service = check_service_list(locations, service);
+    first(bad_table, first(bad_latest, first(bad_legs, bad_service)))
 }
 
 // The tables, and then the depot and a route.
@@ -266,12 +288,13 @@ pub fn check_problem(
     locations: usize,
     legs: &[u32],
     latest: &[u32],
+    service: &[u32],
     depot: u32,
     route: &[u32],
 ) -> u32
-    ensures { λ r. ⌜ r ≡ refusal (problem-rules (trip locations (now (legs .entry)) (now (latest .entry)) depot) (now (route .entry))) ⌝ }
+    ensures { λ r. ⌜ r ≡ refusal (problem-rules (trip locations (now (legs .entry)) (now (latest .entry)) (now (service .entry)) depot) (now (route .entry))) ⌝ }
 {
-    let bad_tables = check_tables(locations, legs, latest);
+    let bad_tables = check_tables(locations, legs, latest, service);
     let bad_stops = check_known_stops(locations, depot, route);
     let bad_n = check_stop_count(route.len());
     first(bad_tables, first(bad_stops, bad_n))

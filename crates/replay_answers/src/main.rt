@@ -16,29 +16,39 @@ fn show_line(call: &[u8], refused: u32, result: &[u64], name: &[u8], stops: &[u3
     write(&line[..end]);
 }
 
-// Ten locations; legs to 99 seconds but for the first, deadlines to 799. For the questions that are refused: another number of locations, a longer leg,
-// another depot.
+// The most seconds at a stop: none for every other four seeds.
+fn service_of(seed: u16) -> u16 {
+    seed / 4 % 2 * 40
+}
+
+// Ten locations; legs to 99 seconds but for the first, deadlines to 799, service times but for the first. For the questions that are refused: another
+// number of locations, a longer leg, a longer service time, another depot.
 fn show_polish(
     seed: u16,
     k: usize,
     locations: usize,
     leg: u32,
+    stay: u32,
     depot: u32,
     route: &mut [u32],
     result: &mut [u64],
 ) {
     let mut legs = [0u32; 100];
     let mut latest = [0u32; 10];
+    let mut service = [0u32; 10];
     replay_drawing::fill(seed, 99, &mut legs);
     replay_drawing::fill(seed, 799, &mut latest);
+    replay_drawing::fill(seed, service_of(seed), &mut service);
     replay_drawing::fill(seed, 9, route);
     legs[0] = leg;
+    service[0] = stay;
     let refused = mittenschist::mittenschist_polish_route(
         k,
         replay_drawing::allowance_of(seed),
         locations,
         &legs,
         &latest,
+        &service,
         depot,
         route,
         result,
@@ -50,10 +60,12 @@ fn show_polish(
 fn show_run(seed: u16, last: usize) {
     let mut legs = [0u32; 100];
     let mut latest = [0u32; 10];
+    let mut service = [0u32; 10];
     let mut stops = [0u32; 16];
     let mut result = [9u64; 13];
     replay_drawing::fill(seed, 99, &mut legs);
     replay_drawing::fill(seed, 799, &mut latest);
+    replay_drawing::fill(seed, service_of(seed), &mut service);
     replay_drawing::fill(seed, 9, &mut stops);
     let pin = (seed / 4 % 2) as u8;
     let refused = mittenschist::mittenschist_run_list_k_opt(
@@ -62,6 +74,7 @@ fn show_run(seed: u16, last: usize) {
         10,
         &legs,
         &latest,
+        &service,
         &mut stops,
         &[6, 3, last],
         &[0, 1, 2],
@@ -97,15 +110,17 @@ fn show_nearby(seed: u16) {
 
 fn show_nine(seed: u16) {
     let k = replay_drawing::cuts_of(seed);
-    show_polish(seed, k, 10, 0, 0, &mut [0u32; 9], &mut [9u64; 6]);
+    let stay = service_of(seed) as u32;
+    show_polish(seed, k, 10, 0, stay, 0, &mut [0u32; 9], &mut [9u64; 6]);
 }
 
-fn show_five(seed: u16, k: usize, locations: usize, leg: u32, depot: u32) {
+fn show_five(seed: u16, k: usize, locations: usize, leg: u32, stay: u32, depot: u32) {
     show_polish(
         seed,
         k,
         locations,
         leg,
+        stay,
         depot,
         &mut [0u32; 5],
         &mut [9u64; 6],
@@ -113,22 +128,25 @@ fn show_five(seed: u16, k: usize, locations: usize, leg: u32, depot: u32) {
 }
 
 fn show_short_result() {
-    show_polish(1, 3, 10, 0, 0, &mut [0u32; 5], &mut [9u64; 4]);
+    show_polish(1, 3, 10, 0, 0, 0, &mut [0u32; 5], &mut [9u64; 4]);
 }
 
 fn show(seed: u16) {
     show_nine(seed);
-    show_five(seed, replay_drawing::cuts_of(seed), 10, 0, 0);
+    let stay = service_of(seed) as u32;
+    show_five(seed, replay_drawing::cuts_of(seed), 10, 0, stay, 0);
     show_run(seed, 7);
     show_nearby(seed);
 }
 
 // A question for each refusal number that a small one can have.
 fn show_refused() {
-    show_five(1, 6, 10, 0, 0);
-    show_five(1, 3, 9, 0, 0);
-    show_five(1, 3, 10, 1000001, 0);
-    show_five(1, 3, 10, 0, 10);
+    show_five(1, 6, 10, 0, 0, 0);
+    show_five(1, 3, 9, 0, 0, 0);
+    show_five(1, 3, 10, 1000001, 0, 0);
+    // Before 4, which it would be too.
+    show_five(1, 3, 10, 0, 1000001, 10);
+    show_five(1, 3, 10, 0, 0, 10);
     show_short_result();
     show_run(1, 8);
     show_nearby(29);

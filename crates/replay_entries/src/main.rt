@@ -20,11 +20,11 @@ fn show_length(accepted: u64, length: RouteLength) {
 }
 
 // The pair loop up to an allowance.
-fn show_pairs_of(allowance: u64, legs: &[u32], latest: &[u32], route: &mut [u32]) {
-    if refusals::check_problem(5, legs, latest, 0, &route[..]) != 0 {
+fn show_pairs_of(allowance: u64, legs: &[u32], latest: &[u32], service: &[u32], route: &mut [u32]) {
+    if refusals::check_problem(5, legs, latest, service, 0, &route[..]) != 0 {
         return;
     }
-    let tried = pair_loop::pair_loop(allowance, 5, legs, latest, 0, route);
+    let tried = pair_loop::pair_loop(allowance, 5, legs, latest, service, 0, route);
     show_length(
         tried.accepted,
         mittenschist::route_length(5, legs, 0, &route[..]),
@@ -60,7 +60,13 @@ fn show_pairs(allowance: u64) {
         1,
         0,
     ];
-    show_pairs_of(allowance, &legs, &[4294967295u32; 5], &mut [1u32, 2, 3, 4]);
+    show_pairs_of(
+        allowance,
+        &legs,
+        &[4294967295u32; 5],
+        &[0u32; 5],
+        &mut [1u32, 2, 3, 4],
+    );
 }
 
 // A listing's word and number, and the buffer.

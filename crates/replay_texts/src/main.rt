@@ -16,38 +16,86 @@ fn show_text(text: &[u8]) {
 // Texts that are not of the form, one fault each: of the lines,
 fn show_malformed_lines() {
     show_text(b"");
-    show_text(b"k=2\nallowance=1\nlocations=1\ndepot=0\nlegs=0\nlatest=0\nround=0");
-    show_text(b"k=2\r\nallowance=1\nlocations=1\ndepot=0\nlegs=0\nlatest=0\nround=0\n");
-    show_text(b"k=2\n\nallowance=1\nlocations=1\ndepot=0\nlegs=0\nlatest=0\nround=0\n");
-    show_text(b"allowance=1\nk=2\nlocations=1\ndepot=0\nlegs=0\nlatest=0\nround=0\n");
-    show_text(b"k=9\nallowance=1\nlocations=1\ndepot=0\nlegs=0\nlatest=0\nround=0\nround=0\n");
+    show_text(b"k=2\nallowance=1\nlocations=1\ndepot=0\nlegs=0\nlatest=0\nservice=0\nround=0");
+    show_text(b"k=2\r\nallowance=1\nlocations=1\ndepot=0\nlegs=0\nlatest=0\nservice=0\nround=0\n");
+    show_text(b"k=2\n\nallowance=1\nlocations=1\ndepot=0\nlegs=0\nlatest=0\nservice=0\nround=0\n");
+    show_text(b"allowance=1\nk=2\nlocations=1\ndepot=0\nlegs=0\nlatest=0\nservice=0\nround=0\n");
+    show_text(
+        b"k=9\nallowance=1\nlocations=1\ndepot=0\nlegs=0\nlatest=0\nservice=0\nround=0\nround=0\n",
+    );
 }
 
 // of the numbers,
 fn show_malformed_numbers() {
-    show_text(b"k= 2\nallowance=1\nlocations=1\ndepot=0\nlegs=0\nlatest=0\nround=0\n");
-    show_text(b"k=+2\nallowance=1\nlocations=1\ndepot=0\nlegs=0\nlatest=0\nround=0\n");
-    show_text(b"k=02\nallowance=1\nlocations=1\ndepot=0\nlegs=0\nlatest=0\nround=0\n");
-    show_text(b"k=2\nallowance=4294967296\nlocations=1\ndepot=0\nlegs=0\nlatest=0\nround=0\n");
+    show_text(b"k= 2\nallowance=1\nlocations=1\ndepot=0\nlegs=0\nlatest=0\nservice=0\nround=0\n");
+    show_text(b"k=+2\nallowance=1\nlocations=1\ndepot=0\nlegs=0\nlatest=0\nservice=0\nround=0\n");
+    show_text(b"k=02\nallowance=1\nlocations=1\ndepot=0\nlegs=0\nlatest=0\nservice=0\nround=0\n");
+    show_text(
+        b"k=2\nallowance=4294967296\nlocations=1\ndepot=0\nlegs=0\nlatest=0\nservice=0\nround=0\n",
+    );
 }
 
 // and of the lists.
 fn show_malformed_lists() {
-    show_text(b"k=2\nallowance=1\nlocations=1\ndepot=0\nlegs=0,0\nlatest=0\nround=0\n");
-    show_text(b"k=2\nallowance=1\nlocations=97\ndepot=0\nlegs=0\nlatest=0\nround=0\n");
-    show_text(b"k=2\nallowance=1\nlocations=1\ndepot=0\nlegs=0\nlatest=0\nround=0,\n");
-    show_text(b"k=2\nallowance=1\nlocations=1\ndepot=0\nlegs=0\nlatest=0\nround=,\n");
+    show_text(b"k=2\nallowance=1\nlocations=1\ndepot=0\nlegs=0,0\nlatest=0\nservice=0\nround=0\n");
+    show_text(b"k=2\nallowance=1\nlocations=97\ndepot=0\nlegs=0\nlatest=0\nservice=0\nround=0\n");
+    show_text(b"k=2\nallowance=1\nlocations=1\ndepot=0\nlegs=0\nlatest=0\nservice=0\nround=0,\n");
+    show_text(b"k=2\nallowance=1\nlocations=1\ndepot=0\nlegs=0\nlatest=0\nservice=0\nround=,\n");
 }
 
 // Texts of the form with a value beyond its bound, and two that are answered.
 fn show_judged() {
     show_text(
-        b"k=4294967295\nallowance=1\nlocations=1\ndepot=1\nlegs=1000001\nlatest=0\nround=0\n",
+        b"k=4294967295\nallowance=1\nlocations=1\ndepot=1\nlegs=1000001\nlatest=0\nservice=0\nround=0\n",
     );
-    show_text(b"k=2\nallowance=1\nlocations=1\ndepot=1\nlegs=1000001\nlatest=0\nround=0\n");
-    show_text(b"k=2\nallowance=1\nlocations=1\ndepot=1\nlegs=1000000\nlatest=0\nround=0\n");
-    show_text(b"k=2\nallowance=0\nlocations=1\ndepot=0\nlegs=7\nlatest=0\nround=\n");
+    show_text(
+        b"k=2\nallowance=1\nlocations=1\ndepot=1\nlegs=1000001\nlatest=0\nservice=0\nround=0\n",
+    );
+    show_text(
+        b"k=2\nallowance=1\nlocations=1\ndepot=1\nlegs=1000000\nlatest=0\nservice=0\nround=0\n",
+    );
+    show_text(b"k=2\nallowance=0\nlocations=1\ndepot=0\nlegs=7\nlatest=0\nservice=0\nround=\n");
+    show_text(b"k=2\nallowance=0\nlocations=1\ndepot=0\nlegs=7\nlatest=0\nservice=0\nround=0\n");
+}
+
+// Document 01's example with no service; with 10 seconds at location 2, behind which location 1 is reached at 12, the depot's service or none.
+fn show_service() {
+    show_text(
+        b"k=3\nallowance=100\nlocations=3\ndepot=0\nlegs=0,5,1\nlegs=1,0,5\nlegs=5,1,0\nlatest=4294967295,4294967295,4294967295\nservice=0,0,0\nround=1,2\n",
+    );
+    show_text(
+        b"k=3\nallowance=100\nlocations=3\ndepot=0\nlegs=0,5,1\nlegs=1,0,5\nlegs=5,1,0\nlatest=4294967295,11,4294967295\nservice=0,0,10\nround=1,2\n",
+    );
+    show_text(
+        b"k=3\nallowance=100\nlocations=3\ndepot=0\nlegs=0,5,1\nlegs=1,0,5\nlegs=5,1,0\nlatest=4294967295,12,4294967295\nservice=0,0,10\nround=1,2\n",
+    );
+    show_text(
+        b"k=3\nallowance=100\nlocations=3\ndepot=0\nlegs=0,5,1\nlegs=1,0,5\nlegs=5,1,0\nlatest=4294967295,12,4294967295\nservice=9,0,10\nround=1,2\n",
+    );
+    show_text(
+        b"k=2\nallowance=0\nlocations=1\ndepot=0\nlegs=7\nlatest=0\nservice=1000000\nround=0\n",
+    );
+}
+
+// Service times that are too long, beside what comes before and behind them in the one order; and too few or too many of them.
+fn show_bad_service() {
+    show_text(
+        b"k=2\nallowance=0\nlocations=1\ndepot=0\nlegs=7\nlatest=0\nservice=1000001\nround=0\n",
+    );
+    show_text(
+        b"k=2\nallowance=0\nlocations=1\ndepot=0\nlegs=1000001\nlatest=0\nservice=1000001\nround=0\n",
+    );
+    show_text(
+        b"k=2\nallowance=0\nlocations=1\ndepot=1\nlegs=7\nlatest=0\nservice=1000001\nround=0\n",
+    );
+    show_text(
+        b"k=3\nallowance=100\nlocations=3\ndepot=0\nlegs=0,5,1\nlegs=1,0,5\nlegs=5,1,0\nlatest=4294967295,12,4294967295\nservice=0,0\nround=1,2\n",
+    );
+    show_text(
+        b"k=3\nallowance=100\nlocations=3\ndepot=0\nlegs=0,5,1\nlegs=1,0,5\nlegs=5,1,0\nlatest=4294967295,12,4294967295\nservice=0,0,0,0\nround=1,2\n",
+    );
     show_text(b"k=2\nallowance=0\nlocations=1\ndepot=0\nlegs=7\nlatest=0\nround=0\n");
+    show_text(b"k=2\nallowance=0\nlocations=1\ndepot=0\nlegs=7\nlatest=0\nservice=\nround=0\n");
 }
 
 // A byte of a text: the header, and then one stop after the other.
@@ -69,14 +117,14 @@ fn fill_round(header: &[u8], text: &mut [u8]) {
 
 // 600 stops, the last of them as given.
 fn show_600_stops(last: u8, before: u8) {
-    let mut text = [0u8; 1258];
+    let mut text = [0u8; 1268];
     fill_round(
-        b"k=2\nallowance=1\nlocations=1\ndepot=0\nlegs=0\nlatest=0\nround=",
+        b"k=2\nallowance=1\nlocations=1\ndepot=0\nlegs=0\nlatest=0\nservice=0\nround=",
         &mut text,
     );
-    text[1255] = before;
-    text[1256] = last;
-    text[1257] = b'\n';
+    text[1265] = before;
+    text[1266] = last;
+    text[1267] = b'\n';
     show_text(&text);
 }
 
@@ -84,14 +132,14 @@ fn show_600_stops(last: u8, before: u8) {
 fn show_longest() {
     let mut text = [0u8; 60000];
     fill_round(
-        b"k=2\nallowance=1\nlocations=1\ndepot=0\nlegs=0\nlatest=0\nround=",
+        b"k=2\nallowance=1\nlocations=1\ndepot=0\nlegs=0\nlatest=0\nservice=0\nround=",
         &mut text,
     );
     text[59999] = b'\n';
     show_text(&text);
     let mut longer = [0u8; 60001];
     fill_round(
-        b"k=2\nallowance=10\nlocations=1\ndepot=0\nlegs=0\nlatest=0\nround=",
+        b"k=2\nallowance=10\nlocations=1\ndepot=0\nlegs=0\nlatest=0\nservice=0\nround=",
         &mut longer,
     );
     longer[60000] = b'\n';
@@ -103,6 +151,8 @@ fn main() {
     show_malformed_numbers();
     show_malformed_lists();
     show_judged();
+    show_service();
+    show_bad_service();
     show_600_stops(b'0', b',');
     show_600_stops(b'1', b',');
     show_600_stops(b'1', b'0');

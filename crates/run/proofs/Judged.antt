@@ -10,7 +10,7 @@ use Rattle.theory.specs.Tables.{Tables, Fleet}
 use Rattle.theory.specs.Moves.{total}
 use Rattle.theory.specs.Refusals.{any, cut-count, known-rounds, round-lists, table-rules}
 use Rattle.theory.proofs.Refusals.{Passes}
-use Rattle.theory.proofs.Judged.{or-false, none-at, cut-count-fine, table-fine, deadlines-fine}
+use Rattle.theory.proofs.Judged.{or-false, none-at, cut-count-fine, table-fine, times-fine}
 use Rattle.run.specs.Run.{Runnable}
 
 pub runnable-fine : (k : ℕ) (T : Tables) (F : Fleet) (result : List ℕ) →
@@ -33,7 +33,7 @@ runnable-fine k T F result a t e f g =
       least = n .0;
       most = n .1;
       table = table-fine (T .locations) (T .legs) (t .0) (t .1 .1 .0);
-      deadlines = deadlines-fine (T .locations) (T .latest) (t .1 .0);
+      times = times-fine T (t .1 .0) (t .1 .1 .1 .0);
       stops-known = λ i h. leb-false (T .locations) (getD (F .stops) i 0) (none-at (λ s. leb (T .locations) s) (F .stops) (p .1) i h);
       depots-known = λ i h. leb-false (T .locations) (getD (F .depots) i 0) (none-at (λ s. leb (T .locations) s) (F .depots) (p .0) i h);
       few = ltb-false 64 (length (F .lengths)) (q₄ .0);

@@ -21,7 +21,7 @@ pub record Ask : Type 0 where
   pub stops : List ℕ
 
 abbrev tables-of : Ask → Tables
-tables-of q = tables 5 (flatten (q .legs)) (replicate 11 4294967295)
+tables-of q = tables 5 (flatten (q .legs)) (replicate 11 4294967295) []
 
 -- Four numbers a round, and then the stops.
 unfoldable pub answer : Ask → List ℕ

@@ -122,7 +122,7 @@ module _ (k A : ℕ) (T : Tables) (F : Fleet) (result₀ : List ℕ) where
                       rw f (ok .stops-known (n + j) (omega (arith, m, within (F .lengths) i more, ok .end-to-end)));
                 });
               };
-              deadlines = ok .deadlines;
+              times = ok .times;
             };
           }
 

@@ -6,7 +6,7 @@ use lib.ListN.{length, getD, take, drop}
 use Rattle.theory.specs.Moves.{patterns, total, upfrom}
 use Rattle.theory.specs.Route.{count}
 use Rattle.theory.specs.Polish.{KOptimal}
-use Rattle.theory.specs.Tables.{Tables, Trip, Fleet, problem, LegTable}
+use Rattle.theory.specs.Tables.{Tables, Trip, Fleet, problem, LegTable, Times}
 use Rattle.theory.specs.Answers.{round-values}
 use Rattle.run_numbers.specs.States.{examined-of, Finished}
 use Rattle.run.specs.Round.{Outcome, run-round}
@@ -56,7 +56,7 @@ pub record Runnable (k : ℕ) (T : Tables) (F : Fleet) (result : List ℕ) : Typ
   pub least : 2 ≤ k
   pub most : k ≤ 5
   pub table : LegTable (T .locations) (T .legs)
-  pub deadlines : length (T .latest) ≡ T .locations
+  pub times : Times T
   pub stops-known : (i : ℕ) → i < length (F .stops) → getD (F .stops) i 0 < T .locations
   pub depots-known : (i : ℕ) → i < length (F .depots) → getD (F .depots) i 0 < T .locations
   pub few : length (F .lengths) ≤ 64

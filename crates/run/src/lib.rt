@@ -11,14 +11,15 @@ pub fn run_list_k_opt_in_phase(
     locations: usize,
     legs: &[u32],
     latest: &[u32],
+    service: &[u32],
     stops: &mut [u32],
     lengths: &[usize],
     depots: &[u32],
     pins: &[u8],
     result: &mut [u64],
 )
-    requires { ⌜ Runnable k (tables locations (now legs) (now latest)) (fleet (now stops) (now lengths) (now depots) (now pins)) (now result) ⌝ }
-    ensures { λ _. ⌜ Ran k allowance (tables locations (now (legs .entry)) (now (latest .entry))) (fleet (now (stops .entry)) (now (lengths .entry)) (now (depots .entry)) (now (pins .entry))) (now (result .entry)) (now (stops .exit)) (now (result .exit)) ⌝ }
+    requires { ⌜ Runnable k (tables locations (now legs) (now latest) (now service)) (fleet (now stops) (now lengths) (now depots) (now pins)) (now result) ⌝ }
+    ensures { λ _. ⌜ Ran k allowance (tables locations (now (legs .entry)) (now (latest .entry)) (now (service .entry))) (fleet (now (stops .entry)) (now (lengths .entry)) (now (depots .entry)) (now (pins .entry))) (now (result .entry)) (now (stops .exit)) (now (result .exit)) ⌝ }
 {
     let mut left = allowance;
     let mut at = 0;
@@ -28,7 +29,7 @@ pub fn run_list_k_opt_in_phase(
         let depot = depots[i];
         let pin = pins[i];
         let route = &mut stops[at..end];
-        let state = round::run_round(k, left, locations, legs, latest, depot, pin, route);
+        let state = round::run_round(k, left, locations, legs, latest, service, depot, pin, route);
         let row = 4 * i;
         let row_end = row + 4;
         run_numbers::put_state(state, &mut result[row..row_end]);

@@ -23,21 +23,22 @@ fn polish_round(
     locations: usize,
     legs: &[u32],
     latest: &[u32],
+    service: &[u32],
     depot: u32,
     route: &mut [u32],
 ) -> Replied
-    requires { ⌜ Polishable k (trip locations (now legs) (now latest) depot) (now route) ⌝ }
-    ensures { λ r. ⌜ Replies (problem (trip locations (now (legs .entry)) (now (latest .entry)) depot)) k left (now (route .entry)) r (now (route .exit)) ⌝ }
+    requires { ⌜ Polishable k (trip locations (now legs) (now latest) (now service) depot) (now route) ⌝ }
+    ensures { λ r. ⌜ Replies (problem (trip locations (now (legs .entry)) (now (latest .entry)) (now (service .entry)) depot)) k left (now (route .entry)) r (now (route .exit)) ⌝ }
 {
     if k == 2 {
-        let pairs = pair_loop::pair_loop(left, locations, legs, latest, depot, route);
+        let pairs = pair_loop::pair_loop(left, locations, legs, latest, service, depot, route);
         return Replied {
             finished: pairs.finished,
             examined: pairs.examined,
             accepted: pairs.accepted,
         };
     }
-    match polishing::polish_route(k, left, locations, legs, latest, depot, route) {
+    match polishing::polish_route(k, left, locations, legs, latest, service, depot, route) {
         Polished::Finished(counts) => Replied {
             finished: true,
             examined: counts.examined,
@@ -68,16 +69,17 @@ fn polish_or_put_back(
     locations: usize,
     legs: &[u32],
     latest: &[u32],
+    service: &[u32],
     depot: u32,
     route: &mut [u32],
 ) -> RoundState
-    requires { ⌜ Polishable k (trip locations (now legs) (now latest) depot) (now route) ⌝ }
-    ensures { λ r. ⌜ Ends (outcome (now (route .entry)) (polish-round (problem (trip locations (now (legs .entry)) (now (latest .entry)) depot)) k left (now (route .entry)))) r (now (route .exit)) ⌝ }
+    requires { ⌜ Polishable k (trip locations (now legs) (now latest) (now service) depot) (now route) ⌝ }
+    ensures { λ r. ⌜ Ends (outcome (now (route .entry)) (polish-round (problem (trip locations (now (legs .entry)) (now (latest .entry)) (now (service .entry)) depot)) k left (now (route .entry)))) r (now (route .exit)) ⌝ }
 {
     let n = route.len();
     let mut old = [0u32; STOPS];
     reconnection::copy_in(&route[..], &mut old, 0);
-    let reply = polish_round(k, left, locations, legs, latest, depot, route);
+    let reply = polish_round(k, left, locations, legs, latest, service, depot, route);
     keep_or_put_back(reply.finished, &old[..n], route);
     run_numbers::state_after(reply.finished, reply.examined, reply.accepted)
 }
@@ -89,12 +91,13 @@ pub fn run_round(
     locations: usize,
     legs: &[u32],
     latest: &[u32],
+    service: &[u32],
     depot: u32,
     pin: u8,
     route: &mut [u32],
 ) -> RoundState
-    requires { ⌜ Polishable k (trip locations (now legs) (now latest) depot) (now route) ⌝ }
-    ensures { λ r. ⌜ RoundRan (problem (trip locations (now (legs .entry)) (now (latest .entry)) depot)) k left pin (now (route .entry)) r (now (route .exit)) ⌝ }
+    requires { ⌜ Polishable k (trip locations (now legs) (now latest) (now service) depot) (now route) ⌝ }
+    ensures { λ r. ⌜ RoundRan (problem (trip locations (now (legs .entry)) (now (latest .entry)) (now (service .entry)) depot)) k left pin (now (route .entry)) r (now (route .exit)) ⌝ }
 {
     if left == 0 {
         return RoundState::NotReached;
@@ -105,5 +108,5 @@ pub fn run_round(
     if route.len() < 4 {
         return RoundState::Short;
     }
-    polish_or_put_back(k, left, locations, legs, latest, depot, route)
+    polish_or_put_back(k, left, locations, legs, latest, service, depot, route)
 }

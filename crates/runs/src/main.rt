@@ -61,10 +61,11 @@ fn show_cut_sets(k: usize, cuts: &mut [usize]) {
     write(&line[..end]);
 }
 
-// The text case T with another k, allowance, longest leg or deadline of location 1.
-fn show_t(k: usize, allowance: u64, leg: u32, latest: u32) {
+// The text case T with another k, allowance, longest leg, deadline of location 1 or service of location 2.
+fn show_t(k: usize, allowance: u64, leg: u32, latest: u32, service: u32) {
     let legs = [0u32, leg, 1, 1, 0, 5, 5, 1, 0];
     let deadlines = [4294967295u32, latest, 4294967295];
+    let services = [0u32, 0, service];
     let mut route = [1u32, 2];
     let mut result = [9u64; 7];
     let refused = mittenschist::mittenschist_polish_route(
@@ -73,6 +74,7 @@ fn show_t(k: usize, allowance: u64, leg: u32, latest: u32) {
         3,
         &legs,
         &deadlines,
+        &services,
         0,
         &mut route,
         &mut result,
@@ -84,6 +86,7 @@ fn show_t(k: usize, allowance: u64, leg: u32, latest: u32) {
 fn show_long(route: &mut [u32]) {
     let legs = [1u32];
     let deadlines = [4294967295u32];
+    let services = [0u32];
     let mut result = [9u64; 7];
     let refused = mittenschist::mittenschist_polish_route(
         3,
@@ -91,6 +94,7 @@ fn show_long(route: &mut [u32]) {
         1,
         &legs,
         &deadlines,
+        &services,
         0,
         route,
         &mut result,
@@ -121,22 +125,30 @@ fn show_cut_set_counts() {
 
 // T as document 01 asks it,
 fn show_starred() {
-    show_t(3, 100, 5, 4294967295);
-    show_t(3, 11, 5, 4294967295);
-    show_t(3, 10, 5, 4294967295);
-    show_t(3, 3, 5, 4294967295);
-    show_t(3, 100, 5, 1);
-    show_t(3, 100, 5, 2);
-    show_t(4, 100, 5, 4294967295);
+    show_t(3, 100, 5, 4294967295, 0);
+    show_t(3, 11, 5, 4294967295, 0);
+    show_t(3, 10, 5, 4294967295, 0);
+    show_t(3, 3, 5, 4294967295, 0);
+    show_t(3, 100, 5, 1, 0);
+    show_t(3, 100, 5, 2, 0);
+    show_t(4, 100, 5, 4294967295, 0);
+}
+
+// with time on the lamp at location 2,
+fn show_service() {
+    show_t(3, 100, 5, 11, 10);
+    show_t(3, 100, 5, 12, 10);
 }
 
 // and at other bounds.
 fn show_bounds() {
-    show_t(4, 0, 5, 4294967295);
-    show_t(2, 100, 5, 4294967295);
-    show_t(3, 4, 5, 4294967295);
-    show_t(3, 100, 1000001, 4294967295);
-    show_t(6, 100, 1000001, 4294967295);
+    show_t(4, 0, 5, 4294967295, 0);
+    show_t(2, 100, 5, 4294967295, 0);
+    show_t(3, 4, 5, 4294967295, 0);
+    show_t(3, 100, 1000001, 4294967295, 0);
+    show_t(6, 100, 1000001, 4294967295, 0);
+    show_t(3, 100, 5, 4294967295, 1000000);
+    show_t(3, 100, 5, 4294967295, 1000001);
     show_long(&mut [0u32; 512]);
     show_long(&mut [0u32; 513]);
 }
@@ -145,5 +157,6 @@ fn main() {
     show_patterns();
     show_cut_set_counts();
     show_starred();
+    show_service();
     show_bounds();
 }

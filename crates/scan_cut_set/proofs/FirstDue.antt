@@ -14,22 +14,24 @@ use Rattle.scan_joints.specs.JointTable.{chain}
 use Rattle.deadline_dues.specs.Dues.{in-time, RowTimed}
 use Rattle.scan_cut_set.specs.Gain.{due-gain, Chains, NextShorter, DueRows, FirstDue}
 
-module _ {J rows D : List ℕ} {m clock below shorter limit : ℕ} (given : DueRows J rows D m clock below shorter limit) where
+module _ {J rows S D : List ℕ} {m clock below shorter limit : ℕ} (given : DueRows J rows S D m clock below shorter limit) where
   abbrev timed : ℕ → Bool
-  timed x = in-time J D 9 clock (slice (4 * x) (4 * x + m) rows)
+  timed x = in-time J S D 9 clock (slice (4 * x) (4 * x + m) rows)
 
   abbrev gain : ℕ → Bool
-  gain x = due-gain J rows D m clock below x
+  gain x = due-gain J rows S D m clock below x
 
   pub chains-from : (from : ℕ) → from ≤ limit → Chains J rows from limit
   chains-from from h = let c = given .chains in record { padded = c .padded; places = c .places; few = c .few; within = h; known = c .known }
 
-  pub row-timed : (i : ℕ) → i < limit → RowTimed J rows D i m clock
+  pub row-timed : (i : ℕ) → i < limit → RowTimed J rows S D i m clock
   row-timed i h =
       record {
         padded = given .chains .padded;
         places = given .chains .places;
         due-places = given .due-places;
+        stay-places = given .stay-places;
+        brief = given .brief;
         within = omega (arith, given .chains .few);
         few = given .most;
         known = given .states i h;
@@ -51,7 +53,7 @@ module _ {J rows D : List ℕ} {m clock below shorter limit : ℕ} (given : DueR
   pub due-late : (i : ℕ) → false ≡ timed i → ((x : ℕ) → x < i → gain x ≡ false) → (x : ℕ) → x < i + 1 → gain x ≡ false
   due-late i e before = below-more (λ x. gain x ≡ false) i before (ap (λ b. b && ltb (chain J 9 (row rows i)) below) (sym e))
 
-  pub due-found : (i : ℕ) → i < limit → chain J 9 (row rows i) < below → ((x : ℕ) → x < i → gain x ≡ false) → true ≡ timed i → FirstDue J rows D m clock below limit i
+  pub due-found : (i : ℕ) → i < limit → chain J 9 (row rows i) < below → ((x : ℕ) → x < i → gain x ≡ false) → true ≡ timed i → FirstDue J rows S D m clock below limit i
   due-found i h l before t =
       record {
         within = omega arith;
@@ -59,5 +61,5 @@ module _ {J rows D : List ℕ} {m clock below shorter limit : ℕ} (given : DueR
         gains = λ n. ap (λ b. b && ltb (chain J 9 (row rows i)) below) (sym t) ∙ lt-ltb (chain J 9 (row rows i)) below l;
       }
 
-  pub due-not-found : (i : ℕ) → limit ≤ i → i ≤ limit → ((x : ℕ) → x < i → gain x ≡ false) → FirstDue J rows D m clock below limit i
+  pub due-not-found : (i : ℕ) → limit ≤ i → i ≤ limit → ((x : ℕ) → x < i → gain x ≡ false) → FirstDue J rows S D m clock below limit i
   due-not-found i h l before = record { within = l; passed = before; gains = λ n. absurd (omega arith) }

@@ -9,7 +9,7 @@ use lib.Dec.{ltb, leb}
 use lib.ListN.{length, getD}
 use lib.Seq.{slice}
 use borrow.Author.Tests.{lt-ltb, le-ltb, le-leb, lt-leb}
-use Rattle.theory.specs.Moves.{Pattern}
+use Rattle.theory.specs.Moves.{Pattern, total}
 use Rattle.theory.specs.Route.{Problem, Clock, path, tour-length, reconnected, feasible, on-time}
 use Rattle.theory.specs.Costs.{last-of}
 use Rattle.theory.specs.Scan.{improves}
@@ -20,8 +20,10 @@ use Rattle.deadlines.specs.Lateness.{lateness}
 use Rattle.scan_joints.specs.States.{row, standing-row, Patterned}
 use Rattle.scan_joints.specs.JointTable.{chain, JointOf}
 use Rattle.scan_joints.proofs.Chain.{chain-delta}
-use Rattle.deadline_dues.specs.Parts.{head, middle}
-use Rattle.deadline_dues.specs.Dues.{in-time, DuesOf}
+use Rattle.deadline_dues.specs.Due.{DuesRead}
+use Rattle.deadline_dues.specs.Parts.{head, middle, HeadTimed, HeadClock}
+use Rattle.deadline_dues.specs.Dues.{in-time, StaysOf, DuesOf}
+use Rattle.deadline_dues.proofs.Head.{head-left}
 use Rattle.deadline_dues.proofs.InTime.{row-kept, row-known}
 use Rattle.deadline_dues.proofs.Judged.{candidate-judged}
 use Rattle.scan_cut_set.specs.Gain.{below, due-gain, Searchable, Findable, Chains, NextShorter, Tabled, FirstGain, DueRows, FirstDue}
@@ -55,11 +57,11 @@ module _ {T : Trip} {r cs rows J : List ℕ} {ps : List Pattern} {limit : ℕ}
   cost i = chain J 9 (row rows i)
 
   -- When the head is left.
-  abbrev clock : ℕ
-  clock = path (P .leg) (T .depot) (head r cs)
+  abbrev now : ℕ
+  now = path (C .step) (T .depot) (head r cs)
 
   abbrev middle-on-time : ℕ → Bool
-  middle-on-time i = on-time C (last-of (T .depot) (head r cs)) clock (middle r cs (pattern i .order) (pattern i .mask))
+  middle-on-time i = on-time C (last-of (T .depot) (head r cs)) now (middle r cs (pattern i .order) (pattern i .mask))
 
   pub chains : (from : ℕ) → from ≤ limit → Chains J rows from limit
   chains from h =
@@ -111,17 +113,17 @@ module _ {T : Trip} {r cs rows J : List ℕ} {ps : List Pattern} {limit : ℕ}
         }
 
     -- With the dues of the states.
-    module _ (D : List ℕ) (dues : DuesOf C cs r D) where
-      gain-due : (i : ℕ) → i < limit → gain i ≡ due-gain J rows D (length cs - 1) clock (below standing late) i
+    module _ (S D : List ℕ) (stays : StaysOf (T .tables .service) cs r S) (dues : DuesOf C cs r D) where
+      gain-due : (i : ℕ) → i < limit → gain i ≡ due-gain J rows S D (length cs - 1) now (below standing late) i
       gain-due i h =
           let k : i < length ps = omega (arith, given .allowed) in
           gain-is i k
           ∙ ap (λ b. b && ltb (cost i) (below standing late))
-          (sym (row-kept C cs r J D (given .cut-set) (given .joined) dues (pattern i .order) rows (pattern i .mask) i clock (given .patterned .for-k i k) (given .patterned .each i k)))
+          (sym (row-kept (T .tables) cs r J S D (given .cut-set) (given .joined) stays dues (pattern i .order) rows (pattern i .mask) i now (given .patterned .for-k i k) (given .patterned .each i k)))
 
-      pub first-due-gain : (b i : ℕ) → b ≡ below standing late → FirstDue J rows D (length cs - 1) clock b limit i → FirstGain P ps (length cs) r cs limit i
+      pub first-due-gain : (b i : ℕ) → b ≡ below standing late → FirstDue J rows S D (length cs - 1) now b limit i → FirstGain P ps (length cs) r cs limit i
       first-due-gain b i e f =
-          let d : FirstDue J rows D (length cs - 1) clock (below standing late) limit i = rw e at f in
+          let d : FirstDue J rows S D (length cs - 1) now (below standing late) limit i = rw e at f in
           record {
             within = d .within;
             passed = λ x h. gain-due x (omega (arith, d .within)) ∙ d .passed x h;
@@ -129,12 +131,14 @@ module _ {T : Trip} {r cs rows J : List ℕ} {ps : List Pattern} {limit : ℕ}
           }
 
   -- The rows can be judged by the dues.
-  pub due-rows : (D : List ℕ) → length D ≡ 9 → (b shorter : ℕ) → clock ≤ 2 ^ 40 → NextShorter J rows b 0 limit shorter → DueRows J rows D (length cs - 1) clock b shorter limit
-  due-rows D places b shorter e next =
+  pub due-rows : (S D : List ℕ) → StaysOf (T .tables .service) cs r S → length D ≡ 9 → (b shorter : ℕ) → now ≤ 2 ^ 40 → NextShorter J rows b 0 limit shorter → DueRows J rows S D (length cs - 1) now b shorter limit
+  due-rows S D stays places b shorter e next =
       record {
         chains = chains 0 (omega arith);
         most = omega (arith, given .cut-set .most);
         due-places = places;
+        stay-places = stays .places;
+        brief = stays .brief;
         states = λ i h c l m.
             let k : i < length ps = omega (arith, given .allowed) in
             row-known (length cs) (pattern i .order) rows (pattern i .mask) i (given .cut-set .least) (given .cut-set .most) (given .patterned .for-k i k) (given .patterned .each i k) c l m;
@@ -142,13 +146,36 @@ module _ {T : Trip} {r cs rows J : List ℕ} {ps : List Pattern} {limit : ℕ}
         first = next;
       }
 
+-- ---- what the step reads
+
+module _ {T : Trip} {r forwards backwards stayed cs : List ℕ} (given : Searchable T r forwards backwards stayed cs) where
+  pub dues-read : DuesRead (T .tables) r backwards stayed
+  dues-read =
+      let m = given .timed .measurable in
+      record { table = m .table; times = given .timed .times; stops = m .stops; backwards = given .backwards; stays = given .stays }
+
+  pub head-timed : HeadTimed (T .tables .locations) (T .tables .legs) (T .depot) r forwards stayed cs
+  unfolding total
+  head-timed =
+      record {
+        measurable = given .timed .measurable;
+        forwards = given .forwards;
+        places = given .stays .places;
+        none = given .stays .each 0 (omega arith);
+        small = given .stays .small;
+        cut-set = given .cut-set;
+      }
+
+  pub clock-told : {v : ℕ} → HeadClock (T .tables .locations) (T .tables .legs) (T .depot) r stayed cs v → v ≡ path (clock-by (T .tables) .step) (T .depot) (head r cs)
+  clock-told h = head-left (T .tables) (given .stays) (given .cut-set) h
+
 -- Once the joint table is filled.
-pub tabled : {T : Trip} {r forwards backwards cs rows J : List ℕ} {ps : List Pattern} {limit : ℕ} →
-    Searchable T r forwards backwards cs → Patterned (length cs) ps rows → limit ≤ length ps → JointOf (T .tables .locations) (T .tables .legs) (T .depot) r cs J → Tabled T r cs ps rows J limit
+pub tabled : {T : Trip} {r forwards backwards stayed cs rows J : List ℕ} {ps : List Pattern} {limit : ℕ} →
+    Searchable T r forwards backwards stayed cs → Patterned (length cs) ps rows → limit ≤ length ps → JointOf (T .tables .locations) (T .tables .legs) (T .depot) r cs J → Tabled T r cs ps rows J limit
 tabled s w l j = record { timed = s .timed; cut-set = s .cut-set; patterned = w; allowed = l; joined = j }
 
 -- What is read of the lateness is that of the tail.
-pub told-late : {T : Trip} {r forwards backwards cs rows late J D : List ℕ} {limit : ℕ} →
-    Findable T r forwards backwards cs rows late J D limit → {v : ℕ} → v ≡ getD late (getD cs (length cs - 1) 0) 0 →
+pub told-late : {T : Trip} {r forwards backwards stayed cs rows late J D : List ℕ} {limit : ℕ} →
+    Findable T r forwards backwards stayed cs rows late J D limit → {v : ℕ} → v ≡ getD late (getD cs (length cs - 1) 0) 0 →
     v ≡ lateness (clock-by (T .tables)) (T .depot) r (getD cs (length cs - 1) 0)
 told-late {r = r} {cs = cs} given e = e ∙ given .latenesses .each _ (last-cut cs r (given .searchable .cut-set))

@@ -13,17 +13,19 @@ use Rattle.theory.specs.Route.{Problem, on-time}
 use Rattle.theory.specs.Costs.{forward, backward}
 use Rattle.theory.specs.Tables.{problem, clock-by, Timed, CutSet, Trip}
 use Rattle.costs.specs.RouteCosts.{leg, Sums}
+use Rattle.deadlines.specs.Stays.{Stays}
 use Rattle.deadlines.specs.Lateness.{Latenesses}
 use Rattle.scan_joints.specs.States.{row, Patterned}
 use Rattle.deadline_dues.specs.Parts.{head}
 use Rattle.deadline_dues.specs.Dues.{in-time, DuesHeld}
 use Rattle.scan_joints.specs.JointTable.{chain, Padded, JointOf}
 
--- What the step reads: tables, the route with its running sums, and k cuts of it.
-pub record Searchable (T : Trip) (route forward-sums backward-sums cuts : List ℕ) : Type 0 where
+-- What the step reads: tables, the route with its running sums and its stays, and k cuts of it.
+pub record Searchable (T : Trip) (route forward-sums backward-sums stayed cuts : List ℕ) : Type 0 where
   pub timed : Timed T route
   pub forwards : Sums route (forward (leg (T .tables .locations) (T .tables .legs)) route) forward-sums
   pub backwards : Sums route (backward (leg (T .tables .locations) (T .tables .legs)) route) backward-sums
+  pub stays : Stays (T .tables .service) route stayed
   pub cut-set : CutSet (length cuts) (length route) cuts
 
 -- The first of the first `limit` patterns on the cut set that improves the route, or `limit` where none does.
@@ -40,8 +42,8 @@ pub record LateBehind (late cuts : List ℕ) : Type 0 where
 
 -- With what is known of the deadlines: the head is on time, by how much the stops behind are late, and what is held of the dues for the first cuts; rows of
 -- patterns of which the first `limit` are still allowed; and places for the joint table.
-pub record Findable (T : Trip) (route forward-sums backward-sums cuts rows late table dues : List ℕ) (limit : ℕ) : Type 0 where
-  pub searchable : Searchable T route forward-sums backward-sums cuts
+pub record Findable (T : Trip) (route forward-sums backward-sums stayed cuts rows late table dues : List ℕ) (limit : ℕ) : Type 0 where
+  pub searchable : Searchable T route forward-sums backward-sums stayed cuts
   pub patterns : List Pattern
   pub patterned : Patterned (length cuts) patterns rows
   pub allowed : limit ≤ length patterns
@@ -91,20 +93,22 @@ below standing late = standing - (late - 1)
 -- ---- by the dues of the states
 
 -- Row x costs less than `below`, and its first `m` states are left in time.
-abbrev pub due-gain : List ℕ → List ℕ → List ℕ → ℕ → ℕ → ℕ → ℕ → Bool
-due-gain table rows dues m clock below x = in-time table dues 9 clock (slice (4 * x) (4 * x + m) rows) && ltb (chain table 9 (row rows x)) below
+abbrev pub due-gain : (table rows stays dues : List ℕ) → ℕ → ℕ → ℕ → ℕ → Bool
+due-gain table rows stays dues m clock below x = in-time table stays dues 9 clock (slice (4 * x) (4 * x + m) rows) && ltb (chain table 9 (row rows x)) below
 
--- Rows of states, the joint table and the dues, when the head is left, and the first row that costs less.
-pub record DueRows (table rows dues : List ℕ) (m clock below shorter limit : ℕ) : Type 0 where
+-- Rows of states, the joint table, the service and the dues of the states, when the head is left, and the first row that costs less.
+pub record DueRows (table rows stays dues : List ℕ) (m clock below shorter limit : ℕ) : Type 0 where
   pub chains : Chains table rows 0 limit
   pub most : m ≤ 4
   pub due-places : length dues ≡ 9
+  pub stay-places : length stays ≡ 9
+  pub brief : (s : ℕ) → getD stays s 0 ≤ 512 * 1000000
   pub states : (i : ℕ) → i < limit → (c : ℕ) → 4 * i ≤ c → c < 4 * i + m → getD rows c 0 < 8
   pub early : clock ≤ 2 ^ 40
   pub first : NextShorter table rows below 0 limit shorter
 
 -- The first such row, or `limit` where none is.
-pub record FirstDue (table rows dues : List ℕ) (m clock below limit i : ℕ) : Type 0 where
+pub record FirstDue (table rows stays dues : List ℕ) (m clock below limit i : ℕ) : Type 0 where
   pub within : i ≤ limit
-  pub passed : (x : ℕ) → x < i → due-gain table rows dues m clock below x ≡ false
-  pub gains : i < limit → due-gain table rows dues m clock below i ≡ true
+  pub passed : (x : ℕ) → x < i → due-gain table rows stays dues m clock below x ≡ false
+  pub gains : i < limit → due-gain table rows stays dues m clock below i ≡ true

@@ -1,6 +1,7 @@
 // The inner step of the scan: the first pattern on a cut set that improves the route and keeps every deadline. No entry: for the scan.
 use deadline_dues::DUE_PLACES;
 use deadline_dues::Timing;
+use deadline_dues::time_states;
 use scan_joints::CELLS;
 use scan_joints::ROW_BYTES;
 use theory::CUT_PLACES;
@@ -36,6 +37,7 @@ fn next_shorter(
 fn first_due(
     joint: &[u64; CELLS],
     rows: &[u8; ROW_BYTES],
+    stays: &[u64; DUE_PLACES],
     dues: &[u64; DUE_PLACES],
     m: usize,
     clock: u64,
@@ -43,12 +45,12 @@ fn first_due(
     shorter: usize,
     limit: usize,
 ) -> usize
-    requires { ⌜ DueRows (now joint) (now rows) (now dues) m clock below shorter limit ⌝ }
-    ensures { λ r. ⌜ FirstDue (now (joint .entry)) (now (rows .entry)) (now (dues .entry)) m clock below limit r ⌝ }
+    requires { ⌜ DueRows (now joint) (now rows) (now stays) (now dues) m clock below shorter limit ⌝ }
+    ensures { λ r. ⌜ FirstDue (now (joint .entry)) (now (rows .entry)) (now (stays .entry)) (now (dues .entry)) m clock below limit r ⌝ }
 {
     let mut i = shorter;
     while i < limit {
-        let judged = deadline_dues::judge_row(joint, rows, dues, i, m, clock);
+        let judged = deadline_dues::judge_row(joint, rows, stays, dues, i, m, clock);
         if let Timing::InTime = judged {
             return i;
         }
@@ -85,10 +87,12 @@ pub fn first_gain(
     locations: usize,
     legs: &[u32],
     latest: &[u32],
+    service: &[u32],
     depot: u32,
     route: &[u32],
     forward: &[u64; STOPS],
     backward: &[u64; STOPS],
+    stayed: &[u64; CUT_PLACES],
     cuts: &[usize],
     rows: &[u8; ROW_BYTES],
     lateness: &[u64; CUT_PLACES],
@@ -96,8 +100,8 @@ pub fn first_gain(
     dues: &mut [u64; DUE_PLACES],
     limit: usize,
 ) -> usize
-    requires { ⌜ Findable (trip locations (now legs) (now latest) depot) (now route) (now forward) (now backward) (now cuts) (now rows) (now lateness) (now joint) (now dues) limit ⌝ }
-    ensures { λ r. ⌜ Found (trip locations (now (legs .entry)) (now (latest .entry)) depot) (now (route .entry)) (now (cuts .entry)) (now (rows .entry)) limit r (now (joint .exit)) (now (dues .exit)) ⌝ }
+    requires { ⌜ Findable (trip locations (now legs) (now latest) (now service) depot) (now route) (now forward) (now backward) (now stayed) (now cuts) (now rows) (now lateness) (now joint) (now dues) limit ⌝ }
+    ensures { λ r. ⌜ Found (trip locations (now (legs .entry)) (now (latest .entry)) (now (service .entry)) depot) (now (route .entry)) (now (cuts .entry)) (now (rows .entry)) limit r (now (joint .exit)) (now (dues .exit)) ⌝ }
 {
     scan_joints::fill_joint(
         locations,
@@ -115,8 +119,20 @@ pub fn first_gain(
     if shorter == limit {
         return limit;
     }
-    deadline_dues::reach_dues(locations, legs, latest, route, backward, cuts, dues);
-    let clock = deadline_dues::head_clock(locations, legs, depot, route, forward, cuts);
+    let mut stays = [0u64; DUE_PLACES];
+    time_states(
+        locations,
+        legs,
+        latest,
+        service,
+        route,
+        backward,
+        stayed,
+        cuts,
+        dues,
+        &mut stays,
+    );
+    let clock = deadline_dues::head_clock(locations, legs, depot, route, forward, stayed, cuts);
     let m = cuts.len() - 1;
-    first_due(joint, rows, dues, m, clock, below, shorter, limit)
+    first_due(joint, rows, &stays, dues, m, clock, below, shorter, limit)
 }

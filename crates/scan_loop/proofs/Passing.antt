@@ -13,11 +13,13 @@ use Rattle.theory.specs.Moves.{next-cuts}
 use Rattle.theory.specs.Costs.{forward, backward}
 use Rattle.theory.specs.Route.{reconnected, feasible}
 use Rattle.theory.specs.Polish.{search-of, polish-with, move-at}
-use Rattle.theory.specs.Tables.{problem, clock-by, CutSet, pattern-rows, Trip}
+use Rattle.theory.specs.Tables.{problem, timetable-by, clock-by, CutSet, pattern-rows, Trip}
+use Rattle.theory.proofs.Clock.{timely-on-time}
 use Rattle.theory.proofs.Polishing.{within, as-long, gained, passed, finishes, is-spent}
 use Rattle.cut_step.specs.Step.{found, or-unmoved, Stepped}
 use Rattle.costs.specs.RouteCosts.{leg, Sums, first-cuts, last-cut}
 use Rattle.costs.proofs.Segments.{cut-below, cuts-parted}
+use Rattle.deadlines.specs.Stays.{Stays}
 use Rattle.deadlines.specs.Lateness.{Latenesses}
 use Rattle.deadlines.proofs.Lateness.{none-late, kept-not-late, kept-head}
 use Rattle.scan_joints.specs.JointTable.{Padded}
@@ -126,14 +128,15 @@ module _ (k : ℕ) (T : Trip) (orders masks rows route₀ : List ℕ) (A : ℕ) 
 
     -- ---- before a stretch
 
-    pub stretchable : {forwards backwards table late : List ℕ} {longest : ℕ} → Measured T r forwards backwards longest late → Padded table → Opened cuts →
-        Stretchable T rows (length masks) r forwards backwards longest late cuts table
+    pub stretchable : {forwards backwards stayed table late : List ℕ} {longest : ℕ} → Measured T r forwards backwards stayed longest late → Padded table → Opened cuts →
+        Stretchable T rows (length masks) r forwards backwards stayed longest late cuts table
     stretchable m p o =
         record {
           searchable = record {
             timed = timed k T orders masks rows route₀ A ok cuts e c r now;
             forwards = m .forwards;
             backwards = m .backwards;
+            stays = m .stays;
             cut-set = own-cuts k T orders masks rows route₀ A ok cuts e c r now;
           };
           list = pattern-rows k orders masks;
@@ -217,16 +220,19 @@ module _ (k : ℕ) (T : Trip) (orders masks rows route₀ : List ℕ) (A : ℕ) 
           then-kept = rw built (both-true _ _ gains-there)
 
           -- It is measured by its sums, since no stop is late.
-          pub measured-anew : {forwards backwards late late′ : List ℕ} → Latenesses (clock-by (T .tables)) (T .depot) r late → Cleared (length r) late late′ → length r′ ≡ length r →
-              Sums r′ (forward (leg (T .tables .locations) (T .tables .legs)) r′) forwards → Sums r′ (backward (leg (T .tables .locations) (T .tables .legs)) r′) backwards → Measured T r′ forwards backwards (length r′) late′
-          measured-anew {late = late} old cleared long f b =
+          pub measured-anew : {forwards backwards stayed late late′ : List ℕ} → Latenesses (clock-by (T .tables)) (T .depot) r late → Cleared (length r) late late′ → length r′ ≡ length r →
+              Sums r′ (forward (leg (T .tables .locations) (T .tables .legs)) r′) forwards → Sums r′ (backward (leg (T .tables .locations) (T .tables .legs)) r′) backwards →
+              Stays (T .tables .service) r′ stayed → Measured T r′ forwards backwards stayed (length r′) late′
+          measured-anew {late = late} old cleared long f b s =
               let C = clock-by (T .tables) in
+              let kept = sym (timely-on-time (timetable-by (T .tables)) (T .depot) r′) ∙ then-kept in
               let none = cleared .none (λ z j l. old .each j l ∙ none-late C (T .depot) r j (sym (old .each 0 (omega arith)) ∙ z)) in
               record {
                 forwards = f;
                 backwards = b;
-                head = kept-head C (T .depot) r′ then-kept;
-                latenesses = record { places = cleared .places; each = λ j l. none j (omega arith) ∙ sym (none-late C (T .depot) r′ j (kept-not-late C (T .depot) r′ then-kept)) };
+                stays = s;
+                head = kept-head C (T .depot) r′ kept;
+                latenesses = record { places = cleared .places; each = λ j l. none j (omega arith) ∙ sym (none-late C (T .depot) r′ j (kept-not-late C (T .depot) r′ kept)) };
               }
 
       pub spent-now : answer .gains ≡ false → answer .through ≡ false →

@@ -57,7 +57,7 @@ module _ (k : ℕ) (T : Trip) (orders masks rows route₀ : List ℕ) (A : ℕ) 
             depot-known = ok .timed .measurable .depot-known;
             stops = stops-rearranged route₀ r (now .same) (T .tables .locations) (ok .timed .measurable .stops);
           };
-          deadlines = ok .timed .deadlines;
+          times = ok .timed .times;
         }
 
     pub own-cuts : CutSet (length cuts) (length r) cuts

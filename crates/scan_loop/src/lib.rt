@@ -20,27 +20,31 @@ pub fn scan_cut_sets(
     locations: usize,
     legs: &[u32],
     latest: &[u32],
+    service: &[u32],
     depot: u32,
     orders: &[u8],
     masks: &[u8],
     rows: &[u8; ROW_BYTES],
     route: &mut [u32],
 ) -> Scanned
-    requires { ⌜ Scannable k (trip locations (now legs) (now latest) depot) (now orders) (now masks) (now rows) (now route) ⌝ }
-    ensures { λ r. ⌜ Scans (problem (trip locations (now (legs .entry)) (now (latest .entry)) depot)) (pattern-rows k (now (orders .entry)) (now (masks .entry))) k allowance (now (route .entry)) r (now (route .exit)) ⌝ }
+    requires { ⌜ Scannable k (trip locations (now legs) (now latest) (now service) depot) (now orders) (now masks) (now rows) (now route) ⌝ }
+    ensures { λ r. ⌜ Scans (problem (trip locations (now (legs .entry)) (now (latest .entry)) (now (service .entry)) depot)) (pattern-rows k (now (orders .entry)) (now (masks .entry))) k allowance (now (route .entry)) r (now (route .exit)) ⌝ }
 {
     let mut forward = [0u64; STOPS];
     let mut backward = [0u64; STOPS];
     let mut joint = [0u64; CELLS];
+    let mut stayed = [0u64; CUT_PLACES];
     let mut lateness = [0u64; CUT_PLACES];
     let mut longest = scan_taking::measure(
         locations,
         legs,
         latest,
+        service,
         depot,
         &route[..],
         &mut forward,
         &mut backward,
+        &mut stayed,
         &mut lateness,
     );
     let mut cut = [0usize, 1, 2, 3, 4];
@@ -51,12 +55,14 @@ pub fn scan_cut_sets(
             locations,
             legs,
             latest,
+            service,
             depot,
             rows,
             masks.len(),
             &route[..],
             &forward,
             &backward,
+            &stayed,
             longest,
             &lateness,
             &mut cut[..k],
@@ -68,6 +74,7 @@ pub fn scan_cut_sets(
             scan_taking::take_gain(
                 locations,
                 legs,
+                service,
                 &cut[..k],
                 orders,
                 masks,
@@ -75,6 +82,7 @@ pub fn scan_cut_sets(
                 route,
                 &mut forward,
                 &mut backward,
+                &mut stayed,
                 &mut lateness,
             );
             longest = route.len();

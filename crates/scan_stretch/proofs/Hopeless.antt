@@ -10,7 +10,7 @@ use lib.Seq.{getD-take}
 use Rattle.theory.specs.Moves.{Pattern}
 use Rattle.theory.specs.Route.{reconnected, tour-length}
 use Rattle.theory.specs.Polish.{move-at}
-use Rattle.theory.specs.Tables.{problem, clock-by, CutSet, Trip}
+use Rattle.theory.specs.Tables.{problem, timetable-by, clock-by, CutSet, Trip}
 use Rattle.deadlines.proofs.Lateness.{head-on-time}
 use Rattle.costs.specs.RouteCosts.{first-cuts, last-cut}
 use Rattle.deadline_dues.proofs.Judged.{candidate-too-late}
@@ -28,8 +28,8 @@ pub passed-spent : (stops patterns : ℕ) (cuts : List ℕ) (left over : ℕ) �
     Passed stops patterns cuts left (idle-end left false) cuts
 passed-spent stops patterns cuts left over e h = record { no-gain = refl; over = λ b. absurd (true≢false (sym b)); spent = λ _. (refl, omega (arith, e)) }
 
-module _ {T : Trip} {rows : List ℕ} {patterns : ℕ} {r forwards backwards : List ℕ} {longest : ℕ} {late cuts table : List ℕ}
-    (given : Stretchable T rows patterns r forwards backwards longest late cuts table) where
+module _ {T : Trip} {rows : List ℕ} {patterns : ℕ} {r forwards backwards stayed : List ℕ} {longest : ℕ} {late cuts table : List ℕ}
+    (given : Stretchable T rows patterns r forwards backwards stayed longest late cuts table) where
   abbrev own : CutSet (length cuts) (length r) cuts
   own = given .searchable .cut-set
 
@@ -37,7 +37,7 @@ module _ {T : Trip} {rows : List ℕ} {patterns : ℕ} {r forwards backwards : L
   passable =
       record { not-empty = omega (arith, own .least); most = own .most; within = first-below r cuts own .1; short = own .short; few = omega (arith, given .listed .patterned .few, given .listed .many) }
 
-  pub scannable : getD cuts 0 0 ≤ longest → LastCutsScannable T rows patterns r forwards backwards late cuts table
+  pub scannable : getD cuts 0 0 ≤ longest → LastCutsScannable T rows patterns r forwards backwards stayed late cuts table
   scannable h =
       record {
         hopeful = record {
@@ -59,7 +59,7 @@ module _ {T : Trip} {rows : List ℕ} {patterns : ℕ} {r forwards backwards : L
         let p = move-at ps cs x .pattern in
         let first : getD cs 0 0 ≡ getD cuts 0 0 = List·getD-append (first-cuts cuts) (t ∷ []) 0 0 (not-empty r cuts own) ∙ getD-take (length cuts - 1) cuts 0 0 (omega (arith, own .least)) in
         ap (λ b. b && ltb (tour-length P (reconnected (record { cuts = cs; pattern = p }) r)) (tour-length P r))
-        (candidate-too-late cs r (at-cut r cuts own t h k) (clock-by (T .tables)) (T .depot) longest (given .head) (omega (arith, first)) p (rw (long r cuts own t) (w .patterned .for-k x i)))
+        (candidate-too-late cs r (at-cut r cuts own t h k) (timetable-by (T .tables)) (T .depot) longest (given .head) (omega (arith, first)) p (rw (long r cuts own t) (w .patterned .for-k x i)))
 
     pub passed-over : {left : ℕ} {answer : Stretch} {cuts′ : List ℕ} → Passed (length r) patterns cuts left answer cuts′ →
         Stretched (problem T) patterns rows r cuts left answer cuts′ table

@@ -62,12 +62,12 @@ module _ {T : Trip} {ps : List Pattern} {r first : List ℕ} {left : ℕ} {cuts 
   answered p idle allowed gain over spent = (record { idle = λ t y h l i n. idle t y h i n; allowed = allowed; gain = gain; over = over; spent = spent }, p)
 
   -- The next cut set is behind a head that is on time as well.
-  module _ {rows : List ℕ} {patterns : ℕ} {forwards backwards late table₀ : List ℕ} (given : Hopeful T rows patterns r forwards backwards late first table₀) where
-    pub hopeful-on : Hopeful T rows patterns r forwards backwards late cuts table
+  module _ {rows : List ℕ} {patterns : ℕ} {forwards backwards stayed late table₀ : List ℕ} (given : Hopeful T rows patterns r forwards backwards stayed late first table₀) where
+    pub hopeful-on : Hopeful T rows patterns r forwards backwards stayed late cuts table
     hopeful-on =
         let g = given .searchable in
         record {
-          searchable = record { timed = g .timed; forwards = g .forwards; backwards = g .backwards; cut-set = going .cut-set };
+          searchable = record { timed = g .timed; forwards = g .forwards; backwards = g .backwards; stays = g .stays; cut-set = going .cut-set };
           list = given .list;
           listed = rw (going .many) (given .listed);
           padded = going .padded;
@@ -75,7 +75,7 @@ module _ {T : Trip} {ps : List Pattern} {r first : List ℕ} {left : ℕ} {cuts 
           latenesses = given .latenesses;
         }
 
-    pub triable-on : Triable T rows patterns r forwards backwards late cuts table dues examined left
+    pub triable-on : Triable T rows patterns r forwards backwards stayed late cuts table dues examined left
     triable-on = record { hopeful = hopeful-on; held = rw (going .same) (going .held); behind = going .behind; within = going .within }
 
     pub prepared-on : {entries exits inside low : List ℕ} → PreparedNow (T .tables .locations) (T .tables .legs) (T .depot) r first rows patterns entries exits inside low →
@@ -84,7 +84,7 @@ module _ {T : Trip} {ps : List Pattern} {r first : List ℕ} {left : ℕ} {cuts 
 
 -- ---- the start
 
-module _ {T : Trip} {rows : List ℕ} {patterns : ℕ} {r forwards backwards late cuts table : List ℕ} (given : Hopeful T rows patterns r forwards backwards late cuts table) where
+module _ {T : Trip} {rows : List ℕ} {patterns : ℕ} {r forwards backwards stayed late cuts table : List ℕ} (given : Hopeful T rows patterns r forwards backwards stayed late cuts table) where
   cut : Cut (T .tables .locations) (T .tables .legs) (T .depot) r forwards backwards cuts
   cut = let g = given .searchable in record { measurable = g .timed .measurable; forwards = g .forwards; backwards = g .backwards; cut-set = g .cut-set }
 
@@ -124,8 +124,8 @@ module _ {T : Trip} {rows : List ℕ} {patterns : ℕ} {r forwards backwards lat
 
 -- ---- up to the first last cut that is promising
 
-module _ {T : Trip} {rows : List ℕ} {patterns : ℕ} {r forwards backwards late cuts entries exits inside low zero table dues : List ℕ} {examined left : ℕ}
-    (given : Steppable T rows patterns r forwards backwards late cuts entries exits inside low zero table dues examined left) where
+module _ {T : Trip} {rows : List ℕ} {patterns : ℕ} {r forwards backwards stayed late cuts entries exits inside low zero table dues : List ℕ} {examined left : ℕ}
+    (given : Steppable T rows patterns r forwards backwards stayed late cuts entries exits inside low zero table dues examined left) where
   pub nextable : Nextable (T .tables .locations) (T .tables .legs) (T .depot) r forwards backwards cuts entries exits inside low zero
   nextable =
       let k = given .prepared .prepared in
@@ -227,23 +227,23 @@ module _ {T : Trip} {rows : List ℕ} {patterns : ℕ} {r forwards backwards lat
               let e : last-cut (set cuts (length cuts - 1) hit) ≡ hit = ap last-cut (stored going hit) ∙ last-of-cuts (first-cuts first) hit in
               (w .0, omega (arith, w .1, e, next .least))
 
-pub hit-triable : {T : Trip} {rows : List ℕ} {patterns : ℕ} {r forwards backwards late cuts entries exits inside low zero table dues : List ℕ} {examined left : ℕ} →
-    Steppable T rows patterns r forwards backwards late cuts entries exits inside low zero table dues examined left →
+pub hit-triable : {T : Trip} {rows : List ℕ} {patterns : ℕ} {r forwards backwards stayed late cuts entries exits inside low zero table dues : List ℕ} {examined left : ℕ} →
+    Steppable T rows patterns r forwards backwards stayed late cuts entries exits inside low zero table dues examined left →
     {hit : ℕ} → NextPromising (T .tables .locations) (T .tables .legs) (T .depot) r cuts entries exits inside low hit → {over : ℕ} → over ≡ (hit - last-cut cuts) * patterns → over ≤ left - examined → hit ≤ length r →
-    Triable T rows patterns r forwards backwards late (set cuts (length cuts - 1) hit) table dues (examined + over) left
-hit-triable {T} {rows} {patterns} {r} {forwards} {backwards} {late} {cuts} {entries} {exits} {inside} {low} {zero} {table} {dues} given next {over} e room l =
+    Triable T rows patterns r forwards backwards stayed late (set cuts (length cuts - 1) hit) table dues (examined + over) left
+hit-triable {T} {rows} {patterns} {r} {forwards} {backwards} {stayed} {late} {cuts} {entries} {exits} {inside} {low} {zero} {table} {dues} given next {over} e room l =
     let w = given .triable in
     let h = w .hopeful in
-    let alone : Steppable T rows patterns r forwards backwards late cuts entries exits inside low zero table dues 0 over =
+    let alone : Steppable T rows patterns r forwards backwards stayed late cuts entries exits inside low zero table dues 0 over =
     record { triable = record { hopeful = h; held = w .held; behind = w .behind; within = omega arith }; prepared = given .prepared; zero-places = given .zero-places; zero-is = given .zero-is } in
     let t = triable-on (at-hit alone next (h .listed) (starts h (h .list) over (w .held) (w .behind)) e (omega arith) l) h in
     record { hopeful = t .hopeful; held = t .held; behind = t .behind; within = omega (arith, room, w .within) }
 
 -- ---- at a last cut that is promising
 
-module _ {T : Trip} {rows : List ℕ} {patterns : ℕ} {r forwards backwards late cuts table dues : List ℕ} {examined left : ℕ}
-    (given : Triable T rows patterns r forwards backwards late cuts table dues examined left) {limit : ℕ} (limit-is : limit ≡ min patterns (left - examined)) where
-  pub findable : Findable T r forwards backwards cuts rows late table dues limit
+module _ {T : Trip} {rows : List ℕ} {patterns : ℕ} {r forwards backwards stayed late cuts table dues : List ℕ} {examined left : ℕ}
+    (given : Triable T rows patterns r forwards backwards stayed late cuts table dues examined left) {limit : ℕ} (limit-is : limit ≡ min patterns (left - examined)) where
+  pub findable : Findable T r forwards backwards stayed cuts rows late table dues limit
   findable =
       let h = given .hopeful in
       record {

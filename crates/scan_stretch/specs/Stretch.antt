@@ -31,8 +31,8 @@ abbrev pub idle-end : ℕ → Bool → Stretch
 idle-end examined through = record { examined = examined; gains = false; through = through; pattern = 0 }
 
 -- What the inner step reads, behind a head that is on time.
-pub record Hopeful (T : Trip) (rows : List ℕ) (patterns : ℕ) (route forward-sums backward-sums late cuts table : List ℕ) : Type 0 where
-  pub searchable : Searchable T route forward-sums backward-sums cuts
+pub record Hopeful (T : Trip) (rows : List ℕ) (patterns : ℕ) (route forward-sums backward-sums stayed late cuts table : List ℕ) : Type 0 where
+  pub searchable : Searchable T route forward-sums backward-sums stayed cuts
   pub list : List Pattern
   pub listed : Listed (length cuts) patterns rows list
   pub padded : Padded table
@@ -40,13 +40,13 @@ pub record Hopeful (T : Trip) (rows : List ℕ) (patterns : ℕ) (route forward-
   pub latenesses : Latenesses (clock-by (T .tables)) (T .depot) route late
 
 -- What a stretch is scanned from, behind a head that is on time: its first cut set.
-pub record LastCutsScannable (T : Trip) (rows : List ℕ) (patterns : ℕ) (route forward-sums backward-sums late cuts table : List ℕ) : Type 0 where
-  pub hopeful : Hopeful T rows patterns route forward-sums backward-sums late cuts table
+pub record LastCutsScannable (T : Trip) (rows : List ℕ) (patterns : ℕ) (route forward-sums backward-sums stayed late cuts table : List ℕ) : Type 0 where
+  pub hopeful : Hopeful T rows patterns route forward-sums backward-sums stayed late cuts table
   pub first : Opened cuts
 
 -- The same behind any head, with the longest that a candidate may have.
-pub record Stretchable (T : Trip) (rows : List ℕ) (patterns : ℕ) (route forward-sums backward-sums : List ℕ) (longest : ℕ) (late cuts table : List ℕ) : Type 0 where
-  pub searchable : Searchable T route forward-sums backward-sums cuts
+pub record Stretchable (T : Trip) (rows : List ℕ) (patterns : ℕ) (route forward-sums backward-sums stayed : List ℕ) (longest : ℕ) (late cuts table : List ℕ) : Type 0 where
+  pub searchable : Searchable T route forward-sums backward-sums stayed cuts
   pub list : List Pattern
   pub listed : Listed (length cuts) patterns rows list
   pub padded : Padded table
@@ -131,15 +131,15 @@ Carried T rows patterns route cuts table dues examined left answer cuts′ table
     StepTo T ps route first left (last-cut cuts) answer cuts′ table′ dues′
 
 -- A cut set that can be tried, with what is held of the dues.
-pub record Triable (T : Trip) (rows : List ℕ) (patterns : ℕ) (route forward-sums backward-sums late cuts table dues : List ℕ) (examined left : ℕ) : Type 0 where
-  pub hopeful : Hopeful T rows patterns route forward-sums backward-sums late cuts table
+pub record Triable (T : Trip) (rows : List ℕ) (patterns : ℕ) (route forward-sums backward-sums stayed late cuts table dues : List ℕ) (examined left : ℕ) : Type 0 where
+  pub hopeful : Hopeful T rows patterns route forward-sums backward-sums stayed late cuts table
   pub held : DuesHeld (clock-by (T .tables)) route (first-cuts cuts) dues
   pub behind : getD dues 8 0 ≤ last-cut cuts
   pub within : examined ≤ left
 
 -- The same with what is kept of the first cuts. `zero` holds nothing.
-pub record Steppable (T : Trip) (rows : List ℕ) (patterns : ℕ) (route forward-sums backward-sums late cuts entries exits inside low zero table dues : List ℕ) (examined left : ℕ) : Type 0 where
-  pub triable : Triable T rows patterns route forward-sums backward-sums late cuts table dues examined left
+pub record Steppable (T : Trip) (rows : List ℕ) (patterns : ℕ) (route forward-sums backward-sums stayed late cuts entries exits inside low zero table dues : List ℕ) (examined left : ℕ) : Type 0 where
+  pub triable : Triable T rows patterns route forward-sums backward-sums stayed late cuts table dues examined left
   pub prepared : PreparedNow (T .tables .locations) (T .tables .legs) (T .depot) route cuts rows patterns entries exits inside low
   pub zero-places : length zero ≡ 21
   pub zero-is : (x : ℕ) → getD zero x 0 ≡ 0

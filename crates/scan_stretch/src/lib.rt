@@ -73,12 +73,14 @@ fn try_cut_set(
     locations: usize,
     legs: &[u32],
     latest: &[u32],
+    service: &[u32],
     depot: u32,
     rows: &[u8; ROW_BYTES],
     patterns: usize,
     route: &[u32],
     forward: &[u64; STOPS],
     backward: &[u64; STOPS],
+    stayed: &[u64; CUT_PLACES],
     lateness: &[u64; CUT_PLACES],
     cuts: &mut [usize],
     joint: &mut [u64; CELLS],
@@ -86,18 +88,20 @@ fn try_cut_set(
     examined: u64,
     left: u64,
 ) -> Step
-    requires { ⌜ Triable (trip locations (now legs) (now latest) depot) (now rows) patterns (now route) (now forward) (now backward) (now lateness) (now cuts) (now joint) (now dues) examined left ⌝ }
-    ensures { λ r. ⌜ Carried (trip locations (now (legs .entry)) (now (latest .entry)) depot) (now (rows .entry)) patterns (now (route .entry)) (now (cuts .entry)) (now (joint .entry)) (now (dues .entry)) examined left r (now (cuts .exit)) (now (joint .exit)) (now (dues .exit)) ⌝ }
+    requires { ⌜ Triable (trip locations (now legs) (now latest) (now service) depot) (now rows) patterns (now route) (now forward) (now backward) (now stayed) (now lateness) (now cuts) (now joint) (now dues) examined left ⌝ }
+    ensures { λ r. ⌜ Carried (trip locations (now (legs .entry)) (now (latest .entry)) (now (service .entry)) depot) (now (rows .entry)) patterns (now (route .entry)) (now (cuts .entry)) (now (joint .entry)) (now (dues .entry)) examined left r (now (cuts .exit)) (now (joint .exit)) (now (dues .exit)) ⌝ }
 {
     let limit = still_allowed(patterns, left - examined);
     let found = scan_cut_set::first_gain(
         locations,
         legs,
         latest,
+        service,
         depot,
         route,
         forward,
         backward,
+        stayed,
         &cuts[..],
         rows,
         lateness,
@@ -131,12 +135,14 @@ fn take_step(
     locations: usize,
     legs: &[u32],
     latest: &[u32],
+    service: &[u32],
     depot: u32,
     rows: &[u8; ROW_BYTES],
     patterns: usize,
     route: &[u32],
     forward: &[u64; STOPS],
     backward: &[u64; STOPS],
+    stayed: &[u64; CUT_PLACES],
     lateness: &[u64; CUT_PLACES],
     cuts: &mut [usize],
     entries: &[u32; STATES],
@@ -149,8 +155,8 @@ fn take_step(
     examined: u64,
     left: u64,
 ) -> Step
-    requires { ⌜ Steppable (trip locations (now legs) (now latest) depot) (now rows) patterns (now route) (now forward) (now backward) (now lateness) (now cuts) (now entries) (now exits) (now inside) (now low) (now zero) (now joint) (now dues) examined left ⌝ }
-    ensures { λ r. ⌜ Carried (trip locations (now (legs .entry)) (now (latest .entry)) depot) (now (rows .entry)) patterns (now (route .entry)) (now (cuts .entry)) (now (joint .entry)) (now (dues .entry)) examined left r (now (cuts .exit)) (now (joint .exit)) (now (dues .exit)) ⌝ }
+    requires { ⌜ Steppable (trip locations (now legs) (now latest) (now service) depot) (now rows) patterns (now route) (now forward) (now backward) (now stayed) (now lateness) (now cuts) (now entries) (now exits) (now inside) (now low) (now zero) (now joint) (now dues) examined left ⌝ }
+    ensures { λ r. ⌜ Carried (trip locations (now (legs .entry)) (now (latest .entry)) (now (service .entry)) depot) (now (rows .entry)) patterns (now (route .entry)) (now (cuts .entry)) (now (joint .entry)) (now (dues .entry)) examined left r (now (cuts .exit)) (now (joint .exit)) (now (dues .exit)) ⌝ }
 {
     let last = cuts.len() - 1;
     let hit = scan_bound::next_promising(
@@ -181,12 +187,14 @@ fn take_step(
         locations,
         legs,
         latest,
+        service,
         depot,
         rows,
         patterns,
         route,
         forward,
         backward,
+        stayed,
         lateness,
         cuts,
         joint,
@@ -201,19 +209,21 @@ fn scan_last_cuts(
     locations: usize,
     legs: &[u32],
     latest: &[u32],
+    service: &[u32],
     depot: u32,
     rows: &[u8; ROW_BYTES],
     patterns: usize,
     route: &[u32],
     forward: &[u64; STOPS],
     backward: &[u64; STOPS],
+    stayed: &[u64; CUT_PLACES],
     lateness: &[u64; CUT_PLACES],
     cuts: &mut [usize],
     joint: &mut [u64; CELLS],
     left: u64,
 ) -> Stretch
-    requires { ⌜ LastCutsScannable (trip locations (now legs) (now latest) depot) (now rows) patterns (now route) (now forward) (now backward) (now lateness) (now cuts) (now joint) ⌝ }
-    ensures { λ r. ⌜ Stretched (problem (trip locations (now (legs .entry)) (now (latest .entry)) depot)) patterns (now (rows .entry)) (now (route .entry)) (now (cuts .entry)) left r (now (cuts .exit)) (now (joint .exit)) ⌝ }
+    requires { ⌜ LastCutsScannable (trip locations (now legs) (now latest) (now service) depot) (now rows) patterns (now route) (now forward) (now backward) (now stayed) (now lateness) (now cuts) (now joint) ⌝ }
+    ensures { λ r. ⌜ Stretched (problem (trip locations (now (legs .entry)) (now (latest .entry)) (now (service .entry)) depot)) patterns (now (rows .entry)) (now (route .entry)) (now (cuts .entry)) left r (now (cuts .exit)) (now (joint .exit)) ⌝ }
 {
     let mut entries = [0u32; STATES];
     let mut exits = [0u32; STATES];
@@ -242,12 +252,14 @@ fn scan_last_cuts(
             locations,
             legs,
             latest,
+            service,
             depot,
             rows,
             patterns,
             route,
             forward,
             backward,
+            stayed,
             lateness,
             cuts,
             &entries,
@@ -273,20 +285,22 @@ pub fn scan_stretch(
     locations: usize,
     legs: &[u32],
     latest: &[u32],
+    service: &[u32],
     depot: u32,
     rows: &[u8; ROW_BYTES],
     patterns: usize,
     route: &[u32],
     forward: &[u64; STOPS],
     backward: &[u64; STOPS],
+    stayed: &[u64; CUT_PLACES],
     longest: usize,
     lateness: &[u64; CUT_PLACES],
     cuts: &mut [usize],
     joint: &mut [u64; CELLS],
     left: u64,
 ) -> Stretch
-    requires { ⌜ Stretchable (trip locations (now legs) (now latest) depot) (now rows) patterns (now route) (now forward) (now backward) longest (now lateness) (now cuts) (now joint) ⌝ }
-    ensures { λ r. ⌜ Stretched (problem (trip locations (now (legs .entry)) (now (latest .entry)) depot)) patterns (now (rows .entry)) (now (route .entry)) (now (cuts .entry)) left r (now (cuts .exit)) (now (joint .exit)) ⌝ }
+    requires { ⌜ Stretchable (trip locations (now legs) (now latest) (now service) depot) (now rows) patterns (now route) (now forward) (now backward) (now stayed) longest (now lateness) (now cuts) (now joint) ⌝ }
+    ensures { λ r. ⌜ Stretched (problem (trip locations (now (legs .entry)) (now (latest .entry)) (now (service .entry)) depot)) patterns (now (rows .entry)) (now (route .entry)) (now (cuts .entry)) left r (now (cuts .exit)) (now (joint .exit)) ⌝ }
 {
     if longest < cuts[0] {
         return pass_stretch(route.len(), patterns, cuts, left);
@@ -295,12 +309,14 @@ pub fn scan_stretch(
         locations,
         legs,
         latest,
+        service,
         depot,
         rows,
         patterns,
         route,
         forward,
         backward,
+        stayed,
         lateness,
         cuts,
         joint,

@@ -1,19 +1,24 @@
 -- The candidate, built in spare places, is copied over the route. Assumes nothing.
-use mathlib.Core.Path.{_≡_, _∙_}
+use mathlib.Core.Path.{_≡_, sym, ap, _∙_}
 use mathlib.Core.List.{List, _++_, append-nil}
 use Prim.Native.Nat.{ℕ, _+_, _≤_, _<_}
 use native.Mathlib.Decide.{ℕ-discrete}
 use native.Mathlib.Omega.{arith}
-use lib.ListN.{length, getD, set, take, drop, length-take, length-set, drop-of-length-le}
-use lib.Seq.{getD-set-same, getD-set-other}
-use Rattle.theory.proofs.Stops.{stops-rearranged}
+use lib.ListN.{length, getD, set, take, drop, length-take, length-set, drop-of-length-le, take-append-drop}
+use lib.Seq.{take-all, getD-set-same, getD-set-other}
+use Rattle.theory.specs.Moves.{total}
+use Rattle.theory.specs.Tables.{Trip, Timed, Stops}
+use Rattle.theory.proofs.Moves.{total-append}
+use Rattle.theory.proofs.Stops.{as-many, stops-rearranged}
 use Rattle.costs.specs.RouteCosts.{Summable}
+use Rattle.deadlines.specs.Stays.{Stays, StaysFillable}
 use Rattle.reconnection.specs.Segments.{Fits}
-use Rattle.scan_taking.specs.Measure.{Cleared, Takeable}
+use Rattle.scan_taking.specs.Measure.{Cleared, StaysAnew, Takeable}
 use Rattle.scan_taking.specs.Candidate.{candidate, BuiltFront}
 use Rattle.scan_taking.proofs.Candidate.{same-stops}
 
-module _ {locations : ℕ} {legs cuts orders masks : List ℕ} {i : ℕ} {route forward-sums backward-sums late : List ℕ} (ok : Takeable locations legs cuts orders masks i route forward-sums backward-sums late) where
+module _ {locations : ℕ} {legs service cuts orders masks : List ℕ} {i : ℕ} {route forward-sums backward-sums stayed late : List ℕ}
+    (ok : Takeable locations legs service cuts orders masks i route forward-sums backward-sums stayed late) where
   module _ {spare : List ℕ} (built : BuiltFront route cuts orders masks i spare) where
     pub room : length route ≡ length (take (length route) spare)
     room = simp length-take (omega (arith, built .places, ok .stops .short))
@@ -28,6 +33,56 @@ module _ {locations : ℕ} {legs cuts orders masks : List ℕ} {i : ℕ} {route 
 
   pub summable : {last : List ℕ} → last ≡ candidate route cuts orders masks i → (sums : List ℕ) → length sums ≡ 512 → Summable locations legs last sums
   summable e sums h = record { table = ok .table; stops = rw e (stops-rearranged route _ (same-stops (ok .of)) locations (ok .stops)); places = h }
+
+  pub stayable : {last : List ℕ} → last ≡ candidate route cuts orders masks i → StaysFillable service last stayed
+  stayable {last} e =
+      let s : Stops locations last = rw e (stops-rearranged route _ (same-stops (ok .of)) locations (ok .stops)) in
+      record {
+        few = omega (arith, ok .services, ok .table .few);
+        brief = ok .brief;
+        short = s .short;
+        known = λ j h. omega (arith, s .known j h, ok .services);
+        places = ok .stay-places;
+      }
+
+  pub stays-taken : {last stayed′ : List ℕ} → last ≡ candidate route cuts orders masks i → StaysAnew service last stayed stayed′ → Stays service route stayed → Stays service last stayed′
+  stays-taken e a = a .stays route (λ g. ap (total g) e ∙ same-stops (ok .of) g)
+
+-- ---- the stays of a route that is measured
+
+pub stays-fillable : {T : Trip} {r stayed : List ℕ} → Timed T r → length stayed ≡ 513 → StaysFillable (T .tables .service) r stayed
+stays-fillable t places =
+    let m = t .measurable in
+    record {
+      few = omega (arith, t .times .services, m .table .few);
+      brief = t .times .brief;
+      short = m .stops .short;
+      known = λ i h. omega (arith, m .stops .known i h, t .times .services);
+      places = places;
+    }
+
+-- ---- no service
+
+total-front : (g : ℕ → ℕ) (r : List ℕ) (c : ℕ) → total g (take c r) ≤ total g r
+total-front g r c = omega (arith, ap (total g) (take-append-drop c r), total-append g (take c r) (drop c r))
+
+-- The stops have no service, so no order of them has.
+pub no-service : (service r stayed : List ℕ) → getD stayed (length r) 0 ≡ 0 → StaysAnew service r stayed stayed
+no-service service r stayed z =
+    record {
+      stays = λ old same stays.
+          let g : ℕ → ℕ = λ x. getD service x 0 in
+          let n : length r ≡ length old = as-many old r same in
+          let none : total g old ≡ 0 = sym (stays .each (length r) (omega (arith, n)) ∙ ap (total g) (take-all (length r) old (omega (arith, n)))) ∙ z in
+          record {
+            places = stays .places;
+            each = λ c h. omega (arith, stays .each c (omega (arith, n)), total-front g old c, total-front g r c, same g, none);
+            small = λ c h. stays .small c (omega (arith, n));
+          };
+    }
+
+pub anew : {service r stayed stayed′ : List ℕ} → Stays service r stayed′ → StaysAnew service r stayed stayed′
+anew s = record { stays = λ _ _ _. s }
 
 -- ---- no lateness
 

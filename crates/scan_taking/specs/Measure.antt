@@ -3,23 +3,27 @@ use mathlib.Core.Path.{_≡_}
 use mathlib.Core.List.{List}
 use Prim.Native.Nat.{ℕ, _≤_}
 use lib.ListN.{length, getD}
+use Rattle.theory.specs.Moves.{total}
 use Rattle.theory.specs.Costs.{forward, backward}
-use Rattle.theory.specs.Tables.{clock-by, LegTable, Stops, Timed, Trip}
+use Rattle.theory.specs.Tables.{Trip, clock-by, LegTable, Stops, Timed}
 use Rattle.costs.specs.RouteCosts.{leg, Sums}
+use Rattle.deadlines.specs.Stays.{Stays, StaysFillable}
 use Rattle.deadlines.specs.Lateness.{LongestHead, Latenesses}
 use Rattle.scan_taking.specs.Candidate.{candidate, Candidate}
 
--- A route, and places for its sums and for its lateness.
-pub record MeasureAsked (T : Trip) (route forward-sums backward-sums late : List ℕ) : Type 0 where
+-- A route, and places for its sums, its stays and its lateness.
+pub record MeasureAsked (T : Trip) (route forward-sums backward-sums stayed late : List ℕ) : Type 0 where
   pub timed : Timed T route
   pub forward-places : length forward-sums ≡ 512
   pub backward-places : length backward-sums ≡ 512
+  pub stay-places : length stayed ≡ 513
   pub late-places : length late ≡ 513
 
--- Its sums, the longest head, and the lateness from each position on.
-pub record Measured (T : Trip) (route forward-sums backward-sums : List ℕ) (longest : ℕ) (late : List ℕ) : Type 0 where
+-- Its sums and stays, the longest head, and the lateness from each position on.
+pub record Measured (T : Trip) (route forward-sums backward-sums stayed : List ℕ) (longest : ℕ) (late : List ℕ) : Type 0 where
   pub forwards : Sums route (forward (leg (T .tables .locations) (T .tables .legs)) route) forward-sums
   pub backwards : Sums route (backward (leg (T .tables .locations) (T .tables .legs)) route) backward-sums
+  pub stays : Stays (T .tables .service) route stayed
   pub head : LongestHead (clock-by (T .tables)) (T .depot) route longest
   pub latenesses : Latenesses (clock-by (T .tables)) (T .depot) route late
 
@@ -33,18 +37,26 @@ pub record Cleared (stops : ℕ) (late late′ : List ℕ) : Type 0 where
   pub places : length late′ ≡ 513
   pub none : (getD late 0 0 ≡ 0 → (c : ℕ) → c ≤ stops → getD late c 0 ≡ 0) → (c : ℕ) → c ≤ stops → getD late′ c 0 ≡ 0
 
+-- Of a route with the stops of another, whose stays were at hand.
+pub record StaysAnew (service route stayed stayed′ : List ℕ) : Type 0 where
+  pub stays : (old : List ℕ) → ((g : ℕ → ℕ) → total g route ≡ total g old) → Stays service old stayed → Stays service route stayed′
+
 -- A candidate of a route, and places for what is known of it.
-pub record Takeable (locations : ℕ) (legs cuts orders masks : List ℕ) (i : ℕ) (route forward-sums backward-sums late : List ℕ) : Type 0 where
+pub record Takeable (locations : ℕ) (legs service cuts orders masks : List ℕ) (i : ℕ) (route forward-sums backward-sums stayed late : List ℕ) : Type 0 where
   pub table : LegTable locations legs
+  pub services : length service ≡ locations
+  pub brief : (x : ℕ) → getD service x 0 ≤ 1000000
   pub stops : Stops locations route
   pub of : Candidate route cuts orders masks i
   pub forward-places : length forward-sums ≡ 512
   pub backward-places : length backward-sums ≡ 512
+  pub stay-places : length stayed ≡ 513
   pub late-places : length late ≡ 513
 
--- The route is the candidate, with its sums anew, and no lateness.
-pub record Taken (locations : ℕ) (legs cuts orders masks : List ℕ) (i : ℕ) (route late route′ forward-sums backward-sums late′ : List ℕ) : Type 0 where
+-- The route is the candidate, with its sums and stays anew, and no lateness.
+pub record Taken (locations : ℕ) (legs service cuts orders masks : List ℕ) (i : ℕ) (route stayed late route′ forward-sums backward-sums stayed′ late′ : List ℕ) : Type 0 where
   pub route-is : route′ ≡ candidate route cuts orders masks i
   pub forwards : Sums route′ (forward (leg locations legs) route′) forward-sums
   pub backwards : Sums route′ (backward (leg locations legs) route′) backward-sums
+  pub stays : Stays service route stayed → Stays service route′ stayed′
   pub cleared : Cleared (length route) late late′

@@ -1,28 +1,43 @@
 // A route measured: its sums, and what it leaves to its candidates; and an accepted candidate put in its place. No entry: crate scan_loop calls it.
+use deadlines::fill_lateness;
 use theory::CUT_PLACES;
 use theory::STOPS;
 ghost use mathlib.Core.Path.{_≡_};
 ghost use Rattle.theory.specs.Tables.{trip};
+ghost use Rattle.deadlines.specs.Stays.{StaysFillable};
 ghost use Rattle.scan_taking.specs.Candidate.{candidate, Buildable, BuildableFront, BuiltFront};
-ghost use Rattle.scan_taking.specs.Measure.{MeasureAsked, Measured, Clearable, Cleared, Takeable, Taken};
+ghost use Rattle.scan_taking.specs.Measure.{MeasureAsked, Measured, Clearable, Cleared, StaysAnew, Takeable, Taken};
 
 // The running sums of a route, and what it leaves to its candidates; the answer is the longest head.
 pub fn measure(
     locations: usize,
     legs: &[u32],
     latest: &[u32],
+    service: &[u32],
     depot: u32,
     route: &[u32],
     forward: &mut [u64; STOPS],
     backward: &mut [u64; STOPS],
+    stayed: &mut [u64; CUT_PLACES],
     lateness: &mut [u64; CUT_PLACES],
 ) -> usize
-    requires { ⌜ MeasureAsked (trip locations (now legs) (now latest) depot) (now route) (now forward) (now backward) (now lateness) ⌝ }
-    ensures { λ r. ⌜ Measured (trip locations (now (legs .entry)) (now (latest .entry)) depot) (now (route .entry)) (now (forward .exit)) (now (backward .exit)) r (now (lateness .exit)) ⌝ }
+    requires { ⌜ MeasureAsked (trip locations (now legs) (now latest) (now service) depot) (now route) (now forward) (now backward) (now stayed) (now lateness) ⌝ }
+    ensures { λ r. ⌜ Measured (trip locations (now (legs .entry)) (now (latest .entry)) (now (service .entry)) depot) (now (route .entry)) (now (forward .exit)) (now (backward .exit)) (now (stayed .exit)) r (now (lateness .exit)) ⌝ }
 {
     costs::forward_sums(locations, legs, route, forward);
     costs::backward_sums(locations, legs, route, backward);
-    deadlines::fill_lateness(locations, legs, latest, depot, route, forward, lateness)
+    deadlines::fill_stays(service, route, stayed);
+    fill_lateness(
+        locations,
+        legs,
+        latest,
+        service,
+        depot,
+        route,
+        forward,
+        stayed,
+        lateness,
+    )
 }
 
 // The candidate of pattern i.
@@ -74,10 +89,23 @@ fn clear_lateness(stops: usize, lateness: &mut [u64; CUT_PLACES])
     }
 }
 
-// The candidate of pattern i as the route, with its sums: the old ones say nothing of it. No stop of it is late.
+// The stays of an accepted route, whose stops are the same. Where they have no service, the table says so already.
+fn stay_anew(service: &[u32], route: &[u32], stayed: &mut [u64; CUT_PLACES])
+    requires { ⌜ StaysFillable (now service) (now route) (now stayed) ⌝ }
+    ensures { λ _. ⌜ StaysAnew (now (service .entry)) (now (route .entry)) (now (stayed .entry)) (now (stayed .exit)) ⌝ }
+{
+    let n = route.len();
+    if stayed[n] == 0 {
+        return;
+    }
+    deadlines::fill_stays(service, route, stayed);
+}
+
+// The candidate of pattern i as the route, with its sums and stays: the old ones say nothing of it. No stop of it is late.
 pub fn take_gain(
     locations: usize,
     legs: &[u32],
+    service: &[u32],
     cuts: &[usize],
     orders: &[u8],
     masks: &[u8],
@@ -85,10 +113,11 @@ pub fn take_gain(
     route: &mut [u32],
     forward: &mut [u64; STOPS],
     backward: &mut [u64; STOPS],
+    stayed: &mut [u64; CUT_PLACES],
     lateness: &mut [u64; CUT_PLACES],
 )
-    requires { ⌜ Takeable locations (now legs) (now cuts) (now orders) (now masks) i (now route) (now forward) (now backward) (now lateness) ⌝ }
-    ensures { λ _. ⌜ Taken locations (now (legs .entry)) (now (cuts .entry)) (now (orders .entry)) (now (masks .entry)) i (now (route .entry)) (now (lateness .entry)) (now (route .exit)) (now (forward .exit)) (now (backward .exit)) (now (lateness .exit)) ⌝ }
+    requires { ⌜ Takeable locations (now legs) (now service) (now cuts) (now orders) (now masks) i (now route) (now forward) (now backward) (now stayed) (now lateness) ⌝ }
+    ensures { λ _. ⌜ Taken locations (now (legs .entry)) (now (service .entry)) (now (cuts .entry)) (now (orders .entry)) (now (masks .entry)) i (now (route .entry)) (now (stayed .entry)) (now (lateness .entry)) (now (route .exit)) (now (forward .exit)) (now (backward .exit)) (now (stayed .exit)) (now (lateness .exit)) ⌝ }
 {
     let n = route.len();
     let mut spare = [0u32; STOPS];
@@ -96,5 +125,6 @@ pub fn take_gain(
     reconnection::copy_in(&spare[..n], route, 0);
     costs::forward_sums(locations, legs, &route[..], forward);
     costs::backward_sums(locations, legs, &route[..], backward);
+    stay_anew(service, &route[..], stayed);
     clear_lateness(n, lateness);
 }

@@ -18,13 +18,14 @@ use Rattle.text_question.proofs.Texts.{read-exactly}
 use Rattle.text_printing.specs.Answer.{refusal-text, Printed}
 use Rattle.text.specs.Program.{program, question-text, Shown}
 
-pub still-lent : {legs latest stops legs′ latest′ stops′ : List ℕ} → Places (tables 96 legs latest) stops →
-    length legs′ ≡ length legs → length latest′ ≡ length latest → length stops′ ≡ length stops → Places (tables 96 legs′ latest′) stops′
-still-lent l a b c =
+pub still-lent : {legs latest service stops legs′ latest′ service′ stops′ : List ℕ} → Places (tables 96 legs latest service) stops →
+    length legs′ ≡ length legs → length latest′ ≡ length latest → length service′ ≡ length service → length stops′ ≡ length stops →
+    Places (tables 96 legs′ latest′ service′) stops′
+still-lent l a b c d =
     record {
       most = refl;
-      sized = record { square = record { square = a ∙ l .sized .square .square }; deadlines = b ∙ l .sized .deadlines };
-      stops-places = c ∙ l .stops-places;
+      sized = record { square = record { square = a ∙ l .sized .square .square }; deadlines = b ∙ l .sized .deadlines; services = c ∙ l .sized .services };
+      stops-places = d ∙ l .stops-places;
     }
 
 -- The parts of the places that hold a question.
@@ -32,6 +33,7 @@ pub record Fits (h : Header) (count : ℕ) (T : Tables) (stops : List ℕ) : Typ
   pub cells : h .locations * h .locations ≤ 9216
   pub legs-fit : h .locations * h .locations ≤ length (T .legs)
   pub latest-fit : h .locations ≤ length (T .latest)
+  pub service-fit : h .locations ≤ length (T .service)
   pub stops-fit : count ≤ length stops
 
 -- What was printed stands in the first places.
@@ -63,6 +65,7 @@ module _ (text : List ℕ) (T : Tables) (stops : List ℕ) {answer : Reading} (a
           cells = cells;
           legs-fit = rw (p .sized .square .square, p .most) cells;
           latest-fit = rw (p .sized .deadlines, p .most) few;
+          service-fit = rw (p .sized .services, p .most) few;
           stops-fit = subst (λ a. stop-count a ≤ length stops) is (answered .within);
         }
 

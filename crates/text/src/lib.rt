@@ -43,18 +43,36 @@ fn answer_question(
     locations: usize,
     legs: &[u32],
     latest: &[u32],
+    service: &[u32],
     depot: u32,
     stops: &mut [u32],
     out: &mut [u8],
 ) -> usize
     requires { ⌜ Room (now out) ⌝ }
-    ensures { λ r. ⌜ Printed (question-text (question k allowance locations (now (legs .entry)) (now (latest .entry)) depot (now (stops .entry)))) (now (out .entry)) (now (out .exit)) r ⌝ }
+    ensures { λ r. ⌜ Printed (question-text (question k allowance locations (now (legs .entry)) (now (latest .entry)) (now (service .entry)) depot (now (stops .entry)))) (now (out .entry)) (now (out .exit)) r ⌝ }
 {
-    let refused = refusal_rules::question_refusal(k, locations, legs, latest, depot, &stops[..]);
+    let refused = refusal_rules::question_refusal(
+        k,
+        locations,
+        legs,
+        latest,
+        service,
+        depot,
+        &stops[..],
+    );
     if refused != 0 {
         return text_printing::print_refusal(refused, out);
     }
-    let answer = polishing::polish_route(k, allowance, locations, legs, latest, depot, stops);
+    let answer = polishing::polish_route(
+        k,
+        allowance,
+        locations,
+        legs,
+        latest,
+        service,
+        depot,
+        stops,
+    );
     print_polished(answer, &stops[..], out)
 }
 
@@ -63,13 +81,14 @@ fn answer_text(
     text: &[u8],
     legs: &mut [u32],
     latest: &mut [u32],
+    service: &mut [u32],
     stops: &mut [u32],
     out: &mut [u8],
 ) -> usize
-    requires { ⌜ Work (tables 96 (now legs) (now latest)) (now stops) (now out) ⌝ }
+    requires { ⌜ Work (tables 96 (now legs) (now latest) (now service)) (now stops) (now out) ⌝ }
     ensures { λ r. ⌜ Printed (program (now (text .entry))) (now (out .entry)) (now (out .exit)) r ⌝ }
 {
-    let answer = text_question::read_question(text, legs, latest, stops);
+    let answer = text_question::read_question(text, legs, latest, service, stops);
     let Reading::Question(header, count) = answer else {
         return text_printing::print_refusal(10, out);
     };
@@ -83,6 +102,7 @@ fn answer_text(
         locations,
         &legs[..cells],
         &latest[..locations],
+        &service[..locations],
         header.depot,
         &mut stops[..count],
         out,
@@ -101,8 +121,16 @@ pub fn polish_text(text: &[u8]) -> Output
 {
     let mut legs = [0u32; 9216];
     let mut latest = [0u32; 96];
+    let mut service = [0u32; 96];
     let mut stops = [0u32; 30000];
     let mut bytes = [0u8; 6500];
-    let length = answer_text(text, &mut legs, &mut latest, &mut stops, &mut bytes);
+    let length = answer_text(
+        text,
+        &mut legs,
+        &mut latest,
+        &mut service,
+        &mut stops,
+        &mut bytes,
+    );
     Output { bytes, length }
 }

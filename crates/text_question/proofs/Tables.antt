@@ -1,4 +1,4 @@
--- The legs and the deadlines are read exactly where they are written. Assumes nothing.
+-- The legs, the deadlines and the service times are read exactly where they are written. Assumes nothing.
 use mathlib.Core.Path.{_≡_, refl, sym, ap, _∙_, subst}
 use mathlib.Core.List.{List, [], _∷_, _++_, append-assoc}
 use mathlib.Core.Option.{some, bind, bind-eq-some-iff, Option·some-injective}
@@ -57,12 +57,19 @@ unfolding tables-of
 tables-sound n t T r e =
     first-read (rows n n t) _ (T, r) e λ g g-read e₁.
     first-read (row (ascii "latest=") n (g .1)) _ (T, r) e₁ λ l l-read e₂.
+    first-read (row (ascii "service=") n (l .1)) _ (T, r) e₂ λ s s-read e₃.
     let g-is = rows-sound n n t (g .0) (g .1) g-read in
     let l-is = row-sound (ascii "latest=") n (g .1) (l .0) (l .1) l-read in
-    subst (λ (p : Tables × List ℕ). (t ≡ tabled (p .0) (p .1)) × (p .0 .locations ≡ n) × HeldTables (p .0)) (Option·some-injective _ _ e₂) (
-      g-is .0 ∙ rw (l-is .0),
+    let s-is = row-sound (ascii "service=") n (l .1) (s .0) (s .1) s-read in
+    subst (λ (p : Tables × List ℕ). (t ≡ tabled (p .0) (p .1)) × (p .0 .locations ≡ n) × HeldTables (p .0)) (Option·some-injective _ _ e₃) (
+      g-is .0 ∙ rw (l-is .0, s-is .0),
       refl,
-      record { sized = record { square = record { square = g-is .2 }; deadlines = l-is .2 }; small-legs = g-is .1; small-latest = l-is .1 },
+      record {
+        sized = record { square = record { square = g-is .2 }; deadlines = l-is .2; services = s-is .2 };
+        small-legs = g-is .1;
+        small-latest = l-is .1;
+        small-service = s-is .1;
+      },
     )
 
 pub tables-complete : (T : Tables) (r : List ℕ) → HeldTables T → tables-of (T .locations) (tabled T r) ≡ some (T, r)
@@ -70,6 +77,7 @@ unfolding tables-of bind
 tables-complete T r h =
     let n = T .locations in
     rw (
-      rows-complete n n (T .legs) (line (ascii "latest=") (T .latest) ++ r) (h .small-legs) (h .sized .square .square),
-      row-complete (ascii "latest=") n (T .latest) r (h .small-latest) (h .sized .deadlines),
+      rows-complete n n (T .legs) (line (ascii "latest=") (T .latest) ++ (line (ascii "service=") (T .service) ++ r)) (h .small-legs) (h .sized .square .square),
+      row-complete (ascii "latest=") n (T .latest) (line (ascii "service=") (T .service) ++ r) (h .small-latest) (h .sized .deadlines),
+      row-complete (ascii "service=") n (T .service) r (h .small-service) (h .sized .services),
     )

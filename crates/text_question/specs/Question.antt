@@ -14,9 +14,9 @@ legs-lines (suc rows) width legs = line (ascii "legs=") (take width legs) ++ leg
 
 -- The tables, and then the rest.
 abbrev pub tabled : Tables → List ℕ → List ℕ
-tabled T r = legs-lines (T .locations) (T .locations) (T .legs) ++ (line (ascii "latest=") (T .latest) ++ r)
+tabled T r = legs-lines (T .locations) (T .locations) (T .legs) ++ (line (ascii "latest=") (T .latest) ++ (line (ascii "service=") (T .service) ++ r))
 
--- The lines in the order of document 01's example. "An empty round is `round=`."
+-- The lines in the order of document 01's example, `service=` after `latest=`. "An empty round is `round=`."
 unfoldable pub text-of : Question → List ℕ
 text-of q =
     line (ascii "k=") (q .k ∷ [])
@@ -30,6 +30,7 @@ pub record HeldTables (T : Tables) : Type 0 where
   pub sized : Sized T
   pub small-legs : Small (T .legs)
   pub small-latest : Small (T .latest)
+  pub small-service : Small (T .service)
 
 -- What a text can hold: "at most 60,000 bytes, 96 locations".
 pub record Held (q : Question) : Type 0 where

@@ -19,7 +19,7 @@ start-told t (S.Read h next) = some (record { k = h .k; allowance = h .allowance
 
 -- The first places, for so many locations.
 abbrev pub front : ℕ → Tables → Tables
-front n T = tables n (take (n * n) (T .legs)) (take n (T .latest))
+front n T = tables n (take (n * n) (T .legs)) (take n (T .latest)) (take n (T .service))
 
 -- The question that an answer and the lent places tell: the front of the tables, and so many stops.
 abbrev pub question-told : Reading → Tables → (stops : List ℕ) → Option Question

@@ -70,10 +70,11 @@ pub fn read_question(
     text: &[u8],
     legs: &mut [u32],
     latest: &mut [u32],
+    service: &mut [u32],
     stops: &mut [u32],
 ) -> Reading
-    requires { ⌜ Places (tables 96 (now legs) (now latest)) (now stops) ⌝ }
-    ensures { λ r. ⌜ Answered (now (text .entry)) (tables 96 (now (legs .exit)) (now (latest .exit))) (now (stops .exit)) r ⌝ }
+    requires { ⌜ Places (tables 96 (now legs) (now latest) (now service)) (now stops) ⌝ }
+    ensures { λ r. ⌜ Answered (now (text .entry)) (tables 96 (now (legs .exit)) (now (latest .exit)) (now (service .exit))) (now (stops .exit)) r ⌝ }
 {
     if text.len() > 60000 {
         return Reading::Malformed;
@@ -89,6 +90,7 @@ pub fn read_question(
         locations,
         &mut legs[..cells],
         &mut latest[..locations],
+        &mut service[..locations],
     ) else {
         return Reading::Malformed;
     };

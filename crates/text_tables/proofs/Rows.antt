@@ -1,4 +1,4 @@
--- The rows of legs and the deadlines, as the code reads them one after the other. Assumes nothing.
+-- The rows of legs, the deadlines and the service times, as the code reads them one after the other. Assumes nothing.
 use mathlib.Core.Path.{_≡_, sym}
 use mathlib.Core.List.{List, _++_, append-nil, append-assoc}
 use mathlib.Core.Option.{Option, none, some, bind}
@@ -58,8 +58,13 @@ pub legs-missing : (n : ℕ) (t : List ℕ) → rows n n t ≡ none → tables-o
 unfolding tables-of bind
 legs-missing n t e = rw e
 
-pub latest-told : (n : ℕ) (t : List ℕ) {legs r : List ℕ} → rows n n t ≡ some (legs, r) → (text latest : List ℕ) (answer : Place) →
-    row (ascii "latest=") n r ≡ row-told text latest answer → tables-of n t ≡ tables-told text (tables n legs latest) answer
-unfolding tables-of bind
-latest-told n t legs-read text latest P.Nowhere e = rw (legs-read, e)
-latest-told n t legs-read text latest (P.At next) e = rw (legs-read, e)
+module _ (n : ℕ) (t : List ℕ) {legs r : List ℕ} (legs-read : rows n n t ≡ some (legs, r)) where
+  pub latest-missing : row (ascii "latest=") n r ≡ none → tables-of n t ≡ none
+  unfolding tables-of bind
+  latest-missing e = rw (legs-read, e)
+
+  pub service-told : {latest u : List ℕ} → row (ascii "latest=") n r ≡ some (latest, u) → (text service : List ℕ) (answer : Place) →
+      row (ascii "service=") n u ≡ row-told text service answer → tables-of n t ≡ tables-told text (tables n legs latest service) answer
+  unfolding tables-of bind
+  service-told latest-read text service P.Nowhere e = rw (legs-read, latest-read, e)
+  service-told latest-read text service (P.At next) e = rw (legs-read, latest-read, e)

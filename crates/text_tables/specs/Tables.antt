@@ -1,4 +1,4 @@
--- The running form of reading the legs and the deadlines, and what the answers of the code say of them.
+-- The running form of reading the legs, the deadlines and the service times, and what the answers of the code say of them.
 use mathlib.Core.Path.{_≡_}
 use mathlib.Core.List.{List, []}
 use mathlib.Core.Option.{Option, none, some, bind}
@@ -20,7 +20,10 @@ rows (suc m) width t = bind (row (ascii "legs=") width t) (λ r. before (r .0) (
 unfoldable pub tables-of : ℕ → List ℕ → Option (Tables × List ℕ)
 unfolding rows row bind
 tables-of locations t =
-    bind (rows locations locations t) (λ legs. bind (row (ascii "latest=") locations (legs .1)) (λ latest. some (tables locations (legs .0) (latest .0), latest .1)))
+    bind (rows locations locations t) (λ legs.
+    bind (row (ascii "latest=") locations (legs .1)) (λ latest.
+    bind (row (ascii "service=") locations (latest .1)) (λ service.
+    some (tables locations (legs .0) (latest .0) (service .0), service .1))))
 
 abbrev pub tables-told : List ℕ → Tables → Place → Option (Tables × List ℕ)
 tables-told t T P.Nowhere = none
@@ -33,3 +36,4 @@ pub record Square (locations : ℕ) (legs : List ℕ) : Type 0 where
 pub record Sized (T : Tables) : Type 0 where
   pub square : Square (T .locations) (T .legs)
   pub deadlines : length (T .latest) ≡ T .locations
+  pub services : length (T .service) ≡ T .locations

@@ -1,4 +1,4 @@
-// The legs and the deadlines of a question, read from bytes into lent places. No entry: crate text_question calls it.
+// The legs, the deadlines and the service times of a question, read from bytes into lent places. No entry: crate text_question calls it.
 use text_lines::read_row;
 use text_tokens::Place;
 ghost use mathlib.Core.Path.{_≡_};
@@ -26,19 +26,23 @@ fn read_rows(text: &[u8], at: usize, locations: usize, legs: &mut [u32]) -> Plac
     Place::At(at)
 }
 
-// The legs and the deadlines.
+// The legs, the deadlines and the service times.
 pub fn read_tables(
     text: &[u8],
     at: usize,
     locations: usize,
     legs: &mut [u32],
     latest: &mut [u32],
+    service: &mut [u32],
 ) -> Place
-    requires { ⌜ Sized (tables locations (now legs) (now latest)) ⌝ }
-    ensures { λ r. ⌜ tables-of locations (drop at (now (text .entry))) ≡ tables-told (now (text .entry)) (tables locations (now (legs .exit)) (now (latest .exit))) r ⌝ }
+    requires { ⌜ Sized (tables locations (now legs) (now latest) (now service)) ⌝ }
+    ensures { λ r. ⌜ tables-of locations (drop at (now (text .entry))) ≡ tables-told (now (text .entry)) (tables locations (now (legs .exit)) (now (latest .exit)) (now (service .exit))) r ⌝ }
 {
-    let Place::At(next) = read_rows(text, at, locations, legs) else {
+    let Place::At(after_legs) = read_rows(text, at, locations, legs) else {
         return Place::Nowhere;
     };
-    read_row(text, next, b"latest=", latest)
+    let Place::At(after_latest) = read_row(text, after_legs, b"latest=", latest) else {
+        return Place::Nowhere;
+    };
+    read_row(text, after_latest, b"service=", service)
 }

@@ -11,8 +11,8 @@ use Rattle.theory.specs.Scan.{Reply, scan-from}
 use Rattle.theory.specs.Moves.{Pattern, patterns, Rising, binomial, cut-sets, candidates}
 use Rattle.theory.specs.Route.{Problem, count, tour-length, reconnected, timely, feasible}
 use Rattle.theory.specs.Polish.{Demand3, polish}
-use Rattle.theory.specs.Refusals.{Rule, any, cut-count, leg-table, deadline-list, leg-sizes, known-stops, stop-count, room, refusal}
-use Rattle.theory.specs.Runs.{T, far}
+use Rattle.theory.specs.Refusals.{Rule, any, cut-count, leg-table, deadline-list, leg-sizes, service-list, known-stops, stop-count, room, refusal}
+use Rattle.theory.specs.Runs.{T, far, none}
 use Rattle.theory.proofs.Route.{feasible-iff}
 use Rattle.theory.proofs.Refusals.{taken}
 
@@ -43,13 +43,13 @@ module _ (P : Problem) (ps : List Pattern) (k allowance : ℕ) where
 -- ---- the text case T
 
 Reply-to-T : List ℕ → Reply (List ℕ) → Type 0
-Reply-to-T r q = Demand3 (T (far ∷ far ∷ far ∷ [])) (patterns 3) 3 100 r q
+Reply-to-T r q = Demand3 (T (far ∷ far ∷ far ∷ []) none) (patterns 3) 3 100 r q
 
 -- "Unchanged on every round": the rival swaps the two stops.
 unchanged : (f : Bool) (e a : ℕ) → Reply-to-T (1 ∷ 2 ∷ []) (record { finished = f; examined = e; accepted = a; route = 1 ∷ 2 ∷ [] }) → ⊥
 unfolding Reply-to-T tour-length reconnected timely patterns binomial
 unchanged f e a d =
-    improvable (T (far ∷ far ∷ far ∷ [])) (patterns 3) 3 100 (1 ∷ 2 ∷ []) _ d (lit≤ tt) (0 ∷ 1 ∷ 2 ∷ []) refl
+    improvable (T (far ∷ far ∷ far ∷ []) none) (patterns 3) 3 100 (1 ∷ 2 ∷ []) _ d (lit≤ tt) (0 ∷ 1 ∷ 2 ∷ []) refl
     (lit≤ tt, lit≤ tt, (lit≤ tt, lit≤ tt, (lit≤ tt, lit≤ tt, tt))) (record { order = 0 ∷ 2 ∷ 1 ∷ 3 ∷ []; mask = 0 })
     (List·Memᴰ·tail (List·Memᴰ·tail (List·Memᴰ·tail (List·Memᴰ·head refl)))) refl (lit≤ tt)
 
@@ -60,14 +60,14 @@ lost-stop f e a d = let z : _≡_ {A = ℕ} 0 1 = d .same-stops 1 in omega arith
 
 remembered-T : (q q′ : Reply (List ℕ)) → Reply-to-T (1 ∷ 2 ∷ []) q → Reply-to-T (1 ∷ 1 ∷ []) q′ → q .route ≡ q′ .route → ⊥
 unfolding Reply-to-T count
-remembered-T q q′ d d′ e = remembered (T (far ∷ far ∷ far ∷ [])) (patterns 3) 3 100 (1 ∷ 2 ∷ []) (1 ∷ 1 ∷ []) q q′ d d′ e 2 (λ (z : _≡_ {A = ℕ} 1 0). omega arith)
+remembered-T q q′ d d′ e = remembered (T (far ∷ far ∷ far ∷ []) none) (patterns 3) 3 100 (1 ∷ 2 ∷ []) (1 ∷ 1 ∷ []) q q′ d d′ e 2 (λ (z : _≡_ {A = ℕ} 1 0). omega arith)
 
 -- "An invented examined count": beyond the bound, and one that is not the scan's own.
 beyond : (f : Bool) (e a : ℕ) → 91 < e → Reply-to-T (1 ∷ 2 ∷ []) (record { finished = f; examined = e; accepted = a; route = 2 ∷ 1 ∷ [] }) → ⊥
 unfolding Reply-to-T tour-length patterns binomial
 beyond f e a h d = let b : e ≤ 91 = d .bound in omega arith
 
-invented : (q : Reply (List ℕ)) → q ≡ polish (T (far ∷ far ∷ far ∷ [])) 3 100 (1 ∷ 2 ∷ []) → (q .examined ≡ 11 → ⊥) → ⊥
+invented : (q : Reply (List ℕ)) → q ≡ polish (T (far ∷ far ∷ far ∷ []) none) 3 100 (1 ∷ 2 ∷ []) → (q .examined ≡ 11 → ⊥) → ⊥
 unfolding scan-from candidates cut-sets patterns tour-length reconnected timely
 invented q e n = n (ap (λ q. q .examined) e)
 
@@ -77,11 +77,11 @@ T-legs = 0 ∷ 5 ∷ 1 ∷ 1 ∷ 0 ∷ 5 ∷ 5 ∷ 1 ∷ 0 ∷ []
 
 T-rules : List Rule
 T-rules =
-    cut-count 3 ∷ leg-table 3 T-legs ∷ deadline-list 3 (far ∷ far ∷ far ∷ []) ∷ leg-sizes T-legs ∷ known-stops 3 0 (1 ∷ 2 ∷ []) ∷ stop-count 2 ∷ room 5 5 ∷ []
+    cut-count 3 ∷ leg-table 3 T-legs ∷ deadline-list 3 (far ∷ far ∷ far ∷ []) ∷ leg-sizes T-legs ∷ service-list 3 none ∷ known-stops 3 0 (1 ∷ 2 ∷ []) ∷ stop-count 2 ∷ room 5 5 ∷ []
 
 refusing : (n : ℕ) → refusal T-rules ≡ suc n → ⊥
 unfolding T-rules T-legs any
-refusing n e = let z : refusal T-rules ≡ 0 = taken T-rules (refl, (refl, (refl, (refl, (refl, (refl, (refl, tt))))))) in omega arith
+refusing n e = let z : refusal T-rules ≡ 0 = taken T-rules (refl, (refl, (refl, (refl, (refl, (refl, (refl, (refl, tt)))))))) in omega arith
 
 -- ---- a case in which one improvement is not enough
 
@@ -91,6 +91,7 @@ U =
     record {
       leg = λ a b. getD (getD ((0 ∷ 1 ∷ 1 ∷ 2 ∷ []) ∷ (1 ∷ 0 ∷ 2 ∷ 1 ∷ []) ∷ (1 ∷ 2 ∷ 0 ∷ 2 ∷ []) ∷ (2 ∷ 1 ∷ 2 ∷ 0 ∷ []) ∷ []) a []) b 0;
       latest = λ a. far;
+      service = λ a. 0;
       depot = 0;
     }
 

@@ -8,8 +8,8 @@ use lib.Dec.{leb, ltb, eqb}
 use lib.ListN.{length, getD}
 use borrow.Author.Tests.{ltb-false, leb-false, ltb-true, eqb-true, not-false}
 use Rattle.theory.specs.Moves.{patterns, Rising}
-use Rattle.theory.specs.Tables.{LegTable, Stops, Measurable, CutSet}
-use Rattle.theory.specs.Refusals.{any, rises, cut-count, leg-table, deadline-list, leg-sizes, known-stops, stop-count, pattern-index, cut-positions, room}
+use Rattle.theory.specs.Tables.{Tables, LegTable, Times, Stops, Measurable, CutSet}
+use Rattle.theory.specs.Refusals.{any, rises, cut-count, leg-table, deadline-list, leg-sizes, service-list, known-stops, stop-count, pattern-index, cut-positions, room}
 
 pub and-true : (a b : Bool) → (a && b) ≡ true → (a ≡ true) × (b ≡ true)
 and-true true b e = (refl, e)
@@ -26,6 +26,12 @@ none-at t [] e i h = absurd (omega arith)
 none-at t (x ∷ l) e zero h = or-false (t x) (any t l) e .0
 none-at t (x ∷ l) e (suc i) h = none-at t l (or-false (t x) (any t l) e .1) i (omega arith)
 
+none-above : (most : ℕ) (l : List ℕ) → any (λ x. ltb most x) l ≡ false → (i : ℕ) → getD l i 0 ≤ most
+unfolding any
+none-above most [] e i = omega arith
+none-above most (x ∷ l) e zero = ltb-false most x (or-false (ltb most x) (any (λ x. ltb most x) l) e .0)
+none-above most (x ∷ l) e (suc i) = none-above most l (or-false (ltb most x) (any (λ x. ltb most x) l) e .1) i
+
 pub cut-count-fine : (k : ℕ) → cut-count k .1 ≡ false → (2 ≤ k) × (k ≤ 5)
 cut-count-fine k e = let p = or-false (ltb k 2) (ltb 5 k) e in (ltb-false k 2 (p .0), ltb-false 5 k (p .1))
 
@@ -36,13 +42,8 @@ table-fine locations legs e f =
     record {
       few = ltb-false 1024 locations (q .1);
       square = eqb-true (length legs) (locations * locations) (not-false _ (p .1));
-      small = small legs f;
+      small = none-above 1000000 legs f;
     }
-  where
-    small : (l : List ℕ) → any (λ d. ltb 1000000 d) l ≡ false → (i : ℕ) → getD l i 0 ≤ 1000000
-    small [] e i = omega arith
-    small (x ∷ l) e zero = ltb-false 1000000 x (none-at (λ d. ltb 1000000 d) (x ∷ l) e 0 (omega arith))
-    small (x ∷ l) e (suc i) = small l (unfold any in or-false (ltb 1000000 x) (any (λ d. ltb 1000000 d) l) e .1) i
 
 pub stops-fine : (locations depot : ℕ) (route : List ℕ) → known-stops locations depot route .1 ≡ false → stop-count (length route) .1 ≡ false →
     (depot < locations) × Stops locations route
@@ -59,8 +60,14 @@ measurable-fine locations legs depot route a b c d =
     let p = stops-fine locations depot route c d in
     record { table = table-fine locations legs a b; depot-known = p .0; stops = p .1 }
 
-pub deadlines-fine : (locations : ℕ) (latest : List ℕ) → deadline-list locations latest .1 ≡ false → length latest ≡ locations
-deadlines-fine locations latest e = eqb-true (length latest) locations (not-false _ e)
+pub times-fine : (T : Tables) → deadline-list (T .locations) (T .latest) .1 ≡ false → service-list (T .locations) (T .service) .1 ≡ false → Times T
+times-fine T e f =
+    let p = or-false (not (eqb (length (T .service)) (T .locations))) (any (λ s. ltb 1000000 s) (T .service)) f in
+    record {
+      deadlines = eqb-true (length (T .latest)) (T .locations) (not-false _ e);
+      services = eqb-true (length (T .service)) (T .locations) (not-false _ (p .0));
+      brief = none-above 1000000 (T .service) (p .1);
+    }
 
 pub pattern-fine : (k index : ℕ) → pattern-index k index .1 ≡ false → index < length (patterns k)
 pattern-fine k index e = leb-false (length (patterns k)) index e

@@ -4,7 +4,8 @@ use mathlib.Core.Bool.{Bool, true, false, cond, not, _&&_, _||_, false≢true, t
 use mathlib.Core.List.{List, [], _∷_, _++_}
 use Prim.Native.Nat.{ℕ, zero, suc}
 use lib.Dec.{eqb}
-use Rattle.theory.specs.Refusals.{Rule, number, any, either, rules-of, first-in, refusal, room}
+use lib.ListN.{take}
+use Rattle.theory.specs.Refusals.{Rule, number, any, order, either, rules-of, first-in, refusal, room}
 use Rattle.theory.proofs.Refusals.{either-zero, either-assoc}
 
 -- No rule has one of these two numbers.
@@ -75,7 +76,7 @@ before b rs x later (n ∷ ns) e h = by (eqb n 21) refl e (before b rs x later n
 -- "21: lent result .. too short": given only where no other rule of the call applies.
 pub room-last : (rs : List Rule) (needed lent : ℕ) → early rs ≡ true → refusal (rs ++ (room needed lent ∷ [])) ≡ either (refusal rs) (number (room needed lent))
 unfolding refusal any
-room-last rs needed lent h = before _ rs (number (room needed lent)) (21 ∷ 22 ∷ []) (10 ∷ 1 ∷ 2 ∷ 3 ∷ 4 ∷ 5 ∷ 6 ∷ 7 ∷ 8 ∷ 9 ∷ []) refl last
+room-last rs needed lent h = before _ rs (number (room needed lent)) (21 ∷ 22 ∷ []) (take 19 order) refl last
   where
     last : first-in (21 ∷ 22 ∷ []) (rs ++ (room needed lent ∷ [])) ≡ either (first-in (21 ∷ 22 ∷ []) rs) (number (room needed lent))
     last = unfold first-in in rw (none-of-22 rs h, none-of-21 rs h, other-number 22 (room needed lent) refl rs 0, none-of-22 rs h, own-number _ rs h, either-zero) (unfold either in refl)

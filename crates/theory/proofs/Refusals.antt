@@ -1,13 +1,13 @@
 -- What a refusal number says of the rules: 0 exactly if none applies, else the first number of the order that has a rule which applies. Assumes nothing.
-use mathlib.Core.Path.{_≡_, refl, sym, ap, _∙_, subst}
-use mathlib.Core.Bool.{Bool, true, false, cond, not, _&&_, _||_, and-eq-true-iff, true≢false}
+use mathlib.Core.Path.{_≡_, refl, sym, ap, _∙_}
+use mathlib.Core.Bool.{Bool, true, false, cond, _&&_, _||_, and-eq-true-iff, true≢false}
 use mathlib.Core.Logic.{_⊎_, inl, inr, ⊎-elim}
-use mathlib.Core.List.{List, [], _∷_, _++_, List·Memᴰ, List·Memᴰ·head, List·Memᴰ·tail, List·Memᴰ·cases-cons, List·Memᴰ·not-nil, List·Memᴰ·append-cases}
-use Prim.Native.Nat.{ℕ, zero, suc, _≤_}
+use mathlib.Core.List.{List, [], _∷_, _++_, map, List·Memᴰ, List·Memᴰ·head, List·Memᴰ·tail, List·Memᴰ·cases-cons, List·Memᴰ·not-nil}
+use Prim.Native.Nat.{ℕ, zero, suc}
 use native.Mathlib.Omega.{arith}
-use lib.Dec.{eqb, leb}
+use lib.Dec.{eqb}
 use lib.ListN.{length}
-use borrow.Author.Tests.{eqb-true, eqb-false, leb-true}
+use borrow.Author.Tests.{eqb-true, eqb-false}
 use Rattle.theory.specs.Refusals.{Rule, number, any, order, either, rules-of, first-in, refusal}
 
 -- No rule applies.
@@ -170,64 +170,23 @@ taken rs p = first order
     first [] = refl
     first (n ∷ ns) = of n (first-in ns rs) rs p ∙ first ns
 
--- ---- the order is document 01's
+-- ---- the order is that of the documents
 
--- "The lowest number that applies to the call is given, and no other; 10 comes before all": n is given where m applies too.
-abbrev pub Lower : ℕ → ℕ → Type 0
-Lower n m = (n ≡ 10) ⊎ ((m ≡ 10 → ⊥) × (n ≤ m))
+-- What they say of two numbers that both apply: the first of each pair is given.
+abbrev said : List (ℕ × ℕ)
+said =
+    -- "The lowest number that applies to the call is given, and no other; 10 comes before all."
+    (10, 1) ∷ (1, 2) ∷ (2, 3) ∷ (3, 4) ∷ (4, 5) ∷ (5, 6) ∷ (6, 7) ∷ (7, 8) ∷ (8, 9) ∷ (9, 21) ∷ (21, 22)
+    -- "23, .. after 3 and before 4"; "24, .. after 4 and before 5"; "25, .. after 9 and before 21".
+    ∷ (3, 23) ∷ (23, 4) ∷ (4, 24) ∷ (24, 5) ∷ (9, 25) ∷ (25, 21)
+    -- "26, .. 27, .. 28, .. come after 1 and before 2, lowest first"; "29, .. after 24 and before 5".
+    ∷ (1, 26) ∷ (26, 27) ∷ (27, 28) ∷ (28, 2) ∷ (24, 29) ∷ (29, 5)
+    -- "30, .. before all others"; "31, .. after 9 and before 21".
+    ∷ (30, 10) ∷ (9, 31) ∷ (31, 21) ∷ []
 
-lower : ℕ → ℕ → Bool
-lower n m = eqb n 10 || (not (eqb m 10) && leb n m)
-
-lower-is : (n m : ℕ) → lower n m ≡ true → Lower n m
-unfolding lower
-lower-is n m h = by (eqb n 10) refl (eqb m 10) refl h
-  where
-    by : (a : Bool) → eqb n 10 ≡ a → (b : Bool) → eqb m 10 ≡ b → (a || (not b && leb n m)) ≡ true → Lower n m
-    by true e b f h = inl (eqb-true n 10 e)
-    by false e true f h = absurd (true≢false (sym h))
-    by false e false f h = inr (eqb-false m 10 f, leb-true n m h)
-
-each : (ℕ → Bool) → List ℕ → Bool
-each t [] = true
-each t (x ∷ xs) = t x && each t xs
-
-each-at : (t : ℕ → Bool) (l : List ℕ) → each t l ≡ true → (x : ℕ) → List·Memᴰ x l → t x ≡ true
-unfolding each
-each-at t [] h x i = absurd (List·Memᴰ·not-nil i)
-each-at t (y ∷ l) h x i =
-    let b = and-eq-true-iff (t y) (each t l) .0 h in
-    ⊎-elim (λ e. rw e (b .0)) (each-at t l (b .1) x) (List·Memᴰ·cases-cons i)
-
--- Each number is lower than those after it.
-sorted : List ℕ → Bool
-sorted [] = true
-sorted (n ∷ ns) = each (lower n) ns && sorted ns
-
-sorted-at : (earlier : List ℕ) (n : ℕ) (later : List ℕ) → sorted (earlier ++ (n ∷ later)) ≡ true → (m : ℕ) → List·Memᴰ m later → lower n m ≡ true
-unfolding sorted
-sorted-at [] n later h = each-at (lower n) later (and-eq-true-iff (each (lower n) later) (sorted later) .0 h .0)
-sorted-at (x ∷ earlier) n later h =
-    sorted-at earlier n later (and-eq-true-iff (each (lower x) (earlier ++ (n ∷ later))) (sorted (earlier ++ (n ∷ later))) .0 h .1)
-
-order-sorted : sorted order ≡ true
-unfolding sorted each lower
-order-sorted = refl
-
-lower-same : (n : ℕ) → Lower n n
-lower-same n = by (eqb n 10) refl
-  where
-    by : (b : Bool) → eqb n 10 ≡ b → Lower n n
-    by true e = inl (eqb-true n 10 e)
-    by false e = inr (eqb-false n 10 e, omega arith)
-
-pub lowest : (rs : List Rule) → known rs ≡ true → (n : ℕ) → refusal rs ≡ suc n → (r : Rule) → List·Memᴰ r rs → r .1 ≡ true → Lower (suc n) (r .0)
-lowest rs k n h r i a =
-    let d = refused-first rs k n h in
-    let j : List·Memᴰ (r .0) (d .earlier ++ (suc n ∷ d .later)) = subst (List·Memᴰ (r .0)) (d .place) (listed (r .0) order (stands rs k r i)) in
-    ⊎-elim (λ e. absurd (true≢false (sym a ∙ d .first r i e)))
-    (λ t. ⊎-elim (λ e. rw e (lower-same (suc n))) (λ l. lower-is (suc n) (r .0) (sorted-at (d .earlier) (suc n) (d .later) (rw (← d .place) order-sorted) (r .0) l)) (List·Memᴰ·cases-cons t))
-    (List·Memᴰ·append-cases (d .earlier) j)
+pub order-as-said : map (λ (p : ℕ × ℕ). refusal ((p .1, true) ∷ (p .0, true) ∷ [])) said ≡ map (λ p. p .0) said
+unfolding refusal first-in rules-of either
+order-as-said = refl
 
 -- ---- the checks of a call, one after the other
 

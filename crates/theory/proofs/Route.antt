@@ -11,7 +11,7 @@ use native.Mathlib.Nat.{le-of-suc-le-suc}
 use lib.ListN.{length, getD, drop, length-drop}
 use lib.Seq.{slice, length-slice}
 use Rattle.theory.specs.Moves.{upfrom, total, Pattern, Move, Rising}
-use Rattle.theory.specs.Route.{segments, reverses, reverse-if, placed, joined, reconnected, Problem, Clock, clock-of, arrival, late, every, timely, Timely, feasible, Feasible}
+use Rattle.theory.specs.Route.{segments, reverses, reverse-if, placed, joined, reconnected, Problem, Timetable, timetable-of, arrival, late, every, timely, Timely, feasible, Feasible}
 use Rattle.theory.proofs.Moves.{total-append}
 
 -- ---- reconnecting keeps every sum over the stops
@@ -21,7 +21,7 @@ unfolding total
 total-reverseAux g [] r = omega arith
 total-reverseAux g (x ∷ l) r = omega (arith, total-reverseAux g l (x ∷ r))
 
-total-reverse-if : (g : ℕ → ℕ) (b : Bool) (l : List ℕ) → total g (reverse-if b l) ≡ total g l
+pub total-reverse-if : (g : ℕ → ℕ) (b : Bool) (l : List ℕ) → total g (reverse-if b l) ≡ total g l
 unfolding reverse-if total
 total-reverse-if g true l = omega (arith, total-reverseAux g l [])
 total-reverse-if g false l = refl
@@ -46,11 +46,16 @@ unfolding total upfrom flatten
 total-segments g [] = refl
 total-segments g (p ∷ ps) = omega (arith, total-append g p (flatten ps), total-segments g ps, total-shift (λ i. total g (getD (p ∷ ps) i [])) 0 (length ps))
 
+-- Over placed segments, whichever are reversed.
+pub total-placed : (g : ℕ → ℕ) (mask : ℕ) (ps : List (List ℕ)) (o : List ℕ) → total g (flatten (placed mask ps o)) ≡ total (λ i. total g (getD ps i [])) o
+unfolding placed
+total-placed g mask ps o =
+    total-flatten g (λ i. reverse-if (reverses mask i) (getD ps i [])) o ∙ total-same _ _ (λ i. total-reverse-if g (reverses mask i) (getD ps i [])) o
+
 pub total-joined : (g : ℕ → ℕ) (p : Pattern) (ps : List (List ℕ)) → ((h : ℕ → ℕ) → total h (p .order) ≡ total h (upfrom 0 (length ps))) → total g (joined p ps) ≡ total g (flatten ps)
-unfolding joined placed
+unfolding joined
 total-joined g p ps h =
-    total-flatten g (λ i. reverse-if (reverses (p .mask) i) (getD ps i [])) (p .order)
-    ∙ total-same _ _ (λ i. total-reverse-if g (reverses (p .mask) i) (getD ps i [])) (p .order)
+    total-placed g (p .mask) ps (p .order)
     ∙ h (λ i. total g (getD ps i []))
     ∙ total-segments g ps
 
@@ -98,11 +103,11 @@ every-iff (suc n) t =
     at i h (yes p) a f = rw p a
     at i h (no p) a f = f i (omega arith)
 
-pub timely-iff : (C : Clock) (depot : ℕ) (r : List ℕ) → (timely C depot r ≡ true) ↔ Timely C depot r
+pub timely-iff : (B : Timetable) (depot : ℕ) (r : List ℕ) → (timely B depot r ≡ true) ↔ Timely B depot r
 unfolding timely late
-timely-iff C depot r =
-    let e = every-iff (length r) (λ i. not (late C depot r i)) in
-    (λ k i h. ltb-false _ _ (not-true _ (e .0 k i h)), λ k. e .1 (λ i h. rw (le-ltb (C .latest (getD r i 0)) (arrival C depot r i) (k i h))))
+timely-iff B depot r =
+    let e = every-iff (length r) (λ i. not (late B depot r i)) in
+    (λ k i h. ltb-false _ _ (not-true _ (e .0 k i h)), λ k. e .1 (λ i h. rw (le-ltb (B .latest (getD r i 0)) (arrival B depot r i) (k i h))))
 
 pub feasible-iff : (P : Problem) (r : List ℕ) → (feasible P r ≡ true) ↔ Feasible P r
-feasible-iff P r = timely-iff (clock-of P) (P .depot) r
+feasible-iff P r = timely-iff (timetable-of P) (P .depot) r

@@ -9,7 +9,7 @@ use lib.ListN.{length, getD, take}
 use lib.IntN.{ℤ}
 use lib.Ieee.{Float}
 use Rattle.theory.specs.Moves.{Pattern}
-use Rattle.theory.specs.Route.{Problem, Clock, late, Timely, tour-length}
+use Rattle.theory.specs.Route.{Problem, Timetable, late, Timely, tour-length}
 use Rattle.theory.specs.Scan.{Reply}
 use Rattle.theory.specs.Polish.{polish-with, Demand3}
 use Rattle.theory.specs.declared.Deadline.{Deadline}
@@ -62,14 +62,14 @@ abbrev pub delta-answer : LengthDelta → Answer ℤ
 delta-answer (Delta.Refused n) = refused n
 delta-answer (Delta.Seconds s) = reply 0 (s ∷ [])
 
--- "A stop is late if the legs from the depot up to it exceed its latest."
-abbrev pub LateAt : Clock → (depot : ℕ) → List ℕ → ℕ → Type 0
-LateAt C depot route p = (p < length route) × (late C depot route p ≡ true)
+-- "A stop is late if the legs up to it plus the service of the stops before it exceed its latest."
+abbrev pub LateAt : Timetable → (depot : ℕ) → List ℕ → ℕ → Type 0
+LateAt B depot route p = (p < length route) × (late B depot route p ≡ true)
 
 -- "The check answers kept exactly then, else some late position; which one is free."
-abbrev pub Checked : Clock → (depot : ℕ) → List ℕ → Deadline → Type 0
-Checked C depot route Check.Kept = Timely C depot route
-Checked C depot route (Check.Late p) = LateAt C depot route p
+abbrev pub Checked : Timetable → (depot : ℕ) → List ℕ → Deadline → Type 0
+Checked B depot route Check.Kept = Timely B depot route
+Checked B depot route (Check.Late p) = LateAt B depot route p
 
 -- The position that the check writes for a route of n stops: a late one, or n for kept.
 abbrev pub deadline-position : ℕ → Deadline → ℕ
@@ -81,8 +81,8 @@ feasibility-answer n (Judged.Refused q) = refused q
 feasibility-answer n (Judged.Checked d) = reply 0 (deadline-position n d ∷ [])
 
 -- What a written position says of a route.
-abbrev pub Verdict : Clock → (depot : ℕ) → List ℕ → ℕ → Type 0
-Verdict C depot route p = ((p ≡ length route) × Timely C depot route) ⊎ LateAt C depot route p
+abbrev pub Verdict : Timetable → (depot : ℕ) → List ℕ → ℕ → Type 0
+Verdict B depot route p = ((p ≡ length route) × Timely B depot route) ⊎ LateAt B depot route p
 
 -- "The position with its distance, or none."
 abbrev pub nearest-values : Nearest → List (ℕ × Float)

@@ -12,8 +12,8 @@ pub record Question : Type 0 where
   pub trip : Trip
   pub route : List ℕ
 
-abbrev pub question : (k allowance locations : ℕ) → (legs latest : List ℕ) → ℕ → List ℕ → Question
-question k allowance locations legs latest depot route = record { k = k; allowance = allowance; trip = trip locations legs latest depot; route = route }
+abbrev pub question : (k allowance locations : ℕ) → (legs latest service : List ℕ) → ℕ → List ℕ → Question
+question k allowance locations legs latest service depot route = record { k = k; allowance = allowance; trip = trip locations legs latest service depot; route = route }
 
 -- The rules by which it is refused.
 abbrev pub question-rules : Question → List Rule

@@ -39,6 +39,10 @@ deadline-list locations latest = (2, not (eqb (length latest) locations))
 abbrev pub leg-sizes : List ℕ → Rule
 leg-sizes legs = (3, any (λ d. ltb 1000000 d) legs)
 
+-- "23: a service list not one entry for each location, or an entry above 1,000,000."
+abbrev pub service-list : ℕ → List ℕ → Rule
+service-list locations service = (23, not (eqb (length service) locations) || any (λ s. ltb 1000000 s) service)
+
 -- "4: depot or stop not below the locations."
 abbrev pub known-stops : ℕ → ℕ → List ℕ → Rule
 known-stops locations depot route = (4, leb locations depot || any (λ s. leb locations s) route)
@@ -96,9 +100,9 @@ room needed lent = (21, ltb lent needed)
 abbrev pub journal-length : ℕ → ℕ → Rule
 journal-length n journal = (22, not (eqb journal n))
 
--- "The lowest number that applies to the call is given, and no other; 10 comes before all."
+-- The one order of all numbers, stated with the requests; those without a rule are of requests to come.
 abbrev pub order : List ℕ
-order = 10 ∷ 1 ∷ 2 ∷ 3 ∷ 4 ∷ 5 ∷ 6 ∷ 7 ∷ 8 ∷ 9 ∷ 21 ∷ 22 ∷ []
+order = 30 ∷ 10 ∷ 1 ∷ 26 ∷ 27 ∷ 28 ∷ 2 ∷ 3 ∷ 23 ∷ 4 ∷ 24 ∷ 29 ∷ 5 ∷ 6 ∷ 7 ∷ 8 ∷ 9 ∷ 25 ∷ 31 ∷ 21 ∷ 22 ∷ []
 
 -- A rule's number where it applies, else 0.
 abbrev pub number : Rule → ℕ
@@ -131,7 +135,7 @@ if-taken rules a b = cond (eqb (refusal rules) 0) a b
 
 -- The rules of the tables, and with the depot and a route.
 abbrev pub table-rules : Tables → List Rule
-table-rules T = leg-table (T .locations) (T .legs) ∷ deadline-list (T .locations) (T .latest) ∷ leg-sizes (T .legs) ∷ []
+table-rules T = leg-table (T .locations) (T .legs) ∷ deadline-list (T .locations) (T .latest) ∷ leg-sizes (T .legs) ∷ service-list (T .locations) (T .service) ∷ []
 
 abbrev pub problem-rules : Trip → List ℕ → List Rule
 problem-rules T route = table-rules (T .tables) ++ (known-stops (T .tables .locations) (T .depot) route ∷ stop-count (length route) ∷ [])

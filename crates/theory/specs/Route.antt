@@ -39,10 +39,11 @@ unfoldable pub count : ℕ → List ℕ → ℕ
 unfolding total
 count x r = total (λ y. cond (eqb x y) 1 0) r
 
--- What "the polisher, and a rival planner" share beside k: "the leg table, the deadlines, the depot".
+-- What "the polisher, and a rival planner" share beside k: "the leg table, the deadlines, the depot"; and "each location gets a service time in seconds".
 pub record Problem : Type 0 where
   pub leg : ℕ → ℕ → ℕ
   pub latest : ℕ → ℕ
+  pub service : ℕ → ℕ
   pub depot : ℕ
 
 -- The legs from a along the stops.
@@ -55,23 +56,24 @@ unfoldable pub tour-length : Problem → List ℕ → ℕ
 unfolding path
 tour-length P r = path (P .leg) (P .depot) (r ++ (P .depot ∷ []))
 
--- What a clock reads that runs along a route, wherever it sets out.
-pub record Clock : Type 0 where
+-- What decides whether a stop is late, wherever the boat sets out.
+pub record Timetable : Type 0 where
   pub leg : ℕ → ℕ → ℕ
   pub latest : ℕ → ℕ
+  pub service : ℕ → ℕ
 
-abbrev pub clock-of : Problem → Clock
-clock-of P = record { leg = P .leg; latest = P .latest }
+abbrev pub timetable-of : Problem → Timetable
+timetable-of P = record { leg = P .leg; latest = P .latest; service = P .service }
 
--- "The legs from the depot up to it": when the stop at position i is reached.
-unfoldable pub arrival : Clock → (depot : ℕ) → List ℕ → ℕ → ℕ
-unfolding path
-arrival C depot r i = path (C .leg) depot (take (suc i) r)
+-- "The legs up to it plus the service of the stops before it": when the stop at position i is reached.
+unfoldable pub arrival : Timetable → (depot : ℕ) → List ℕ → ℕ → ℕ
+unfolding path total
+arrival B depot r i = path (B .leg) depot (take (suc i) r) + total (B .service) (take i r)
 
--- "A stop is late if the legs from the depot up to it exceed its latest."
-unfoldable pub late : Clock → (depot : ℕ) → List ℕ → ℕ → Bool
+-- "A stop is late if the legs up to it plus the service of the stops before it exceed its latest."
+unfoldable pub late : Timetable → (depot : ℕ) → List ℕ → ℕ → Bool
 unfolding arrival
-late C depot r i = ltb (C .latest (getD r i 0)) (arrival C depot r i)
+late B depot r i = ltb (B .latest (getD r i 0)) (arrival B depot r i)
 
 -- A test holds at every place below n.
 unfoldable pub every : ℕ → (ℕ → Bool) → Bool
@@ -79,22 +81,35 @@ every zero t = true
 every (suc n) t = t n && every n t
 
 -- The running form of the next definition.
-unfoldable pub timely : Clock → (depot : ℕ) → List ℕ → Bool
+unfoldable pub timely : Timetable → (depot : ℕ) → List ℕ → Bool
 unfolding late every
-timely C depot r = every (length r) (λ i. not (late C depot r i))
+timely B depot r = every (length r) (λ i. not (late B depot r i))
 
 -- "A round keeps every deadline when none of its stops is late."
-abbrev pub Timely : Clock → (depot : ℕ) → List ℕ → Type 0
-Timely C depot r = (i : ℕ) → i < length r → arrival C depot r i ≤ C .latest (getD r i 0)
+abbrev pub Timely : Timetable → (depot : ℕ) → List ℕ → Type 0
+Timely B depot r = (i : ℕ) → i < length r → arrival B depot r i ≤ B .latest (getD r i 0)
 
--- The same as a clock runs: from a at second t along the rest of the route, no stop is late.
+-- The same as a clock runs that shows when each stop is left: the seconds from leaving a to leaving x, and the last second at which x may be left.
+pub record Clock : Type 0 where
+  pub step : ℕ → ℕ → ℕ
+  pub until : ℕ → ℕ
+
+abbrev pub clock : Timetable → Clock
+clock B = record { step = λ a x. B .leg a x + B .service x; until = λ x. B .latest x + B .service x }
+
+-- When the stop at position i is left.
+unfoldable pub left : Clock → (depot : ℕ) → List ℕ → ℕ → ℕ
+unfolding path
+left C depot r i = path (C .step) depot (take (suc i) r)
+
+-- From a, left at second t, along the rest of the route, no stop is late.
 unfoldable pub on-time : Clock → ℕ → ℕ → List ℕ → Bool
 on-time C a t [] = true
-on-time C a t (x ∷ xs) = leb (t + C .leg a x) (C .latest x) && on-time C x (t + C .leg a x) xs
+on-time C a t (x ∷ xs) = leb (t + C .step a x) (C .until x) && on-time C x (t + C .step a x) xs
 
 -- What a route must keep to be taken: every deadline. The running form, and what it says.
 abbrev pub feasible : Problem → List ℕ → Bool
-feasible P r = timely (clock-of P) (P .depot) r
+feasible P r = timely (timetable-of P) (P .depot) r
 
 abbrev pub Feasible : Problem → List ℕ → Type 0
-Feasible P r = Timely (clock-of P) (P .depot) r
+Feasible P r = Timely (timetable-of P) (P .depot) r

@@ -1,9 +1,11 @@
 -- The starred runs of document 01 as one table: what is asked, and what it says.
+use mathlib.Core.Bool.{cond}
 use mathlib.Core.List.{List, [], _∷_, _++_}
 use Prim.Native.Nat.{ℕ}
 use lib.ListN.{length, getD}
 use Rattle.theory.specs.Moves.{patterns, cut-sets}
-use Rattle.theory.specs.Route.{Problem}
+use Rattle.theory.specs.Route.{Problem, timely}
+use Rattle.theory.specs.Tables.{tables, timetable-by}
 use Rattle.theory.specs.Polish.{polish}
 use Rattle.theory.specs.Answers.{five-numbers}
 
@@ -11,14 +13,16 @@ pub data Ask : Type 0 where
   pattern : (k index : ℕ) → Ask
   how-many-patterns : (k : ℕ) → Ask
   how-many-cut-sets : (k stops : ℕ) → Ask
-  T-with : (k allowance : ℕ) (latest : List ℕ) → Ask
+  kept : (latest service route : List ℕ) → Ask
+  T-with : (k allowance : ℕ) (latest service : List ℕ) → Ask
 
--- The text case of document 01, with the deadlines given.
-abbrev pub T : List ℕ → Problem
-T latest =
+-- The text case of document 01, with the deadlines and service times given.
+abbrev pub T : (latest service : List ℕ) → Problem
+T latest service =
     record {
       leg = λ a b. getD (getD ((0 ∷ 5 ∷ 1 ∷ []) ∷ (1 ∷ 0 ∷ 5 ∷ []) ∷ (5 ∷ 1 ∷ 0 ∷ []) ∷ []) a []) b 0;
       latest = λ a. getD latest a 0;
+      service = λ a. getD service a 0;
       depot = 0;
     }
 
@@ -28,10 +32,15 @@ unfolding patterns cut-sets
 answer (pattern k i) = let p = getD (patterns k) i (record { order = []; mask = 0 }) in p .mask ∷ p .order
 answer (how-many-patterns k) = length (patterns k) ∷ []
 answer (how-many-cut-sets k n) = length (cut-sets k n) ∷ []
-answer (T-with k a l) = (let q = polish (T l) k a (1 ∷ 2 ∷ []) in five-numbers (T l) (1 ∷ 2 ∷ []) q ++ q .route)
+answer (kept l s r) = cond (timely (timetable-by (tables 2 (1 ∷ 1 ∷ 1 ∷ 1 ∷ []) l s)) 0 r) 1 0 ∷ []
+answer (T-with k a l s) = (let q = polish (T l s) k a (1 ∷ 2 ∷ []) in five-numbers (T l s) (1 ∷ 2 ∷ []) q ++ q .route)
 
 abbrev pub far : ℕ
 far = 4294967295
+
+-- No time on any lamp.
+abbrev pub none : List ℕ
+none = 0 ∷ 0 ∷ 0 ∷ []
 
 abbrev pub runs : List (Ask × List ℕ)
 runs =
@@ -51,12 +60,21 @@ runs =
     ∷ (how-many-cut-sets 3 4, 10 ∷ [])
     ∷ (how-many-cut-sets 4 4, 5 ∷ [])
     ∷ (how-many-cut-sets 5 4, 1 ∷ [])
-    ∷ (T-with 3 11 (far ∷ far ∷ far ∷ []), 0 ∷ 11 ∷ 1 ∷ 15 ∷ 3 ∷ 2 ∷ 1 ∷ [])
-    ∷ (T-with 3 10 (far ∷ far ∷ far ∷ []), 1 ∷ 10 ∷ 1 ∷ 15 ∷ 3 ∷ 2 ∷ 1 ∷ [])
-    ∷ (T-with 3 3 (far ∷ far ∷ far ∷ []), 1 ∷ 3 ∷ 0 ∷ 15 ∷ 15 ∷ 1 ∷ 2 ∷ [])
-    ∷ (T-with 3 100 (far ∷ 1 ∷ far ∷ []), 0 ∷ 7 ∷ 0 ∷ 15 ∷ 15 ∷ 1 ∷ 2 ∷ [])
-    ∷ (T-with 3 100 (far ∷ 2 ∷ far ∷ []), 0 ∷ 11 ∷ 1 ∷ 15 ∷ 3 ∷ 2 ∷ 1 ∷ [])
-    ∷ (T-with 3 100 (far ∷ far ∷ far ∷ []), 0 ∷ 11 ∷ 1 ∷ 15 ∷ 3 ∷ 2 ∷ 1 ∷ [])
-    ∷ (T-with 4 100 (far ∷ far ∷ far ∷ []), 0 ∷ 0 ∷ 0 ∷ 15 ∷ 15 ∷ 1 ∷ 2 ∷ [])
-    ∷ (T-with 3 18446744073709551615 (far ∷ far ∷ far ∷ []), 0 ∷ 11 ∷ 1 ∷ 15 ∷ 3 ∷ 2 ∷ 1 ∷ [])
+    ∷ (T-with 3 11 (far ∷ far ∷ far ∷ []) none, 0 ∷ 11 ∷ 1 ∷ 15 ∷ 3 ∷ 2 ∷ 1 ∷ [])
+    ∷ (T-with 3 10 (far ∷ far ∷ far ∷ []) none, 1 ∷ 10 ∷ 1 ∷ 15 ∷ 3 ∷ 2 ∷ 1 ∷ [])
+    ∷ (T-with 3 3 (far ∷ far ∷ far ∷ []) none, 1 ∷ 3 ∷ 0 ∷ 15 ∷ 15 ∷ 1 ∷ 2 ∷ [])
+    ∷ (T-with 3 100 (far ∷ 1 ∷ far ∷ []) none, 0 ∷ 7 ∷ 0 ∷ 15 ∷ 15 ∷ 1 ∷ 2 ∷ [])
+    ∷ (T-with 3 100 (far ∷ 2 ∷ far ∷ []) none, 0 ∷ 11 ∷ 1 ∷ 15 ∷ 3 ∷ 2 ∷ 1 ∷ [])
+    ∷ (T-with 3 100 (far ∷ far ∷ far ∷ []) none, 0 ∷ 11 ∷ 1 ∷ 15 ∷ 3 ∷ 2 ∷ 1 ∷ [])
+    ∷ (T-with 4 100 (far ∷ far ∷ far ∷ []) none, 0 ∷ 0 ∷ 0 ∷ 15 ∷ 15 ∷ 1 ∷ 2 ∷ [])
+    ∷ (T-with 3 18446744073709551615 (far ∷ far ∷ far ∷ []) none, 0 ∷ 11 ∷ 1 ∷ 15 ∷ 3 ∷ 2 ∷ 1 ∷ [])
+    -- Two locations, legs of 1: the service of the stop itself and of the depot at the start does not count, each visit does, the depot as a stop does.
+    ∷ (kept (far ∷ 1 ∷ []) (5 ∷ 10 ∷ []) (1 ∷ []), 1 ∷ [])
+    ∷ (kept (far ∷ 11 ∷ []) (5 ∷ 10 ∷ []) (1 ∷ 1 ∷ []), 0 ∷ [])
+    ∷ (kept (far ∷ 12 ∷ []) (5 ∷ 10 ∷ []) (1 ∷ 1 ∷ []), 1 ∷ [])
+    ∷ (kept (far ∷ 6 ∷ []) (5 ∷ 10 ∷ []) (0 ∷ 1 ∷ []), 0 ∷ [])
+    ∷ (kept (far ∷ 7 ∷ []) (5 ∷ 10 ∷ []) (0 ∷ 1 ∷ []), 1 ∷ [])
+    -- Ten seconds at stop 2: the legs up to stop 1 behind it are 2, and it is reached at second 12.
+    ∷ (T-with 3 100 (far ∷ 11 ∷ far ∷ []) (0 ∷ 0 ∷ 10 ∷ []), 0 ∷ 7 ∷ 0 ∷ 15 ∷ 15 ∷ 1 ∷ 2 ∷ [])
+    ∷ (T-with 3 100 (far ∷ 12 ∷ far ∷ []) (0 ∷ 0 ∷ 10 ∷ []), 0 ∷ 11 ∷ 1 ∷ 15 ∷ 3 ∷ 2 ∷ 1 ∷ [])
     ∷ []

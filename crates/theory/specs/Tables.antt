@@ -4,25 +4,26 @@ use mathlib.Core.List.{List, [], _∷_, _++_, List·Memᴰ}
 use Prim.Native.Nat.{ℕ, suc, _+_, _-_, _*_, _^_, _≤_, _<_}
 use lib.ListN.{length, getD, take, drop}
 use Rattle.theory.specs.Moves.{Pattern, Rising, total, upfrom}
-use Rattle.theory.specs.Route.{Problem, Clock}
+use Rattle.theory.specs.Route.{Problem, Timetable, Clock, clock}
 
 -- What a caller lends beside the rounds: "one lent table, a whole number of seconds for each ordered pair of locations, row = from"; "each location has a
--- latest second".
+-- latest second"; "each location gets a service time in seconds".
 pub record Tables : Type 0 where
   pub locations : ℕ
   pub legs : List ℕ
   pub latest : List ℕ
+  pub service : List ℕ
 
-abbrev pub tables : ℕ → List ℕ → List ℕ → Tables
-tables locations legs latest = record { locations = locations; legs = legs; latest = latest }
+abbrev pub tables : ℕ → List ℕ → List ℕ → List ℕ → Tables
+tables locations legs latest service = record { locations = locations; legs = legs; latest = latest; service = service }
 
 -- What one boat's round is planned by: the tables, and where it sets out and ends.
 pub record Trip : Type 0 where
   pub tables : Tables
   pub depot : ℕ
 
-abbrev pub trip : ℕ → List ℕ → List ℕ → ℕ → Trip
-trip locations legs latest depot = record { tables = tables locations legs latest; depot = depot }
+abbrev pub trip : ℕ → List ℕ → List ℕ → List ℕ → ℕ → Trip
+trip locations legs latest service depot = record { tables = tables locations legs latest service; depot = depot }
 
 -- What the boats of a run are lent: rounds "whose stops lie end to end, with a length, a depot and a pin byte for each".
 pub record Fleet : Type 0 where
@@ -34,16 +35,19 @@ pub record Fleet : Type 0 where
 abbrev pub fleet : (stops lengths depots pins : List ℕ) → Fleet
 fleet stops lengths depots pins = record { stops = stops; lengths = lengths; depots = depots; pins = pins }
 
-abbrev pub clock-by : Tables → Clock
-clock-by T = record { leg = λ a b. getD (T .legs) (a * T .locations + b) 0; latest = λ a. getD (T .latest) a 0 }
+abbrev pub timetable-by : Tables → Timetable
+timetable-by T = record { leg = λ a b. getD (T .legs) (a * T .locations + b) 0; latest = λ a. getD (T .latest) a 0; service = λ a. getD (T .service) a 0 }
 
--- Its clock is the one above, by computation.
+abbrev pub clock-by : Tables → Clock
+clock-by T = clock (timetable-by T)
+
+-- Its timetable is the one above, by computation.
 abbrev pub problem : Trip → Problem
-problem T = let C = clock-by (T .tables) in record { leg = C .leg; latest = C .latest; depot = T .depot }
+problem T = let B = timetable-by (T .tables) in record { leg = B .leg; latest = B .latest; service = B .service; depot = T .depot }
 
 -- The same where no deadline is read.
 abbrev pub legs-only : ℕ → List ℕ → ℕ → Problem
-legs-only locations legs depot = problem (trip locations legs [] depot)
+legs-only locations legs depot = problem (trip locations legs [] [] depot)
 
 pub record LegTable (locations : ℕ) (legs : List ℕ) : Type 0 where
   pub few : locations ≤ 1024
@@ -60,10 +64,16 @@ pub record Measurable (locations : ℕ) (legs : List ℕ) (depot : ℕ) (route :
   pub depot-known : depot < locations
   pub stops : Stops locations route
 
+-- A deadline and a service time for each location.
+pub record Times (T : Tables) : Type 0 where
+  pub deadlines : length (T .latest) ≡ T .locations
+  pub services : length (T .service) ≡ T .locations
+  pub brief : (i : ℕ) → getD (T .service) i 0 ≤ 1000000
+
 -- A route whose deadlines can be read as well.
 pub record Timed (T : Trip) (route : List ℕ) : Type 0 where
   pub measurable : Measurable (T .tables .locations) (T .tables .legs) (T .depot) route
-  pub deadlines : length (T .tables .latest) ≡ T .tables .locations
+  pub times : Times (T .tables)
 
 -- k cuts of a route of n stops.
 pub record CutSet (k n : ℕ) (cuts : List ℕ) : Type 0 where

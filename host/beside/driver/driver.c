@@ -25,8 +25,8 @@ static const uint64_t least_time = 2000000, most_time = 300000000;
 static size_t k, locations, n, min_segment_len, max_nearby;
 static uint64_t allowance;
 static uint32_t depot;
-static uint32_t *legs, *latest, *depots, *route, *stops;
-static size_t legs_len, latest_len, depots_len, route_len, stops_len;
+static uint32_t *legs, *latest, *service, *depots, *route, *stops;
+static size_t legs_len, latest_len, service_len, depots_len, route_len, stops_len;
 static size_t *lengths, *sets;
 static size_t lengths_len, sets_len;
 static uint8_t *pins;
@@ -35,9 +35,6 @@ static double *distances;
 static size_t distances_len;
 static uint64_t result[PLACES];
 static size_t result_len = PLACES;
-/* Of later versions: no time is spent at a stop. */
-static uint32_t *service;
-static size_t service_len;
 
 /* What is handed in at each call anew. */
 static uint32_t *handed;
@@ -101,8 +98,7 @@ static void read_tables(void) {
     locations = number();
     legs = words(&legs_len);
     latest = words(&latest_len);
-    service_len = locations;
-    service = room(service_len, sizeof *service);
+    service = words(&service_len);
 }
 
 static void read_polish(void) {

@@ -1,19 +1,31 @@
-//! The oracle itself, on the runs of document 01 whose numbers it gives.
+//! The oracle itself, on the runs of document 01 whose numbers it gives, and on the text case with a time spent at a stop.
 
+use crate::cases::polish::Case;
 use crate::nearby::document_case as nearby_case;
-use crate::polish::bounds::text_case;
+use crate::polish::bounds::{served_text_case, text_case};
 use crate::run::document_case as pair_case;
 use crate::trial::Trial;
 use crate::{oracle, trial::Reply};
 
-/// What the Rust gives otherwise than document 01, if anything.
+/// What the Rust gives otherwise than the documents, if anything.
 pub fn fault() -> Option<String> {
     let checks = [
         (
             "the text case",
-            text(100) == ([0, 11, 1, 15, 3], vec![2, 1]),
+            text(text_case(100)) == ([0, 11, 1, 15, 3], vec![2, 1]),
         ),
-        ("the text case, allowance 10", text(10).0[..3] == [1, 10, 1]),
+        (
+            "the text case, allowance 10",
+            text(text_case(10)).0[..3] == [1, 10, 1],
+        ),
+        (
+            "the text case, 10 seconds at 2 and 1 due at 11",
+            text(served_text_case(11, 10)) == ([0, 7, 0, 15, 15], vec![1, 2]),
+        ),
+        (
+            "the text case, 10 seconds at 2 and 1 due at 12",
+            text(served_text_case(12, 10)) == ([0, 11, 1, 15, 3], vec![2, 1]),
+        ),
         ("the pair loop", pair_loop()),
         ("nearby, one nearer", nearby(true) == [1, 3, 4, 2, 3, 4]),
         (
@@ -33,8 +45,8 @@ pub fn fault() -> Option<String> {
     wrong.map(|check| String::from(check.0))
 }
 
-fn text(allowance: u64) -> ([u64; 5], Vec<u64>) {
-    let Reply { lent, .. } = text_case(allowance).expected();
+fn text(case: Case) -> ([u64; 5], Vec<u64>) {
+    let Reply { lent, .. } = case.expected();
     let mut numbers = [0; 5];
     numbers.copy_from_slice(&lent[1].1);
     (numbers, lent[0].1.clone())

@@ -2,7 +2,7 @@
 
 use crate::draw::some_place;
 use crate::random::Random;
-use crate::rules::{pattern_count, LONGEST_LEG, MOST_LOCATIONS};
+use crate::rules::{pattern_count, LONGEST_LEG, LONGEST_SERVICE, MOST_LOCATIONS};
 use crate::tables::Tables;
 
 pub fn wrong_k(random: &mut Random) -> usize {
@@ -17,6 +17,21 @@ pub fn wrong_pattern(random: &mut Random, k: usize) -> usize {
 pub fn a_leg(random: &mut Random, tables: &mut Tables) {
     let place = some_place(random, tables.legs.len());
     tables.legs[place] = random.pick([LONGEST_LEG + 1, u32::MAX, 1 << 31]);
+}
+
+pub fn a_service_time(random: &mut Random, tables: &mut Tables) {
+    let place = some_place(random, tables.service.len());
+    tables.service[place] = random.pick([LONGEST_SERVICE + 1, u32::MAX, 1 << 31]);
+}
+
+/// The number of service times, or one of them.
+pub fn service(random: &mut Random, tables: &mut Tables) {
+    match random.below(6) {
+        0 => tables.service.push(0),
+        1 => tables.service.truncate(tables.service.len() - 1),
+        2 => tables.service.clear(),
+        _ => a_service_time(random, tables),
+    }
 }
 
 pub fn unknown(random: &mut Random, tables: &Tables) -> u32 {
@@ -57,6 +72,7 @@ fn resize(tables: &mut Tables, locations: usize) {
     tables.locations = locations;
     tables.legs.resize(locations * locations, 0);
     tables.latest.resize(locations, 0);
+    tables.service.resize(locations, 0);
 }
 
 /// Numbers of locations whose square is 0 in 64 bits.
@@ -64,6 +80,7 @@ fn empty_tables_of_many(random: &mut Random, tables: &mut Tables) {
     tables.locations = random.pick([1 << 32, 1 << 63, 3 << 32]);
     tables.legs.clear();
     tables.latest.clear();
+    tables.service.clear();
 }
 
 /// Too many locations, seldom with tables that fit them, which are large.

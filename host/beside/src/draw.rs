@@ -1,7 +1,7 @@
-//! Random tables, orders and deadlines that document 01 does not refuse.
+//! Random tables, orders, service times and deadlines that are not refused.
 
 use crate::random::Random;
-use crate::rules::LONGEST_LEG;
+use crate::rules::{LONGEST_LEG, LONGEST_SERVICE};
 use crate::tables::Tables;
 
 pub fn leg_table(random: &mut Random, locations: usize) -> Vec<u32> {
@@ -83,9 +83,38 @@ pub fn some_depot(random: &mut Random, locations: usize) -> u32 {
     random.pick([0, any])
 }
 
-/// Deadlines of many kinds, drawn for one route.
-pub fn set_deadlines(random: &mut Random, tables: &mut Tables, depot: u32, route: &[u32]) {
-    let length = tables.length(depot, route);
+/// Service times and deadlines of many kinds, drawn for one route.
+pub fn set_times(random: &mut Random, tables: &mut Tables, depot: u32, route: &[u32]) {
+    set_service(random, tables, depot, route);
+    set_deadlines(random, tables, depot, route);
+}
+
+/// None, short ones, some as long as legs, the longest; or of one place alone: the depot, or a stop, which may repeat.
+fn set_service(random: &mut Random, tables: &mut Tables, depot: u32, route: &[u32]) {
+    let longest = u64::from(tables.legs.iter().copied().max().unwrap_or(0));
+    let one = random.pick([1, capped(longest), LONGEST_SERVICE]);
+    match random.below(8) {
+        0..=2 => {}
+        3 => each_service(random, tables, |random| random.below(4) as u32),
+        4 => each_service(random, tables, |random| random.below(longest + 1) as u32),
+        5 => each_service(random, tables, |random| {
+            random.pick([0, one, LONGEST_SERVICE])
+        }),
+        6 => tables.service[depot as usize] = one,
+        _ => {
+            if let Some(&stop) = route.get(random.index(route.len())) {
+                tables.service[stop as usize] = one;
+            }
+        }
+    }
+}
+
+fn each_service(random: &mut Random, tables: &mut Tables, draw: impl Fn(&mut Random) -> u32) {
+    tables.service = (0..tables.locations).map(|_| draw(random)).collect();
+}
+
+fn set_deadlines(random: &mut Random, tables: &mut Tables, depot: u32, route: &[u32]) {
+    let whole = tables.whole(depot, route);
     match random.below(8) {
         0 | 1 => {}
         2 => due_after(random, tables, depot, route, 1),
@@ -93,11 +122,11 @@ pub fn set_deadlines(random: &mut Random, tables: &mut Tables, depot: u32, route
         4 => due_after_another_order(random, tables, depot, route),
         5 => {
             tables.latest = (0..tables.locations)
-                .map(|_| capped(random.below(length + 2)))
+                .map(|_| capped(random.below(whole + 2)))
                 .collect()
         }
         6 => one_deadline(random, tables, depot, route),
-        _ => tables.latest = vec![capped(random.below(length + 2)); tables.locations],
+        _ => tables.latest = vec![capped(random.below(whole + 2)); tables.locations],
     }
 }
 
@@ -107,8 +136,8 @@ pub fn capped(seconds: u64) -> u32 {
 
 /// Each stop, or one in `share` of them, is due soon after the order handed in reaches it last: nothing is late.
 fn due_after(random: &mut Random, tables: &mut Tables, depot: u32, route: &[u32], share: u64) {
-    let length = tables.length(depot, route);
-    let slack = random.pick([1, 2, 2 + length / 10, 2 + length / 2]);
+    let whole = tables.whole(depot, route);
+    let slack = random.pick([1, 2, 2 + whole / 10, 2 + whole / 2]);
     for (position, seconds) in tables.arrivals(depot, route).into_iter().enumerate() {
         if random.one_in(share) {
             let stop = route[position];
@@ -167,6 +196,10 @@ pub fn lists(entries: &[u32], length: usize) -> Vec<Vec<u32>> {
     lists
 }
 
-pub fn with_deadlines(tables: Tables, latest: Vec<u32>) -> Tables {
-    Tables { latest, ..tables }
+pub fn with_times(tables: Tables, latest: Vec<u32>, service: Vec<u32>) -> Tables {
+    Tables {
+        latest,
+        service,
+        ..tables
+    }
 }

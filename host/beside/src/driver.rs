@@ -73,8 +73,8 @@ fn counted<T: ToString>(numbers: &[T]) -> String {
 }
 
 fn tables(k: usize, allowance: u64, tables: &crate::tables::Tables) -> String {
-    let (legs, latest) = (counted(&tables.legs), counted(&tables.latest));
-    format!("{k} {allowance} {}\n{legs}{latest}", tables.locations)
+    let lists = [&tables.legs, &tables.latest, &tables.service].map(|list| counted(list));
+    format!("{k} {allowance} {}\n{}", tables.locations, lists.concat())
 }
 
 pub fn polish(case: &polish::Case) -> String {

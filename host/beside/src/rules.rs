@@ -1,15 +1,22 @@
-//! "When it says no" of document 01, written from its text.
+//! "When it says no" of document 01 and the numbers that document 02 adds, written from their text.
 
 pub const MOST_LOCATIONS: usize = 1024;
 pub const MOST_ROUNDS: usize = 64;
 pub const MOST_STOPS: usize = 512;
 pub const LONGEST_LEG: u32 = 1_000_000;
+pub const LONGEST_SERVICE: u32 = 1_000_000;
 pub const LONGEST_PIECE: usize = 512;
 pub const MOST_NEIGHBOURS: usize = 32;
 
-/// The lowest number whose condition holds, 0 if none does. The numbers rise.
-pub fn lowest(rules: &[(u32, bool)]) -> u32 {
-    rules.iter().find(|rule| rule.1).map_or(0, |rule| rule.0)
+/// The stated order of all numbers, those that no call gives yet included.
+const ORDER: [u32; 21] = [
+    30, 10, 1, 26, 27, 28, 2, 3, 23, 4, 24, 29, 5, 6, 7, 8, 9, 25, 31, 21, 22,
+];
+
+/// The first number of the stated order whose condition holds, 0 if none does.
+pub fn first_refusal(rules: &[(u32, bool)]) -> u32 {
+    let holds = |&number: &u32| rules.contains(&(number, true));
+    ORDER.into_iter().find(holds).unwrap_or(0)
 }
 
 /// 1: k outside 2 to 5.

@@ -37,6 +37,7 @@ pub fn share(case: &Case) -> (Counted, f64) {
         tables.locations,
         &tables.legs,
         &tables.latest,
+        &tables.service,
         case.depot,
         &mut route,
     );

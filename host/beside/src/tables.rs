@@ -1,22 +1,23 @@
-//! The lent tables: legs and deadlines, what they say of a route, and what document 01 refuses of them.
+//! The lent tables: legs, deadlines and service times, what they say of a route, and what is refused of them.
 
-use crate::rules::{LONGEST_LEG, MOST_LOCATIONS};
+use crate::rules::{LONGEST_LEG, LONGEST_SERVICE, MOST_LOCATIONS};
 
 #[derive(Clone, Debug, Default)]
 pub struct Tables {
     pub locations: usize,
     pub legs: Vec<u32>,
     pub latest: Vec<u32>,
+    pub service: Vec<u32>,
 }
 
 impl Tables {
-    /// No deadline in force.
+    /// No deadline in force, no time spent at a stop.
     pub fn of_legs(locations: usize, legs: Vec<u32>) -> Self {
-        let latest = vec![u32::MAX; locations];
         Self {
             locations,
             legs,
-            latest,
+            latest: vec![u32::MAX; locations],
+            service: vec![0; locations],
         }
     }
 
@@ -27,12 +28,22 @@ impl Tables {
 
     /// Depot to first stop, each leg, last stop to depot.
     pub fn length(&self, depot: u32, route: &[u32]) -> u64 {
-        let last = route.last().map_or(depot, |&stop| stop);
-        let driven = self.arrivals(depot, route).last().map_or(0, |&time| time);
-        driven + u64::from(self.leg(last as usize, depot as usize))
+        let from = [depot].into_iter().chain(route.iter().copied());
+        let to = route.iter().copied().chain([depot]);
+        from.zip(to)
+            .map(|(from, to)| u64::from(self.leg(from as usize, to as usize)))
+            .sum()
     }
 
-    /// For each position of a route, the legs from the depot up to it.
+    /// The length, and what is spent at the stops.
+    pub fn whole(&self, depot: u32, route: &[u32]) -> u64 {
+        let service = route
+            .iter()
+            .map(|&stop| u64::from(self.service[stop as usize]));
+        self.length(depot, route) + service.sum::<u64>()
+    }
+
+    /// For each position of a route, the legs from the depot up to it and the service of the stops before it.
     pub fn arrivals(&self, depot: u32, route: &[u32]) -> Vec<u64> {
         let mut place = depot as usize;
         let mut seconds = 0;
@@ -40,12 +51,13 @@ impl Tables {
         for &stop in route {
             seconds += u64::from(self.leg(place, stop as usize));
             arrivals.push(seconds);
+            seconds += u64::from(self.service[stop as usize]);
             place = stop as usize;
         }
         arrivals
     }
 
-    /// For each position of a route, whether its stop is late: the legs up to it exceed its latest.
+    /// For each position of a route, whether its stop is late: it is reached after its latest.
     pub fn late(&self, depot: u32, route: &[u32]) -> Vec<bool> {
         let arrivals = self.arrivals(depot, route);
         let late = |(seconds, &stop): (u64, &u32)| seconds > u64::from(self.latest[stop as usize]);
@@ -68,9 +80,19 @@ impl Tables {
         self.legs.iter().any(|&leg| leg > LONGEST_LEG)
     }
 
-    /// What is refused of legs and deadlines, in the order of the numbers.
-    pub fn rules(&self) -> [(u32, bool); 2] {
-        [(2, self.bad_size()), (3, self.bad_leg())]
+    /// 23: service not one entry for each location, or an entry above 1,000,000.
+    fn bad_service(&self) -> bool {
+        let long = |&seconds: &u32| seconds > LONGEST_SERVICE;
+        self.service.len() != self.locations || self.service.iter().any(long)
+    }
+
+    /// What is refused of legs, deadlines and service, in the stated order.
+    pub fn rules(&self) -> [(u32, bool); 3] {
+        [
+            (2, self.bad_size()),
+            (3, self.bad_leg()),
+            (23, self.bad_service()),
+        ]
     }
 
     /// 4: one of these not below the locations.
@@ -81,9 +103,9 @@ impl Tables {
     /// As the text program reads them, if they are not too long.
     pub fn told(&self) -> String {
         if self.legs.len() > 10_000 {
-            let (legs, latest) = (self.legs.len(), self.latest.len());
+            let (legs, latest, service) = (self.legs.len(), self.latest.len(), self.service.len());
             return format!(
-                "locations={}\n({legs} legs, {latest} deadlines: replay the case)\n",
+                "locations={}\n({legs} legs, {latest} deadlines, {service} service times: replay the case)\n",
                 self.locations
             );
         }
@@ -91,7 +113,8 @@ impl Tables {
         for row in self.legs.chunks(self.locations.clamp(1, MOST_LOCATIONS)) {
             lines += &format!("legs={}\n", listed(row));
         }
-        lines + &format!("latest={}\n", listed(&self.latest))
+        let (latest, service) = (listed(&self.latest), listed(&self.service));
+        lines + &format!("latest={latest}\nservice={service}\n")
     }
 }
 

@@ -162,8 +162,8 @@ pub fn damaged<C: Trial + 'static>(
     (Box::new(case), Some(chosen.last().copied().unwrap_or(0)))
 }
 
-/// The trial made for a set of damages: bit i of the set stands for number i of a list from the highest to the lowest, so that a
-/// later damage never mends an earlier one of lower number.
+/// The trial made for a set of damages: bit i of the set stands for number i of a list from the last of the stated order
+/// to the first, so that the last damage made is the one that is refused.
 fn damages(numbers: &[u32], set: u64) -> Vec<u32> {
     let chosen = |&(bit, _): &(usize, &u32)| (set >> bit) & 1 == 1;
     let pairs = numbers.iter().enumerate().filter(chosen);

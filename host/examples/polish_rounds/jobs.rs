@@ -44,6 +44,7 @@ fn polish(question: &Question, mut route: Vec<u32>) -> Outcome {
         locations: question.locations,
         legs: &question.legs,
         latest: &question.latest,
+        service: &question.service,
     };
     let (k, allowance) = (question.k, question.allowance);
     let polished = polish_route(k, allowance, &tables, question.depot, &mut route)?;

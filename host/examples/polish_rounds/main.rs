@@ -139,7 +139,7 @@ mod tests {
 
     #[test]
     fn a_refused_round_does_not_end_the_file() {
-        let text = "k=3\nallowance=0\nlocations=1\ndepot=0\nlegs=7\nlatest=0\nround=1\nround=\n";
+        let text = "k=3\nallowance=0\nlocations=1\ndepot=0\nlegs=7\nlatest=0\nservice=0\nround=1\nround=\n";
         let wanted = [
             "round 1: refused (4): a depot or stop is not below the number of locations",
             "round 2: 7 s before, 7 s after, 0 s saved; finished after 0 candidates; order ",
@@ -154,7 +154,7 @@ mod tests {
     fn many_jobs_tell_what_one_tells() {
         let text: String = include_str!("rounds.txt")
             .split_inclusive('\n')
-            .take(10)
+            .take(11)
             .collect();
         let round = |number: usize| {
             let stops: Vec<String> = (0..(number * 37) % 60)

@@ -9,6 +9,7 @@ pub struct Question {
     pub depot: u32,
     pub legs: Vec<u32>,
     pub latest: Vec<u32>,
+    pub service: Vec<u32>,
     pub rounds: Vec<Vec<u32>>,
 }
 
@@ -80,6 +81,7 @@ impl Question {
             depot,
             legs,
             latest: reader.row("latest", locations)?,
+            service: reader.row("service", locations)?,
             rounds: rounds(&mut reader)?,
         })
     }
@@ -115,11 +117,11 @@ mod tests {
             fault("k=2\nallowance=1\nlocations=-1\n").split(':').next(),
             Some("line 3")
         );
-        let head = "k=2\nallowance=1\nlocations=0\ndepot=0\nlatest=\nround=1\n";
+        let head = "k=2\nallowance=1\nlocations=0\ndepot=0\nlatest=\nservice=\nround=1\n";
         assert_eq!(Question::parse(head).unwrap().rounds, [[1]]);
         assert_eq!(
             fault(&format!("{head}rounds=2\n")),
-            "line 7: expected round="
+            "line 8: expected round="
         );
     }
 
@@ -136,6 +138,10 @@ mod tests {
             "line 7: latest= has 3 entries, not 2 as locations= says"
         );
         assert_eq!(
+            fault(&format!("{head}legs=1,0\nlatest=1,2\nservice=1\nround=1\n")),
+            "line 8: service= has 1 entries, not 2 as locations= says"
+        );
+        assert_eq!(
             fault(&format!("{head}latest=1,2\n")),
             "line 6: expected legs="
         );
@@ -143,10 +149,10 @@ mod tests {
 
     #[test]
     fn no_round() {
-        let text = "k=2\nallowance=1\nlocations=1\ndepot=0\nlegs=0\nlatest=1\n";
+        let text = "k=2\nallowance=1\nlocations=1\ndepot=0\nlegs=0\nlatest=1\nservice=0\n";
         assert_eq!(
             Question::parse(text).err().unwrap(),
-            "line 7: expected round=, as no round was given"
+            "line 8: expected round=, as no round was given"
         );
     }
 }

@@ -5,6 +5,7 @@ use std::ptr::{null, null_mut};
 
 const LEGS: [u32; 1] = [7];
 const LATEST: [u32; 1] = [0];
+const SERVICE: [u32; 1] = [3];
 
 // Each pointer below is null with a length of 0, or comes with the length of what it points to.
 
@@ -20,6 +21,8 @@ fn polish_an_empty_route() {
             LEGS.as_ptr(),
             1,
             LATEST.as_ptr(),
+            1,
+            SERVICE.as_ptr(),
             1,
             0,
             null_mut(),
@@ -44,6 +47,8 @@ fn polish_nothing() {
             0,
             read,
             0,
+            read,
+            0,
             0,
             write,
             0,
@@ -52,6 +57,31 @@ fn polish_nothing() {
         )
     };
     assert_eq!((polish(1, 0), polish(2, 0), polish(2, 1)), (1, 2, 2));
+}
+
+#[test]
+fn no_service() {
+    let mut result = [9; 5];
+    // SAFETY: as said above.
+    let returned = unsafe {
+        mittenschist_polish_route(
+            2,
+            1,
+            1,
+            LEGS.as_ptr(),
+            1,
+            LATEST.as_ptr(),
+            1,
+            null(),
+            0,
+            1,
+            null_mut(),
+            0,
+            result.as_mut_ptr(),
+            5,
+        )
+    };
+    assert_eq!((returned, result), (23, [9; 5]));
 }
 
 #[test]
@@ -65,6 +95,8 @@ fn run_no_rounds() {
             LEGS.as_ptr(),
             1,
             LATEST.as_ptr(),
+            1,
+            SERVICE.as_ptr(),
             1,
             null_mut(),
             0,
@@ -130,7 +162,20 @@ fn parts_of_nothing() {
             mittenschist_reconnect(2, 0, null(), 0, null(), 0, null_mut(), 0),
             mittenschist_route_length(1, null(), 0, 0, null(), 0, null_mut(), 0),
             mittenschist_delta(2, 0, null(), 0, 1, null(), 0, 0, null(), 0, null_mut(), 0),
-            mittenschist_route_feasible(1, null(), 0, null(), 0, 0, null(), 0, null_mut(), 0),
+            mittenschist_route_feasible(
+                1,
+                null(),
+                0,
+                null(),
+                0,
+                null(),
+                0,
+                0,
+                null(),
+                0,
+                null_mut(),
+                0,
+            ),
         ]
     };
     assert_eq!(returned, [21, 7, 7, 2, 2, 2]);
@@ -138,13 +183,26 @@ fn parts_of_nothing() {
 
 #[test]
 fn an_empty_route_has_a_length_and_no_late_stop() {
-    let (legs, latest) = (LEGS.as_ptr(), LATEST.as_ptr());
+    let (legs, latest, service) = (LEGS.as_ptr(), LATEST.as_ptr(), SERVICE.as_ptr());
     let (mut length, mut late, mut change) = ([9], [9], [9]);
     // SAFETY: as said above.
     let returned = unsafe {
         [
             mittenschist_route_length(1, legs, 1, 0, null(), 0, length.as_mut_ptr(), 1),
-            mittenschist_route_feasible(1, legs, 1, latest, 1, 0, null(), 0, late.as_mut_ptr(), 1),
+            mittenschist_route_feasible(
+                1,
+                legs,
+                1,
+                latest,
+                1,
+                service,
+                1,
+                0,
+                null(),
+                0,
+                late.as_mut_ptr(),
+                1,
+            ),
             mittenschist_delta(
                 2,
                 0,

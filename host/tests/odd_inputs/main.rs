@@ -1,4 +1,4 @@
-//! Empty slices, huge numbers and wrong sizes everywhere: each call answers the number that document 01's order gives, or 0 where
+//! Empty slices, huge numbers and wrong sizes everywhere: each call answers the number that the stated order gives, or 0 where
 //! its input is in range. After a refusal all that was lent is as before, and nothing is ever written beside it. All of it once
 //! more on a stack of 128 KiB.
 

@@ -1,6 +1,6 @@
 use crate::pools;
 use crate::support::lent::{bits, filled, filled_u32, Lent};
-use crate::support::rules::{bad_cuts, bad_k, bad_pattern, lowest, too_many_stops};
+use crate::support::rules::{bad_cuts, bad_k, bad_pattern, first_refusal, too_many_stops};
 use crate::support::{kept, kept_beyond, number, on_small_stack, written};
 use mittenschist::raw;
 
@@ -19,7 +19,7 @@ impl Case<'_> {
     }
 
     fn refusal(&self, n: usize, room: usize) -> u32 {
-        lowest(&[
+        first_refusal(&[
             (1, bad_k(self.k)),
             (5, too_many_stops(n)),
             (6, bad_pattern(self.k, self.pattern)),
@@ -71,7 +71,7 @@ impl Case<'_> {
             result.slice(),
         );
         let expected = |room| {
-            lowest(&[
+            first_refusal(&[
                 (1, bad_k(self.k)),
                 (5, too_many_stops(n)),
                 (6, bad_pattern(self.k, self.pattern)),
@@ -141,7 +141,7 @@ fn every_undo() {
             let mut route = Lent::new("route", &stops);
             let mut journal = Lent::new("journal", &places);
             let answer = mittenschist::k_opt_undo_move(route.slice(), journal.slice());
-            let expected = lowest(&[
+            let expected = first_refusal(&[
                 (5, too_many_stops(stops.len())),
                 (22, stops.len() != places.len()),
             ]);

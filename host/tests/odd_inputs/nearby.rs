@@ -1,6 +1,6 @@
 use crate::pools;
 use crate::support::lent::{filled, filled_usize, Lent};
-use crate::support::rules::{bad_k, lowest, too_many_stops, LONGEST_PIECE, MOST_NEIGHBOURS};
+use crate::support::rules::{bad_k, first_refusal, too_many_stops, LONGEST_PIECE, MOST_NEIGHBOURS};
 use crate::support::{kept, kept_beyond, number, on_small_stack, written};
 use mittenschist::raw;
 
@@ -19,7 +19,7 @@ struct Case<'c> {
 
 impl Case<'_> {
     fn refusal(&self, room: usize) -> u32 {
-        lowest(&[
+        first_refusal(&[
             (1, bad_k(self.k)),
             (5, too_many_stops(self.n)),
             (9, self.bad_input()),

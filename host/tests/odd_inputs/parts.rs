@@ -1,6 +1,6 @@
 use crate::pools::{self, Tables};
 use crate::support::lent::{filled, filled_u32, Lent};
-use crate::support::rules::{bad_cuts, bad_k, bad_pattern, lowest, too_many_stops};
+use crate::support::rules::{bad_cuts, bad_k, bad_pattern, first_refusal, too_many_stops};
 use crate::support::{kept, kept_beyond, number, on_small_stack};
 use mittenschist::raw;
 
@@ -20,13 +20,16 @@ fn check_pattern(k: usize, pattern: usize, room: usize) {
     let before = filled(room);
     let mut result = Lent::new("result", &before);
     let returned = raw::reconnection_at(k, pattern, result.slice());
-    assert_eq!(returned, lowest(&[rules[0], rules[1], (21, room < places)]));
+    assert_eq!(
+        returned,
+        first_refusal(&[rules[0], rules[1], (21, room < places)])
+    );
     kept_beyond(&result, &before, if returned == 0 { places } else { 0 });
     let answer = mittenschist::reconnection_at(k, pattern);
     assert!(answer
         .as_ref()
         .map_or(true, |found| found.order.len() == k + 1));
-    assert_eq!(number(answer), lowest(&rules));
+    assert_eq!(number(answer), first_refusal(&rules));
 }
 
 fn every_step() {
@@ -51,14 +54,14 @@ fn check_step(k: usize, n: usize, handed_in: &[usize], room: usize) {
     let mut cuts = Lent::new("cuts", handed_in);
     let mut result = Lent::new("result", &before);
     let returned = raw::next_cut_set(k, n, cuts.slice(), result.slice());
-    let expected = lowest(&[rules[0], rules[1], rules[2], (21, room < 1)]);
+    let expected = first_refusal(&[rules[0], rules[1], rules[2], (21, room < 1)]);
     assert_eq!(returned, expected);
     let written = usize::from(returned == 0);
     kept_beyond(&result, &before, written);
     kept_beyond(&cuts, handed_in, written * handed_in.len());
     let mut cuts = Lent::new("cuts", handed_in);
     let answer = mittenschist::next_cut_set(k, n, cuts.slice());
-    assert_eq!(number(answer), lowest(&rules));
+    assert_eq!(number(answer), first_refusal(&rules));
     kept_beyond(&cuts, handed_in, answer.map_or(0, |_| handed_in.len()));
 }
 
@@ -82,7 +85,7 @@ fn check_rejoining(k: usize, pattern: usize, handed_in: &[usize], stops: &[u32])
         let mut route = Lent::new("route", stops);
         let mut out = Lent::new("out", &before);
         let answer = mittenschist::reconnect(k, pattern, cuts.slice(), route.slice(), out.slice());
-        let expected = lowest(&[
+        let expected = first_refusal(&[
             (1, bad_k(k)),
             (5, too_many_stops(n)),
             (6, bad_pattern(k, pattern)),
@@ -119,7 +122,7 @@ fn route_rules(tables: &Tables, depot: u32, route: &[u32]) -> [(u32, bool); 4] {
 }
 
 fn with_room(rules: &[(u32, bool)], room: usize) -> u32 {
-    lowest(&[rules, &[(21, room < 1)]].concat())
+    first_refusal(&[rules, &[(21, room < 1)]].concat())
 }
 
 fn check_length(tables: &Tables, depot: u32, stops: &[u32]) {
@@ -142,22 +145,25 @@ fn check_length(tables: &Tables, depot: u32, stops: &[u32]) {
         kept_beyond(&result, &before, usize::from(returned == 0));
     }
     let answer = mittenschist::route_length(&tables.lent(), depot, stops);
-    assert_eq!(number(answer), lowest(&rules));
+    assert_eq!(number(answer), first_refusal(&rules));
 }
 
 fn check_deadlines(tables: &Tables, depot: u32, stops: &[u32]) {
-    let mut rules = route_rules(tables, depot, stops);
-    rules[0].1 = tables.bad_size();
+    let [_, leg, unknown, stop_count] = route_rules(tables, depot, stops);
+    let (size, service) = ((2, tables.bad_size()), (23, tables.bad_service()));
+    let rules = [size, leg, service, unknown, stop_count];
     for room in [0, 1, 2] {
         let before = filled(room);
         let mut legs = Lent::new("legs", &tables.legs);
         let mut latest = Lent::new("latest", &tables.latest);
+        let mut service = Lent::new("service", &tables.service);
         let mut route = Lent::new("route", stops);
         let mut result = Lent::new("result", &before);
         let returned = raw::route_feasible(
             tables.locations,
             legs.slice(),
             latest.slice(),
+            service.slice(),
             depot,
             route.slice(),
             result.slice(),
@@ -165,11 +171,12 @@ fn check_deadlines(tables: &Tables, depot: u32, stops: &[u32]) {
         assert_eq!(returned, with_room(&rules, room));
         kept(&legs);
         kept(&latest);
+        kept(&service);
         kept(&route);
         kept_beyond(&result, &before, usize::from(returned == 0));
     }
     let answer = mittenschist::route_feasible(&tables.lent(), depot, stops);
-    assert_eq!(number(answer), lowest(&rules));
+    assert_eq!(number(answer), first_refusal(&rules));
 }
 
 fn check_deltas(tables: &Tables, depot: u32, route: &[u32]) {
@@ -220,7 +227,7 @@ fn check_delta(
         kept_beyond(&result, &before, usize::from(returned == 0));
     }
     let answer = mittenschist::delta(k, pattern, handed_in, &tables.lent(), depot, stops);
-    assert_eq!(number(answer), lowest(&rules));
+    assert_eq!(number(answer), first_refusal(&rules));
 }
 
 #[test]

@@ -1,6 +1,6 @@
 use crate::pools::{self, Tables};
 use crate::support::lent::{filled, Lent};
-use crate::support::rules::{bad_k, lowest, too_many_stops};
+use crate::support::rules::{bad_k, first_refusal, too_many_stops};
 use crate::support::{kept, kept_beyond, number, on_small_stack, written};
 use mittenschist::raw;
 
@@ -15,10 +15,11 @@ struct Case<'c> {
 
 impl Case<'_> {
     fn refusal(&self, room: usize) -> u32 {
-        lowest(&[
+        first_refusal(&[
             (1, bad_k(self.k)),
             (2, self.tables.bad_size()),
             (3, self.tables.bad_leg()),
+            (23, self.tables.bad_service()),
             (4, self.tables.unknown(&[self.depot], self.route)),
             (5, too_many_stops(self.route.len())),
             (21, room < 5),
@@ -29,6 +30,7 @@ impl Case<'_> {
         let before = filled(self.room);
         let mut legs = Lent::new("legs", &self.tables.legs);
         let mut latest = Lent::new("latest", &self.tables.latest);
+        let mut service = Lent::new("service", &self.tables.service);
         let mut route = Lent::new("route", self.route);
         let mut result = Lent::new("result", &before);
         let returned = raw::polish_route(
@@ -37,6 +39,7 @@ impl Case<'_> {
             self.tables.locations,
             legs.slice(),
             latest.slice(),
+            service.slice(),
             self.depot,
             route.slice(),
             result.slice(),
@@ -44,6 +47,7 @@ impl Case<'_> {
         assert_eq!(returned, self.refusal(self.room));
         kept(&legs);
         kept(&latest);
+        kept(&service);
         if returned != 0 {
             kept(&route);
             return kept(&result);

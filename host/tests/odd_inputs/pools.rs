@@ -1,6 +1,6 @@
 //! What the calls are handed, some of it in range.
 
-use crate::support::rules::{LONGEST_LEG, MOST_LOCATIONS};
+use crate::support::rules::{LONGEST_LEG, LONGEST_SERVICE, MOST_LOCATIONS};
 
 pub const CUT_COUNTS: [usize; 8] = [0, 1, 2, 3, 4, 5, 6, usize::MAX];
 pub const PATTERNS: [usize; 7] = [0, 1, 7, 46, 382, 383, usize::MAX];
@@ -11,14 +11,25 @@ pub struct Tables {
     pub locations: usize,
     pub legs: Vec<u32>,
     pub latest: Vec<u32>,
+    pub service: Vec<u32>,
 }
 
 impl Tables {
+    /// No service times, as many as there are deadlines.
     fn new(locations: usize, legs: &[u32], latest: &[u32]) -> Self {
         Self {
             locations,
             legs: legs.to_vec(),
             latest: latest.to_vec(),
+            service: vec![0; latest.len()],
+        }
+    }
+
+    /// Three locations with these service times.
+    fn of_service(legs: &[u32], latest: &[u32], service: &[u32]) -> Self {
+        Self {
+            service: service.to_vec(),
+            ..Self::new(3, legs, latest)
         }
     }
 
@@ -27,6 +38,7 @@ impl Tables {
             locations: self.locations,
             legs: &self.legs,
             latest: &self.latest,
+            service: &self.service,
         }
     }
 
@@ -44,6 +56,12 @@ impl Tables {
     /// 3.
     pub fn bad_leg(&self) -> bool {
         self.legs.iter().any(|&leg| leg > LONGEST_LEG)
+    }
+
+    /// 23.
+    pub fn bad_service(&self) -> bool {
+        let long = |&seconds: &u32| seconds > LONGEST_SERVICE;
+        self.service.len() != self.locations || self.service.iter().any(long)
     }
 
     /// 4.
@@ -69,6 +87,14 @@ pub fn tables() -> Vec<Tables> {
         Tables::new(3, &[0; 9], &[0; 4]),
         Tables::new(3, &[0, 0, 0, 0, 0, 0, 0, 0, long], &[0; 3]),
         Tables::new(3, &[u32::MAX; 9], &[0; 2]),
+        Tables::of_service(&[0; 9], &[no_deadline; 3], &[LONGEST_SERVICE; 3]),
+        Tables::of_service(&[LONGEST_LEG; 9], &[0; 3], &[LONGEST_SERVICE; 3]),
+        Tables::of_service(&[0; 9], &[0; 3], &[]),
+        Tables::of_service(&[0; 9], &[0; 3], &[0; 2]),
+        Tables::of_service(&[0; 9], &[0; 3], &[0; 4]),
+        Tables::of_service(&[0; 9], &[0; 3], &[0, 0, LONGEST_SERVICE + 1]),
+        Tables::of_service(&[long; 9], &[0; 3], &[u32::MAX; 2]),
+        Tables::of_service(&[0; 9], &[0; 2], &[u32::MAX; 4]),
         Tables::new(1024, &[], &[]),
         Tables::new(1025, &[0], &[]),
         Tables::new(1 << 32, &[], &[]),

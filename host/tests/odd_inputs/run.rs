@@ -1,6 +1,6 @@
 use crate::pools::{self, Tables};
 use crate::support::lent::{filled, Lent};
-use crate::support::rules::{bad_k, lowest, MOST_ROUNDS, MOST_STOPS};
+use crate::support::rules::{bad_k, first_refusal, MOST_ROUNDS, MOST_STOPS};
 use crate::support::{kept, kept_beyond, number, on_small_stack, written};
 use mittenschist::raw;
 
@@ -67,10 +67,11 @@ struct Case<'c> {
 impl Case<'_> {
     fn refusal(&self, room: usize) -> u32 {
         let rounds = self.rounds;
-        lowest(&[
+        first_refusal(&[
             (1, bad_k(self.k)),
             (2, self.tables.bad_size()),
             (3, self.tables.bad_leg()),
+            (23, self.tables.bad_service()),
             (4, self.tables.unknown(&rounds.depots, &rounds.stops)),
             (5, rounds.bad()),
             (21, room < 4 * rounds.lengths.len()),
@@ -81,6 +82,7 @@ impl Case<'_> {
         let before = filled(self.room);
         let mut legs = Lent::new("legs", &self.tables.legs);
         let mut latest = Lent::new("latest", &self.tables.latest);
+        let mut service = Lent::new("service", &self.tables.service);
         let mut stops = Lent::new("stops", &self.rounds.stops);
         let mut lengths = Lent::new("lengths", &self.rounds.lengths);
         let mut depots = Lent::new("depots", &self.rounds.depots);
@@ -92,6 +94,7 @@ impl Case<'_> {
             self.tables.locations,
             legs.slice(),
             latest.slice(),
+            service.slice(),
             stops.slice(),
             lengths.slice(),
             depots.slice(),
@@ -101,6 +104,7 @@ impl Case<'_> {
         assert_eq!(returned, self.refusal(self.room));
         kept(&legs);
         kept(&latest);
+        kept(&service);
         kept(&lengths);
         kept(&depots);
         kept(&pins);

@@ -10,23 +10,23 @@ use Rattle.deadline_dues.proofs.grow_dues.Statement.{statement}
 use Rattle.deadline_dues.proofs.grow_dues.Tie as tie
 
 abbrev Inv-loop : tie.InvT-loop
-Inv-loop locations legs latest route backward start from to straight reversed dues₀ upto₀ dues upto =
-    (from ≤ upto) × (upto ≤ to) × SegmentDues (clock-by (tables locations legs latest)) (slice start upto route) (dues .straight) (dues .reversed)
+Inv-loop locations legs latest service route backward stayed start from to straight reversed dues₀ upto₀ dues upto =
+    (from ≤ upto) × (upto ≤ to) × SegmentDues (clock-by (tables locations legs latest service)) (slice start upto route) (dues .straight) (dues .reversed)
 
 abbrev μ-loop : tie.MeasureT-loop
-μ-loop locations legs latest route backward start from to straight reversed dues₀ upto₀ dues upto = to - upto
+μ-loop locations legs latest service route backward stayed start from to straight reversed dues₀ upto₀ dues upto = to - upto
 
 loop-holds : tie.Need-loop-holds Inv-loop μ-loop
-loop-holds c = let s = c .before .before .before in (omega arith, s .pre .least, s .pre .dues)
+loop-holds c = let s = c .before .before .before .before in (omega arith, s .pre .least, s .pre .dues)
 
 take-in-requires : tie.Need-take-in-requires Inv-loop μ-loop
 take-in-requires c κs =
-    let s = c .before .before .before .before .before in
+    let s = c .before .before .before .before .before .before in
     let l = c .before .loop in
     let o = s .pre .of in
     let h = c .loop-test .taken in
     record {
-      of = record { table = o .table; deadlines = o .deadlines; stops = o .stops; backwards = o .backwards; filled = omega (arith, l .inv .0, o .filled); within = omega (arith, h, s .pre .most) };
+      of = record { read = o .read; filled = omega (arith, l .inv .0, o .filled); within = omega (arith, h, s .pre .most) };
       more = omega (arith, h, s .pre .most);
       dues = l .inv .2;
     }
@@ -45,7 +45,7 @@ loop-again c =
 returns : tie.Need-returns Inv-loop μ-loop
 returns c =
     let l = c .before .loop in
-    let e : l .upto ≡ c .before .before .before .before .before .args .to = omega (arith, l .inv .1, c .loop-test .left) in
+    let e : l .upto ≡ c .before .before .before .before .before .before .args .to = omega (arith, l .inv .1, c .loop-test .left) in
     rw e at (l .inv .2)
 
 pub grow-dues-spec : {M : Type 1} → statement M

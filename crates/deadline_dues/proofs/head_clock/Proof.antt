@@ -16,17 +16,24 @@ shared-slice-read-first c = search needs
 returns : tie.Need-returns
 returns c = no-head (c .before .before .before .before .before .pre) (c .if1 .taken)
 
-sub-arrival : tie.Need-sub-arrival
-sub-arrival c = search needs
+sub-left-at : tie.Need-sub-left-at
+sub-left-at c = search needs
 
-arrival-requires : tie.Need-arrival-requires
-arrival-requires c κs =
+left-at-requires : tie.Need-left-at-requires
+left-at-requires c κs =
     let s = c .before .before .before .before .before in
-    record { measurable = s .pre .measurable; forwards = s .pre .forwards; within = omega (arith, first-within (s .pre), positive (c .if1 .left)) }
+    let h = positive (c .if1 .left) in
+    record {
+      measurable = s .pre .measurable;
+      forwards = s .pre .forwards;
+      within = omega (arith, first-within (s .pre), h);
+      places = s .pre .places;
+      brief = s .pre .small _ (omega (arith, first-within (s .pre), h));
+    }
 
 returns-2 : tie.Need-returns-2
-returns-2 c = some-head (c .before .before .before .before .before .before .pre) _ (c .before .if1 .left) (c .arrival .ensures)
+returns-2 c = some-head (c .before .before .before .before .before .before .pre) _ (c .before .if1 .left) (c .left-at .ensures)
 
 pub head-clock-spec : {M : Type 1} → statement M
 head-clock-spec =
-    tie.close (tie.spec shared-slice-read-first returns sub-arrival arrival-requires returns-2)
+    tie.close (tie.spec shared-slice-read-first returns sub-left-at left-at-requires returns-2)

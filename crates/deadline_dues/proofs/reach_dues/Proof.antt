@@ -19,17 +19,17 @@ element-copy-out-held : tie.Need-element-copy-out-held
 element-copy-out-held c = search needs
 
 fill-dues-requires : tie.Need-fill-dues-requires
-fill-dues-requires c κs = fillable (c .before .before .before .before .before .before .before .before .pre)
+fill-dues-requires c κs = fillable (c .before .before .before .before .before .before .before .before .before .pre)
 
 stretch-dues-requires : tie.Need-stretch-dues-requires
-stretch-dues-requires c κs = (c .before .before .before .before .before .before .before .before .pre, omega (arith, c .before .if1 .left))
+stretch-dues-requires c κs = (c .before .before .before .before .before .before .before .before .before .pre, omega (arith, c .before .if1 .left))
 
 element-write-dues : tie.Need-element-write-dues
 element-write-dues c = search needs
 
 returns : tie.Need-returns
 returns c =
-    let s = c .before .before .before .before .before .before .before in
+    let s = c .before .before .before .before .before .before .before .before in
     let r = s .args .route .now in
     let cuts = s .args .cuts .now in
     ⊎-elim (λ w. reached _ r cuts _ _ (s .pre .cut-set) (w .3) (w .2 .ensures)) (λ w. reached _ r cuts _ _ (s .pre .cut-set) (w .3) (w .2 .ensures)) (c .if1 .came)

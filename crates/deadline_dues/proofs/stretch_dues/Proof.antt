@@ -48,16 +48,16 @@ element-copy-out-grow-dues-2 : tie.Need-element-copy-out-grow-dues-2
 element-copy-out-grow-dues-2 c = search needs
 
 grow-dues-requires : tie.Need-grow-dues-requires
-grow-dues-requires c κs = let s = c .before .before .before .before .before .before .before .before .before in growing (s .pre .0) (s .pre .1)
+grow-dues-requires c κs = let s = c .before .before .before .before .before .before .before .before .before .before in growing (s .pre .0) (s .pre .1)
 
 put-dues-requires : tie.Need-put-dues-requires
 put-dues-requires c κs =
-    let p = c .before .before .before .before .before .before .before .before .before .before .before .pre .0 in
+    let p = c .before .before .before .before .before .before .before .before .before .before .before .before .pre .0 in
     record { places = p .held .places; least = omega (arith, p .cut-set .least); most = omega (arith, p .cut-set .most) }
 
 returns : tie.Need-returns
 returns c =
-    let s = c .before .before .before .before .before .before .before .before .before .before .before .before in
+    let s = c .before .before .before .before .before .before .before .before .before .before .before .before .before in
     rw (c .put-dues .ensures) (stretched (s .pre .0) (s .pre .1) _ _ (c .before .before .grow-dues .ensures))
 
 pub stretch-dues-spec : {M : Type 1} → statement M

@@ -6,7 +6,7 @@ use Rattle.mittenschist.proofs.mittenschist_route_feasible.Statement.{s
 use Rattle.mittenschist.proofs.mittenschist_route_feasible.Tie as tie
 
 abbrev trip-at : tie.Start → Trip
-trip-at s = trip (s .args .locations) (s .args .legs .now) (s .args .latest .now) (s .args .depot)
+trip-at s = trip (s .args .locations) (s .args .legs .now) (s .args .latest .now) (s .args .service .now) (s .args .depot)
 
 route-feasible-requires : tie.Need-route-feasible-requires
 route-feasible-requires c κs = search needs
@@ -20,7 +20,7 @@ same-length c = search needs
 returns : tie.Need-returns
 returns c =
     let a = c .before .before .before .before .route-feasible in
-    let s = c .before .before .before .before .before .before .before .before .before in
+    let s = c .before .before .before .before .before .before .before .before .before .before in
     handed-written (trip-at s) (s .args .route .now) (s .args .result .now) (a .result) (a .ensures) _ _ (c .before .before .put-feasibility .ensures)
 
 pub mittenschist-route-feasible-spec : {M : Type 1} → statement M

@@ -14,20 +14,20 @@ use Rattle.pair_loop.proofs.pair_loop.Statement.{statement}
 use Rattle.pair_loop.proofs.pair_loop.Tie as tie
 
 abbrev Inv-loop : tie.InvT-loop
-Inv-loop allowance locations legs latest depot route₀ so-far₀ route so-far =
-    Going allowance (trip locations legs latest depot) so-far route
+Inv-loop allowance locations legs latest service depot route₀ so-far₀ route so-far =
+    Going allowance (trip locations legs latest service depot) so-far route
     × (length route ≡ length route₀)
-    × (passes (problem (trip locations legs latest depot)) allowance (length route₀) allowance (reply-of so-far route) ≡ pair-loop (problem (trip locations legs latest depot)) allowance route₀)
+    × (passes (problem (trip locations legs latest service depot)) allowance (length route₀) allowance (reply-of so-far route) ≡ pair-loop (problem (trip locations legs latest service depot)) allowance route₀)
 
 abbrev μ-loop : tie.MeasureT-loop
-μ-loop allowance locations legs latest depot route₀ so-far₀ route so-far = allowance - so-far .examined
+μ-loop allowance locations legs latest service depot route₀ so-far₀ route so-far = allowance - so-far .examined
 
 abbrev P : tie.Start Inv-loop μ-loop → Problem
-P s = problem (trip (s .args .locations) (s .args .legs .now) (s .args .latest .now) (s .args .depot))
+P s = problem (trip (s .args .locations) (s .args .legs .now) (s .args .latest .now) (s .args .service .now) (s .args .depot))
 
 loop-holds : tie.Need-loop-holds Inv-loop μ-loop
 loop-holds c =
-    let s = c .before .before .before in
+    let s = c .before .before .before .before in
     (record { timed = s .pre; going = refl; within = omega arith; fewer = omega arith }, refl, passes-first (P s) (s .args .allowance) (s .args .route .now))
 
 try-pass-requires : tie.Need-try-pass-requires Inv-loop μ-loop
@@ -38,7 +38,7 @@ same-length c = search needs
 
 returns : tie.Need-returns Inv-loop μ-loop
 returns c =
-    let s = c .before .before .before .before .before .before .before .before .before .before in
+    let s = c .before .before .before .before .before .before .before .before .before .before .before in
     let l = c .before .before .before .before .before .before .loop in
     told (P s) (s .args .allowance) (s .args .route .now) (stopped-there (P s) (s .args .allowance) (l .inv .0) (length (s .args .route .now)) (l .inv .1) (c .before .before .before .before .try-pass .ensures) (not-true _ (c .if1 .taken)) ∙ l .inv .2)
 
@@ -47,13 +47,13 @@ same-length-2 c = search needs
 
 returns-2 : tie.Need-returns-2 Inv-loop μ-loop
 returns-2 c =
-    let s = c .before .before .before .before .before .before .before .before .before .before .before .before .before in
+    let s = c .before .before .before .before .before .before .before .before .before .before .before .before .before .before in
     let l = c .before .before .before .before .before .before .before .before .before .loop in
     told (P s) (s .args .allowance) (s .args .route .now) (nothing-accepted (P s) (s .args .allowance) (l .inv .0) (length (s .args .route .now)) (l .inv .1) (c .before .before .before .before .before .before .before .try-pass .ensures) (c .if2 .taken) ∙ l .inv .2)
 
 loop-less : tie.Need-loop-less Inv-loop μ-loop
 loop-less c =
-    let s = c .before .before .before .before .before .before .before .before .before .before .before .before .before in
+    let s = c .before .before .before .before .before .before .before .before .before .before .before .before .before .before in
     let l = c .before .before .before .before .before .before .before .before .before .loop in
     let e = c .before .before .before .before .before .before .before .try-pass .ensures in
     let k = going-after-pass (P s) (s .args .allowance) (l .inv .0) (length (l .route)) e (not-false _ (c .before .before .before .if1 .left)) in
@@ -62,7 +62,7 @@ loop-less c =
 
 loop-again : tie.Need-loop-again Inv-loop μ-loop
 loop-again c =
-    let s = c .before .before .before .before .before .before .before .before .before .before .before .before .before in
+    let s = c .before .before .before .before .before .before .before .before .before .before .before .before .before .before in
     let l = c .before .before .before .before .before .before .before .before .before .loop in
     let e = c .before .before .before .before .before .before .before .try-pass .ensures in
     let f = not-false _ (c .before .before .before .if1 .left) in

@@ -15,22 +15,22 @@ use Rattle.pair_loop.proofs.try_pass.Statement.{statement}
 use Rattle.pair_loop.proofs.try_pass.Tie as tie
 
 abbrev Inv-loop : tie.InvT-loop
-Inv-loop allowance locations legs latest depot route₀ passed₀ i₀ route passed i =
-    Going allowance (trip locations legs latest depot) passed route
+Inv-loop allowance locations legs latest service depot route₀ passed₀ i₀ route passed i =
+    Going allowance (trip locations legs latest service depot) passed route
     × (length route ≡ length route₀)
     × (i ≤ length route₀)
-    × (pass-left (problem (trip locations legs latest depot)) allowance (length route₀) (reply-of passed route) i
-    ≡ pass (problem (trip locations legs latest depot)) allowance (length route₀) (reply-of passed₀ route₀))
+    × (pass-left (problem (trip locations legs latest service depot)) allowance (length route₀) (reply-of passed route) i
+    ≡ pass (problem (trip locations legs latest service depot)) allowance (length route₀) (reply-of passed₀ route₀))
 
 abbrev μ-loop : tie.MeasureT-loop
-μ-loop allowance locations legs latest depot route₀ passed₀ i₀ route passed i = length route₀ - i
+μ-loop allowance locations legs latest service depot route₀ passed₀ i₀ route passed i = length route₀ - i
 
 abbrev P : tie.Start Inv-loop μ-loop → Problem
-P s = problem (trip (s .args .locations) (s .args .legs .now) (s .args .latest .now) (s .args .depot))
+P s = problem (trip (s .args .locations) (s .args .legs .now) (s .args .latest .now) (s .args .service .now) (s .args .depot))
 
 loop-holds : tie.Need-loop-holds Inv-loop μ-loop
 loop-holds c =
-    let s = c .before .before .before in
+    let s = c .before .before .before .before in
     (s .pre, refl, omega arith, pass-first (P s) (s .args .allowance) (length (s .args .route .now)) (reply-of (s .args .so-far) (s .args .route .now)))
 
 add-loop : tie.Need-add-loop Inv-loop μ-loop
@@ -46,7 +46,7 @@ same-length c = search needs
 
 returns : tie.Need-returns Inv-loop μ-loop
 returns c =
-    let s = c .before .before .before .before .before .before .before .before .before .before .before in
+    let s = c .before .before .before .before .before .before .before .before .before .before .before .before in
     let l = c .before .before .before .before .before .before .before .loop in
     let h : l .i + 1 < length (s .args .route .now) = omega (arith, l .inv .1, c .before .before .before .before .before .before .loop-test .taken) in
     pass-stopped (P s) (s .args .allowance) (length (s .args .route .now)) (reply-of (l .passed) (l .route)) _ (l .i) (l .inv .1) h (c .before .before .before .before .try-sweep .ensures) (not-true _ (c .if1 .taken)) ∙ l .inv .3
@@ -59,7 +59,7 @@ loop-less c = search needs
 
 loop-again : tie.Need-loop-again Inv-loop μ-loop
 loop-again c =
-    let s = c .before .before .before .before .before .before .before .before .before .before .before in
+    let s = c .before .before .before .before .before .before .before .before .before .before .before .before in
     let l = c .before .before .before .before .before .before .before .loop in
     let h : l .i + 1 < length (s .args .route .now) = omega (arith, l .inv .1, c .before .before .before .before .before .before .loop-test .taken) in
     let e = c .before .before .before .before .try-sweep .ensures in
@@ -71,7 +71,7 @@ same-length-2 c = search needs
 
 returns-2 : tie.Need-returns-2 Inv-loop μ-loop
 returns-2 c =
-    let s = c .before .before .before .before .before in
+    let s = c .before .before .before .before .before .before in
     let l = c .before .loop in
     let h : length (s .args .route .now) ≤ l .i + 1 = omega (arith, l .inv .1, c .loop-test .left) in
     sym (pass-ended (P s) (s .args .allowance) (length (s .args .route .now)) (reply-of (l .passed) (l .route)) (l .i) h) ∙ l .inv .3

@@ -16,8 +16,8 @@ use Rattle.pair_loop.proofs.try_sweep.Statement.{statement}
 use Rattle.pair_loop.proofs.try_sweep.Tie as tie
 
 abbrev Inv-loop : tie.InvT-loop
-Inv-loop allowance locations legs latest depot i route₀ examined₀ accepted₀ a b j₀ route examined accepted j =
-    Timed (trip locations legs latest depot) route
+Inv-loop allowance locations legs latest service depot i route₀ examined₀ accepted₀ a b j₀ route examined accepted j =
+    Timed (trip locations legs latest service depot) route
     × (length route ≡ length route₀)
     × (i < j)
     × (j ≤ length route₀)
@@ -25,15 +25,15 @@ Inv-loop allowance locations legs latest depot i route₀ examined₀ accepted�
     × (accepted ≤ examined)
     × (a < locations)
     × (b < locations)
-    × (sweep-left (problem (trip locations legs latest depot)) allowance (length route₀) a b i (so-far examined accepted route) j
-    ≡ sweep (problem (trip locations legs latest depot)) allowance (length route₀) (so-far examined₀ accepted₀ route₀) i)
+    × (sweep-left (problem (trip locations legs latest service depot)) allowance (length route₀) a b i (so-far examined accepted route) j
+    ≡ sweep (problem (trip locations legs latest service depot)) allowance (length route₀) (so-far examined₀ accepted₀ route₀) i)
 
 abbrev μ-loop : tie.MeasureT-loop
-μ-loop allowance locations legs latest depot i route₀ examined₀ accepted₀ a b j₀ route examined accepted j =
+μ-loop allowance locations legs latest service depot i route₀ examined₀ accepted₀ a b j₀ route examined accepted j =
     length route₀ - j
 
 abbrev P : tie.Start Inv-loop μ-loop → Problem
-P s = problem (trip (s .args .locations) (s .args .legs .now) (s .args .latest .now) (s .args .depot))
+P s = problem (trip (s .args .locations) (s .args .legs .now) (s .args .latest .now) (s .args .service .now) (s .args .depot))
 
 -- The row from what was handed in.
 from-start : (s : tie.Start Inv-loop μ-loop) →
@@ -56,7 +56,7 @@ add-j c = search needs
 
 loop-holds : tie.Need-loop-holds Inv-loop μ-loop
 loop-holds c =
-    let s = c .before .before .before .before .before .before in
+    let s = c .before .before .before .before .before .before .before in
     let m = s .pre .so-far .timed .measurable in
     let h : s .args .i < length (s .args .route .now) = omega (arith, s .pre .inside) in (
       s .pre .so-far .timed,
@@ -75,7 +75,7 @@ same-length c = search needs
 
 returns : tie.Need-returns Inv-loop μ-loop
 returns c =
-    let s = c .before .before .before .before .before .before .before .before .before in
+    let s = c .before .before .before .before .before .before .before .before .before .before in
     let l = c .before .before .loop in
     let h : l .j < length (s .args .route .now) = omega (arith, l .inv .1, c .before .loop-test .taken) in
     sym (sweep-spent (P s) (s .args .allowance) (length (s .args .route .now)) _ _ (s .args .i) (l .examined) (l .accepted) (l .route) (l .j) h (c .if1 .taken)) ∙ l .inv .8 ∙ from-start s
@@ -99,7 +99,7 @@ loop-less c = search needs
 
 loop-again : tie.Need-loop-again Inv-loop μ-loop
 loop-again c =
-    let s = c .before .before .before .before .before .before .before .before .before .before .before .before .before .before in
+    let s = c .before .before .before .before .before .before .before .before .before .before .before .before .before .before .before in
     let l = c .before .before .before .before .before .before .before .loop in
     let t = c .before .before .before .try-pair .ensures in
     let k = tried-timed (P s) _ _ (s .args .i) (l .j) (l .route) (omega (arith, l .inv .2)) t (l .inv .0) in
@@ -122,7 +122,7 @@ same-length-2 c = search needs
 
 returns-2 : tie.Need-returns-2 Inv-loop μ-loop
 returns-2 c =
-    let s = c .before .before .before .before .before .before .before .before in
+    let s = c .before .before .before .before .before .before .before .before .before in
     let l = c .before .loop in
     let h : length (s .args .route .now) ≤ l .j = omega (arith, l .inv .1, c .loop-test .left) in
     sym (sweep-ended (P s) (s .args .allowance) (length (s .args .route .now)) _ _ (s .args .i) (so-far (l .examined) (l .accepted) (l .route)) (l .j) h) ∙ l .inv .8 ∙ from-start s

@@ -3,7 +3,7 @@ use Prim.Native.Nat.{_≤_}
 use native.Mathlib.Omega.{arith}
 use borrow.Author.Needs.{needs}
 use borrow.Author.Tests.{not-true, not-false}
-use Rattle.theory.specs.Route.{Problem, clock-of}
+use Rattle.theory.specs.Route.{Problem, timetable-of}
 use Rattle.theory.specs.Tables.{problem, trip}
 use Rattle.deadlines.proofs.Answer.{kept-told, late-told}
 use Rattle.pair_reversal.proofs.Reading.{after-known}
@@ -13,7 +13,7 @@ use Rattle.pair_reversal.proofs.try_pair.Statement.{statement}
 use Rattle.pair_reversal.proofs.try_pair.Tie as tie
 
 abbrev P : tie.Start → Problem
-P s = problem (trip (s .args .locations) (s .args .legs .now) (s .args .latest .now) (s .args .depot))
+P s = problem (trip (s .args .locations) (s .args .legs .now) (s .args .latest .now) (s .args .service .now) (s .args .depot))
 
 mul-c : tie.Need-mul-c
 mul-c c = search needs
@@ -26,7 +26,7 @@ stop-after-requires c κs = search needs
 
 is-shorter-requires : tie.Need-is-shorter-requires
 is-shorter-requires c κs =
-    let s = c .before .before .before .before .before .before in
+    let s = c .before .before .before .before .before .before .before in
     let m = s .pre .timed .measurable in
     record {
       table = m .table;
@@ -41,7 +41,7 @@ same-length c = search needs
 
 returns : tie.Need-returns
 returns c =
-    let s = c .before .before .before .before .before .before .before .before in
+    let s = c .before .before .before .before .before .before .before .before .before in
     tried-longer (P s) (s .args .a) (s .args .b) (s .args .i) (s .args .j) (s .args .route .now) (c .before .before .stop-after .ensures) (c .before .is-shorter .ensures) (not-true _ (c .if1 .taken))
 
 add-end : tie.Need-add-end
@@ -64,7 +64,7 @@ reverse-requires c κs = search needs
 
 check-deadlines-requires : tie.Need-check-deadlines-requires
 check-deadlines-requires c κs =
-    let s = c .before .before .before .before .before .before .before .before .before .before .before .before .before in
+    let s = c .before .before .before .before .before .before .before .before .before .before .before .before .before .before in
     let h : s .args .i ≤ s .args .j = omega (arith, s .pre .rising) in
     turned-timed (s .args .i) (s .args .j) (s .args .route .now) h (turned-lent (s .args .i) (s .args .j) (s .args .route .now) h (s .pre .inside) (c .before .before .before .reverse .ensures)) (s .pre .timed)
 
@@ -94,11 +94,11 @@ returns-2 c =
     let told = c .before .before .before .before in
     let check = told .before .before in
     let u = check .before .before .before .before in
-    let s = u .before .before .before .before .before .before .before .before .before .before in
+    let s = u .before .before .before .before .before .before .before .before .before .before .before in
     let h : s .args .i ≤ s .args .j = omega (arith, s .pre .rising) in
     let turn = turned-lent (s .args .i) (s .args .j) (s .args .route .now) h (s .pre .inside) (u .reverse .ensures) in
     let back = turned-again (s .args .i) (s .args .j) (s .args .route .now) h (s .pre .inside) turn (c .before .before .reverse2 .ensures) in
-    tried-late (P s) (s .args .a) (s .args .b) (s .args .i) (s .args .j) (s .args .route .now) (u .before .before .before .before .stop-after .ensures) (u .before .before .before .is-shorter .ensures) (not-false _ (u .before .before .if1 .left)) turn (late-told (clock-of (P s)) (s .args .depot) _ (told .enum-told .given .1) (check .check-deadlines .ensures)) back
+    tried-late (P s) (s .args .a) (s .args .b) (s .args .i) (s .args .j) (s .args .route .now) (u .before .before .before .before .stop-after .ensures) (u .before .before .before .is-shorter .ensures) (not-false _ (u .before .before .if1 .left)) turn (late-told (timetable-of (P s)) (s .args .depot) _ (told .enum-told .given .1) (check .check-deadlines .ensures)) back
 
 enum-told-2 : tie.Need-enum-told-2
 enum-told-2 c = search needs
@@ -110,10 +110,10 @@ returns-3 : tie.Need-returns-3
 returns-3 c =
     let check = c .before .before in
     let u = check .before .before .before .before in
-    let s = u .before .before .before .before .before .before .before .before .before .before in
+    let s = u .before .before .before .before .before .before .before .before .before .before .before in
     let h : s .args .i ≤ s .args .j = omega (arith, s .pre .rising) in
     let turn = turned-lent (s .args .i) (s .args .j) (s .args .route .now) h (s .pre .inside) (u .reverse .ensures) in
-    tried-kept (P s) (s .args .a) (s .args .b) (s .args .i) (s .args .j) (s .args .route .now) (u .before .before .before .before .stop-after .ensures) (u .before .before .before .is-shorter .ensures) (not-false _ (u .before .before .if1 .left)) turn (kept-told (clock-of (P s)) (s .args .depot) _ (c .enum-told2 .given .1) (check .check-deadlines .ensures))
+    tried-kept (P s) (s .args .a) (s .args .b) (s .args .i) (s .args .j) (s .args .route .now) (u .before .before .before .before .stop-after .ensures) (u .before .before .before .is-shorter .ensures) (not-false _ (u .before .before .if1 .left)) turn (kept-told (timetable-of (P s)) (s .args .depot) _ (c .enum-told2 .given .1) (check .check-deadlines .ensures))
 
 pub try-pair-spec : {M : Type 1} → statement M
 try-pair-spec =

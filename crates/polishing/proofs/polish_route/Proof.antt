@@ -21,38 +21,38 @@ add-width c = search needs
 mul-width : tie.Need-mul-width
 mul-width c =
     let e = c .before .before .enumerate-reconnections in
-    let s = c .before .before .before .before .before .before .before .before in
+    let s = c .before .before .before .before .before .before .before .before .before in
     omega (arith, width-fits (s .args .k) (e .result) _ _ _ _ (record { least = s .pre .least; most = s .pre .most }) (e .ensures))
 
 array-share-prefix-orders : tie.Need-array-share-prefix-orders
 array-share-prefix-orders c =
     let e = c .before .before .enumerate-reconnections in
-    let s = c .before .before .before .before .before .before .before .before in
+    let s = c .before .before .before .before .before .before .before .before .before in
     orders-lent (s .args .k) (e .result) _ _ _ _ (record { least = s .pre .least; most = s .pre .most }) (e .ensures)
 
 slice-aggregate-polish-rows : tie.Need-slice-aggregate-polish-rows
 slice-aggregate-polish-rows c =
     let e = c .before .before .before .enumerate-reconnections in
-    let s = c .before .before .before .before .before .before .before .before .before in
+    let s = c .before .before .before .before .before .before .before .before .before .before in
     orders-size (s .args .k) (e .result) _ _ _ _ (record { least = s .pre .least; most = s .pre .most }) (e .ensures)
 
 array-share-prefix-masks : tie.Need-array-share-prefix-masks
 array-share-prefix-masks c =
     let e = c .before .before .before .enumerate-reconnections in
-    let s = c .before .before .before .before .before .before .before .before .before in
+    let s = c .before .before .before .before .before .before .before .before .before .before in
     masks-lent (s .args .k) (e .result) _ _ _ _ (record { least = s .pre .least; most = s .pre .most }) (e .ensures)
 
 slice-aggregate-polish-rows-2 : tie.Need-slice-aggregate-polish-rows-2
 slice-aggregate-polish-rows-2 c =
     let e = c .before .before .before .before .enumerate-reconnections in
-    let s = c .before .before .before .before .before .before .before .before .before .before in
+    let s = c .before .before .before .before .before .before .before .before .before .before .before in
     masks-size (s .args .k) (e .result) _ _ _ _ (record { least = s .pre .least; most = s .pre .most }) (e .ensures)
 
 polish-rows-requires : tie.Need-polish-rows-requires
 polish-rows-requires c κs =
     let e = c .before .before .before .before .before .enumerate-reconnections in
-    let s = c .before .before .before .before .before .before .before .before .before .before .before in
-    polishable (s .args .k) (e .result) _ _ _ _ (record { least = s .pre .least; most = s .pre .most }) (e .ensures) (trip (s .args .locations) (s .args .legs .now) (s .args .latest .now) (s .args .depot)) (s .args .route .now) (s .pre)
+    let s = c .before .before .before .before .before .before .before .before .before .before .before .before in
+    polishable (s .args .k) (e .result) _ _ _ _ (record { least = s .pre .least; most = s .pre .most }) (e .ensures) (trip (s .args .locations) (s .args .legs .now) (s .args .latest .now) (s .args .service .now) (s .args .depot)) (s .args .route .now) (s .pre)
 
 same-length : tie.Need-same-length
 same-length c = search needs
@@ -60,7 +60,7 @@ same-length c = search needs
 returns : tie.Need-returns
 returns c =
     let e = c .before .before .before .before .before .before .before .before .enumerate-reconnections in
-    let s = c .before .before .before .before .before .before .before .before .before .before .before .before .before .before in
+    let s = c .before .before .before .before .before .before .before .before .before .before .before .before .before .before .before in
     rw (rows-are (s .args .k) (e .result) _ _ _ _ (record { least = s .pre .least; most = s .pre .most }) (e .ensures)) at (c .before .before .polish-rows .ensures)
 
 pub polish-route-spec : {M : Type 1} → statement M

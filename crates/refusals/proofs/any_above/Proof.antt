@@ -1,36 +1,33 @@
--- `refusals::any_above` meets its contract. The invariant: the test of the whole is that of the rest. Assumes nothing.
+-- `refusals::any_above` meets its contract. The invariant: an entry is above the limit where the greatest so far is, or one of the rest. Assumes nothing.
 use Prim.Native.Nat.{_≤_, _-_}
-use mathlib.Core.Path.{_≡_, refl}
+use mathlib.Core.Path.{_≡_}
+use mathlib.Core.Bool.{_||_}
 use lib.Dec.{ltb}
 use lib.ListN.{length, drop}
-use borrow.Author.Tests.{lt-ltb, le-ltb}
 use Rattle.theory.specs.Refusals.{any}
-use Rattle.refusals.proofs.Tests.{any-more, any-here, any-none}
+use Rattle.refusals.proofs.Tests.{above-none, above-more, above-all}
 use native.Mathlib.Omega.{arith}
 use borrow.Author.Needs.{needs}
 use Rattle.refusals.proofs.any_above.Statement.{statement}
 use Rattle.refusals.proofs.any_above.Tie as tie
 
 abbrev Inv-loop : tie.InvT-loop
-Inv-loop entries limit i₀ i = (i ≤ length entries) × (any (λ x. ltb limit x) entries ≡ any (λ x. ltb limit x) (drop i entries))
+Inv-loop entries limit most₀ i₀ most i = (i ≤ length entries) × (any (λ x. ltb limit x) entries ≡ (ltb limit most || any (λ x. ltb limit x) (drop i entries)))
 
 abbrev μ-loop : tie.MeasureT-loop
-μ-loop entries limit i₀ i = length entries - i
+μ-loop entries limit most₀ i₀ most i = length entries - i
 
 loop-holds : tie.Need-loop-holds Inv-loop μ-loop
-loop-holds c = (omega arith, refl)
+loop-holds c = let s = c .before in (omega arith, above-none (s .args .limit) (s .args .entries .now))
 
-mul-if1 : tie.Need-mul-if1 Inv-loop μ-loop
-mul-if1 c = search needs
+mul-greater : tie.Need-mul-greater Inv-loop μ-loop
+mul-greater c = search needs
 
-shared-slice-read-if1 : tie.Need-shared-slice-read-if1 Inv-loop μ-loop
-shared-slice-read-if1 c = search needs
+shared-slice-read-greater : tie.Need-shared-slice-read-greater Inv-loop μ-loop
+shared-slice-read-greater c = search needs
 
-returns : tie.Need-returns Inv-loop μ-loop
-returns c =
-    let s = c .before .before .before .before in
-    let l = c .before .before .before .loop in
-    any-here 0 (λ x. ltb (s .args .limit) x) (s .args .entries .now) (l .i) (c .before .before .loop-test .taken) (lt-ltb _ _ (c .if1 .taken)) (l .inv .1)
+greater-requires : tie.Need-greater-requires Inv-loop μ-loop
+greater-requires c κs = search needs
 
 add-i : tie.Need-add-i Inv-loop μ-loop
 add-i c = search needs
@@ -40,15 +37,16 @@ loop-less c = search needs
 
 loop-again : tie.Need-loop-again Inv-loop μ-loop
 loop-again c =
-    let s = c .before .before .before .before in
+    let s = c .before .before .before .before .before in
     let l = c .before .before .before .loop in
-    (omega arith, any-more 0 (λ x. ltb (s .args .limit) x) (s .args .entries .now) (l .i) (c .before .before .loop-test .taken) (le-ltb _ _ (c .if1 .left)) (l .inv .1))
+    let h = c .before .before .loop-test .taken in
+    (omega arith, above-more (s .args .limit) (s .args .entries .now) (l .most) (l .i) _ h (c .greater .ensures) (l .inv .1))
 
-returns-2 : tie.Need-returns-2 Inv-loop μ-loop
-returns-2 c =
-    let s = c .before .before in
+returns : tie.Need-returns Inv-loop μ-loop
+returns c =
+    let s = c .before .before .before in
     let l = c .before .loop in
-    any-none (λ x. ltb (s .args .limit) x) (s .args .entries .now) (l .i) (c .loop-test .left) (l .inv .1)
+    above-all (s .args .limit) (s .args .entries .now) (l .most) (l .i) (c .loop-test .left) (l .inv .1)
 
 pub any-above-spec : {M : Type 1} → statement M
 any-above-spec =
@@ -57,10 +55,10 @@ any-above-spec =
     Inv-loop
     μ-loop
     loop-holds
-    mul-if1
-    shared-slice-read-if1
-    returns
+    mul-greater
+    shared-slice-read-greater
+    greater-requires
     add-i
     loop-less
     loop-again
-    returns-2)
+    returns)

@@ -24,10 +24,10 @@ first-requires-2 c κs = search needs
 
 returns : tie.Need-returns
 returns c =
-    let s = c .before .before .before .before .before .before .before .before in
+    let s = c .before .before .before .before .before .before .before .before .before in
     c .first2 .ensures
     ∙ ap (either _) (c .before .first .ensures)
-    ∙ problem-parts (trip (s .args .locations) (s .args .legs .now) (s .args .latest .now) (s .args .depot)) (s .args .route .now) _ _ _ (c .before .before .before .before .check-tables .ensures) (c .before .before .before .check-known-stops .ensures) (c .before .before .check-stop-count .ensures)
+    ∙ problem-parts (trip (s .args .locations) (s .args .legs .now) (s .args .latest .now) (s .args .service .now) (s .args .depot)) (s .args .route .now) _ _ _ (c .before .before .before .before .check-tables .ensures) (c .before .before .before .check-known-stops .ensures) (c .before .before .check-stop-count .ensures)
 
 pub check-problem-spec : {M : Type 1} → statement M
 check-problem-spec =

@@ -17,8 +17,8 @@ returns c = search needs
 pair-loop-requires : tie.Need-pair-loop-requires
 pair-loop-requires c κs =
     let r = c .before .before .check-problem in
-    let s = c .before .before .before .before .before .before .before in
-    fine (trip 5 (s .args .legs .now) (s .args .latest .now) 0) (s .args .route .now) (r .result) (r .ensures) (c .before .if1 .left)
+    let s = c .before .before .before .before .before .before .before .before in
+    fine (trip 5 (s .args .legs .now) (s .args .latest .now) (s .args .service .now) 0) (s .args .route .now) (r .result) (r .ensures) (c .before .if1 .left)
 
 route-length-requires : tie.Need-route-length-requires
 route-length-requires c κs = search needs

@@ -10,21 +10,21 @@ use Rattle.run.proofs.run_list_k_opt_in_phase.Statement.{statement}
 use Rattle.run.proofs.run_list_k_opt_in_phase.Tie as tie
 
 abbrev Inv-loop : tie.InvT-loop
-Inv-loop k allowance locations legs latest stops₀ lengths depots pins result₀ left₀ at₀ i₀ stops result left at i =
-    Running k allowance (tables locations legs latest) (fleet stops₀ lengths depots pins) result₀ stops result left at i
+Inv-loop k allowance locations legs latest service stops₀ lengths depots pins result₀ left₀ at₀ i₀ stops result left at i =
+    Running k allowance (tables locations legs latest service) (fleet stops₀ lengths depots pins) result₀ stops result left at i
 
 abbrev μ-loop : tie.MeasureT-loop
-μ-loop k allowance locations legs latest stops₀ lengths depots pins result₀ left₀ at₀ i₀ stops result left at i = length lengths - i
+μ-loop k allowance locations legs latest service stops₀ lengths depots pins result₀ left₀ at₀ i₀ stops result left at i = length lengths - i
 
 abbrev lent : tie.Start Inv-loop μ-loop → Tables
-lent s = tables (s .args .locations) (s .args .legs .now) (s .args .latest .now)
+lent s = tables (s .args .locations) (s .args .legs .now) (s .args .latest .now) (s .args .service .now)
 
 abbrev boats : tie.Start Inv-loop μ-loop → Fleet
 boats s = fleet (s .args .stops .now) (s .args .lengths .now) (s .args .depots .now) (s .args .pins .now)
 
 loop-holds : tie.Need-loop-holds Inv-loop μ-loop
 loop-holds c =
-    let s = c .before .before .before .before .before .before .before in
+    let s = c .before .before .before .before .before .before .before .before in
     begins (s .args .k) (s .args .allowance) (lent s) (boats s) (s .args .result .now)
 
 mul-end : tie.Need-mul-end Inv-loop μ-loop
@@ -35,7 +35,7 @@ shared-slice-read-end c = search needs
 
 add-end : tie.Need-add-end Inv-loop μ-loop
 add-end c =
-    let s = c .before .before .before .before .before .before .before .before .before .before in
+    let s = c .before .before .before .before .before .before .before .before .before .before .before in
     let l = c .before .before .loop in
     let g = round-room (s .args .k) (s .args .allowance) (lent s) (boats s) (s .args .result .now) (s .pre) (l .stops) (l .result) (l .left) (l .at) (l .i) (l .inv) (c .before .loop-test .taken) in
     omega (arith, g, s .good)
@@ -51,7 +51,7 @@ shared-slice-read-pin c = search needs
 
 mul-route : tie.Need-mul-route Inv-loop μ-loop
 mul-route c =
-    let s = c .before .before .before .before .before .before .before .before .before .before .before .before in
+    let s = c .before .before .before .before .before .before .before .before .before .before .before .before .before in
     let l = c .before .before .before .before .loop in
     let g = round-room (s .args .k) (s .args .allowance) (lent s) (boats s) (s .args .result .now) (s .pre) (l .stops) (l .result) (l .left) (l .at) (l .i) (l .inv) (c .before .before .before .loop-test .taken) in
     omega (arith, g, s .good)
@@ -64,13 +64,13 @@ part-route-start c = search needs
 
 part-route-end : tie.Need-part-route-end Inv-loop μ-loop
 part-route-end c =
-    let s = c .before .before .before .before .before .before .before .before .before .before .before .before in
+    let s = c .before .before .before .before .before .before .before .before .before .before .before .before .before in
     let l = c .before .before .before .before .loop in
     round-room (s .args .k) (s .args .allowance) (lent s) (boats s) (s .args .result .now) (s .pre) (l .stops) (l .result) (l .left) (l .at) (l .i) (l .inv) (c .before .before .before .loop-test .taken)
 
 run-round-requires : tie.Need-run-round-requires Inv-loop μ-loop
 run-round-requires c κs =
-    let s = c .before .before .before .before .before .before .before .before .before .before .before .before .before in
+    let s = c .before .before .before .before .before .before .before .before .before .before .before .before .before .before in
     let l = c .before .before .before .before .before .loop in
     let q : l .at + getD (s .args .lengths .now) (l .i) 0 - l .at ≡ getD (s .args .lengths .now) (l .i) 0 = omega arith in
     rw q (polishable (s .args .k) (s .args .allowance) (lent s) (boats s) (s .args .result .now) (s .pre) (l .stops) (l .result) (l .left) (l .at) (l .i) (l .inv) (c .before .before .before .before .loop-test .taken))
@@ -110,7 +110,7 @@ loop-less c = search needs
 
 loop-again : tie.Need-loop-again Inv-loop μ-loop
 loop-again c =
-    let s = c .before .before .before .before .before .before .before .before .before .before .before .before .before .before .before .before .before .before .before .before .before in
+    let s = c .before .before .before .before .before .before .before .before .before .before .before .before .before .before .before .before .before .before .before .before .before .before in
     let l = c .before .before .before .before .before .before .before .before .before .before .before .before .before .loop in
     let q : l .at + getD (s .args .lengths .now) (l .i) 0 - l .at ≡ getD (s .args .lengths .now) (l .i) 0 = omega arith in
     let p : 4 * l .i + 4 - 4 * l .i ≡ 4 = omega arith in
@@ -126,7 +126,7 @@ same-length-2 c = search needs
 
 returns : tie.Need-returns Inv-loop μ-loop
 returns c =
-    let s = c .before .before .before .before .before .before .before .before .before in
+    let s = c .before .before .before .before .before .before .before .before .before .before in
     let l = c .before .loop in
     ends (s .args .k) (s .args .allowance) (lent s) (boats s) (s .args .result .now) (s .pre) (l .stops) (l .result) (l .left) (l .at) (l .i) (l .inv) (c .loop-test .left)
 

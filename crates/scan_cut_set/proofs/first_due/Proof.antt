@@ -21,11 +21,11 @@ told-late : {t : Timing} {b : Bool} → t ≡ Judged.Late → is-in-time t ≡ b
 told-late e h = rw e at h
 
 abbrev Inv-loop : tie.InvT-loop
-Inv-loop joint rows dues m clock below shorter limit i₀ i =
-    (i ≤ limit) × ((x : ℕ) → x < i → due-gain joint rows dues m clock below x ≡ false) × (i < limit → chain joint 9 (row rows i) < below)
+Inv-loop joint rows stays dues m clock below shorter limit i₀ i =
+    (i ≤ limit) × ((x : ℕ) → x < i → due-gain joint rows stays dues m clock below x ≡ false) × (i < limit → chain joint 9 (row rows i) < below)
 
 abbrev μ-loop : tie.MeasureT-loop
-μ-loop joint rows dues m clock below shorter limit i₀ i = limit - i
+μ-loop joint rows stays dues m clock below shorter limit i₀ i = limit - i
 
 loop-holds : tie.Need-loop-holds Inv-loop μ-loop
 loop-holds c = (c .pre .first .most, due-first (c .pre), c .pre .first .shorter)

@@ -1,11 +1,12 @@
 -- `scan_cut_set::first_gain` meets its contract: patterns that cost too much are passed, then those that are late. Assumes nothing.
-use mathlib.Core.Path.{ap, _∙_}
+use mathlib.Core.Path.{refl, ap, _∙_}
 use native.Mathlib.Omega.{arith}
 use borrow.Author.Needs.{needs}
 use Rattle.costs.proofs.Segments.{last-cut}
+use Rattle.deadline_dues.proofs.Filling.{no-stays}
 use Rattle.deadline_dues.proofs.Held.{reached-held, reached-dues}
 use Rattle.scan_cut_set.specs.Gain.{below}
-use Rattle.scan_cut_set.proofs.Gain.{tabled, told-late, chains, none-below, due-rows, first-due-gain}
+use Rattle.scan_cut_set.proofs.Gain.{dues-read, head-timed, clock-told, tabled, told-late, chains, none-below, due-rows, first-due-gain}
 use Rattle.scan_cut_set.proofs.first_gain.Statement.{statement}
 use Rattle.scan_cut_set.proofs.first_gain.Tie as tie
 
@@ -17,7 +18,7 @@ standing-cost-requires c κs = search needs
 
 late-behind-requires : tie.Need-late-behind-requires
 late-behind-requires c κs =
-    let s = c .before .before .before .before .before .before .before .before in
+    let s = c .before .before .before .before .before .before .before .before .before in
     let k = s .pre .searchable .cut-set in
     record { not-empty = omega (arith, k .least); within = omega (arith, last-cut (s .args .cuts .now) (s .args .route .now) k, k .short, s .pre .latenesses .places); places = s .pre .latenesses .places }
 
@@ -25,11 +26,11 @@ threshold-requires : tie.Need-threshold-requires
 threshold-requires c κs = search needs
 
 next-shorter-requires : tie.Need-next-shorter-requires
-next-shorter-requires c κs = let s = c .before .before .before .before .before .before .before .before .before .before .before in chains (tabled (s .pre .searchable) (s .pre .patterned) (s .pre .allowed) (c .before .before .before .before .before .fill-joint .ensures)) 0 (omega arith)
+next-shorter-requires c κs = let s = c .before .before .before .before .before .before .before .before .before .before .before .before in chains (tabled (s .pre .searchable) (s .pre .patterned) (s .pre .allowed) (c .before .before .before .before .before .fill-joint .ensures)) 0 (omega arith)
 
 returns : tie.Need-returns
 returns c =
-    let s = c .before .before .before .before .before .before .before .before .before .before .before .before .before in
+    let s = c .before .before .before .before .before .before .before .before .before .before .before .before .before .before in
     let j = c .before .before .before .before .before .before .before .fill-joint .ensures in
     record {
       within = omega arith;
@@ -39,47 +40,45 @@ returns c =
       behind = s .pre .behind;
     }
 
-reach-dues-requires : tie.Need-reach-dues-requires
-reach-dues-requires c κs =
-    let s = c .before .before .before .before .before .before .before .before .before .before .before .before .before .before in
+time-states-requires : tie.Need-time-states-requires
+time-states-requires c κs =
+    let s = c .before .before .before .before .before .before .before .before .before .before .before .before .before .before .before .before in
     let g = s .pre .searchable in
     record {
-      table = g .timed .measurable .table;
-      deadlines = g .timed .deadlines;
-      stops = g .timed .measurable .stops;
-      backwards = g .backwards;
-      cut-set = g .cut-set;
-      held = s .pre .held;
-      behind = s .pre .behind;
+      reachable = record { read = dues-read g; cut-set = g .cut-set; held = s .pre .held; behind = s .pre .behind };
+      stay-places = refl;
+      brief = no-stays 9;
     }
 
 head-clock-requires : tie.Need-head-clock-requires
-head-clock-requires c κs =
-    let g = c .before .before .before .before .before .before .before .before .before .before .before .before .before .before .before .pre .searchable in
-    record { measurable = g .timed .measurable; forwards = g .forwards; cut-set = g .cut-set }
+head-clock-requires c κs = head-timed (c .before .before .before .before .before .before .before .before .before .before .before .before .before .before .before .before .before .pre .searchable)
 
 sub-m : tie.Need-sub-m
-sub-m c = omega (arith, c .before .before .before .before .before .before .before .before .before .before .before .before .before .before .before .before .pre .searchable .cut-set .least)
+sub-m c = omega (arith, c .before .before .before .before .before .before .before .before .before .before .before .before .before .before .before .before .before .before .pre .searchable .cut-set .least)
 
 first-due-requires : tie.Need-first-due-requires
 first-due-requires c κs =
-    let s = c .before .before .before .before .before .before .before .before .before .before .before .before .before .before .before .before .before .before in
-    let h = c .before .before .head-clock .ensures in
-    rw (h .is) (due-rows (tabled (s .pre .searchable) (s .pre .patterned) (s .pre .allowed) (c .before .before .before .before .before .before .before .before .before .before .before .before .fill-joint .ensures)) _ (c .before .before .before .reach-dues .ensures .places) _ _ (omega (arith, h .is, h .early)) (c .before .before .before .before .before .before .next-shorter .ensures))
+    let s = c .before .before .before .before .before .before .before .before .before .before .before .before .before .before .before .before .before .before .before .before .before in
+    let g = s .pre .searchable in
+    let h = c .before .before .before .head-clock .ensures in
+    let w = c .before .before .before .before .time-states .ensures in
+    let e = clock-told g h in
+    rw e (due-rows (tabled g (s .pre .patterned) (s .pre .allowed) (c .before .before .before .before .before .before .before .before .before .before .before .before .before .before .fill-joint .ensures)) _ _ (w .served) (w .reached .places) _ _ (omega (arith, e, h .early)) (c .before .before .before .before .before .before .before .before .next-shorter .ensures))
 
 returns-2 : tie.Need-returns-2
 returns-2 c =
-    let s = c .before .before .before .before .before .before .before .before .before .before .before .before .before .before .before .before .before .before .before in
+    let s = c .before .before .before .before .before .before .before .before .before .before .before .before .before .before .before .before .before .before .before .before .before .before in
     let g = s .pre .searchable in
-    let j = c .before .before .before .before .before .before .before .before .before .before .before .before .before .fill-joint .ensures in
-    let w = c .before .before .before .before .reach-dues .ensures in
-    let d = rw (c .before .before .before .head-clock .ensures .is) at (c .first-due .ensures) in
+    let j = c .before .before .before .before .before .before .before .before .before .before .before .before .before .before .before .fill-joint .ensures in
+    let w = c .before .before .before .before .before .time-states .ensures in
+    let d = rw (clock-told g (c .before .before .before .before .head-clock .ensures)) at (c .first-due .ensures) in
+    let late = c .before .before .before .before .before .before .before .before .before .before .before .before .late-behind in
     record {
       within = c .first-due .ensures .within;
-      first = λ ps u l. first-due-gain (tabled g u l j) (told-late (s .pre) (c .before .before .before .before .before .before .before .before .before .before .late-behind .ensures)) (s .pre .early) _ (reached-dues w (g .cut-set)) _ _ ((c .before .before .before .before .before .before .before .before .before .threshold .ensures) ∙ ap (λ n. below n (c .before .before .before .before .before .before .before .before .before .before .late-behind .result)) (c .before .before .before .before .before .before .before .before .before .before .before .standing-cost .ensures)) d;
+      first = λ ps u l. first-due-gain (tabled g u l j) (told-late (s .pre) (late .ensures)) (s .pre .early) _ _ (w .served) (reached-dues (w .reached) (g .cut-set)) _ _ ((c .before .before .before .before .before .before .before .before .before .before .before .threshold .ensures) ∙ ap (λ n. below n (late .result)) (c .before .before .before .before .before .before .before .before .before .before .before .before .before .standing-cost .ensures)) d;
       padded = j .padded;
-      held = reached-held w (g .cut-set);
-      behind = omega (arith, w .reach);
+      held = reached-held (w .reached) (g .cut-set);
+      behind = omega (arith, w .reached .reach);
     }
 
 pub first-gain-spec : {M : Type 1} → statement M
@@ -92,7 +91,7 @@ first-gain-spec =
     threshold-requires
     next-shorter-requires
     returns
-    reach-dues-requires
+    time-states-requires
     head-clock-requires
     sub-m
     first-due-requires

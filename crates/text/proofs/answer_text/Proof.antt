@@ -11,12 +11,12 @@ use Rattle.text.proofs.answer_text.Tie as tie
 
 -- The question that was read lies within the lent places.
 fits-at : (c : tie.After-answer) →
-    let q = c .before .before .before .before .before .before .before .before .read-question in
-    Fits (c .answer .given .0 .0) (c .answer .given .0 .1 .0) (tables 96 (q .last .1 .0) (q .last .1 .1 .0)) (q .last .1 .1 .1 .0)
+    let q = c .before .before .before .before .before .before .before .before .before .before .read-question in
+    Fits (c .answer .given .0 .0) (c .answer .given .0 .1 .0) (tables 96 (q .last .1 .0) (q .last .1 .1 .0) (q .last .1 .1 .1 .0)) (q .last .1 .1 .1 .1 .0)
 fits-at c =
-    let q = c .before .before .before .before .before .before .before .before .read-question in
-    let s = c .before .before .before .before .before .before .before .before .before .before .before .before .before .before .before .before .before in
-    fits (s .args .text .now) _ _ (q .ensures) _ _ (c .answer .given .1) (still-lent (s .pre .lent) (q .kept .1 .0) (q .kept .1 .1 .0) (q .kept .1 .1 .1 .0))
+    let q = c .before .before .before .before .before .before .before .before .before .before .read-question in
+    let s = c .before .before .before .before .before .before .before .before .before .before .before .before .before .before .before .before .before .before .before .before .before in
+    fits (s .args .text .now) (tables 96 (q .last .1 .0) (q .last .1 .1 .0) (q .last .1 .1 .1 .0)) (q .last .1 .1 .1 .1 .0) (q .ensures) _ _ (c .answer .given .1) (still-lent (s .pre .lent) (q .kept .1 .0) (q .kept .1 .1 .0) (q .kept .1 .1 .1 .0) (q .kept .1 .1 .1 .1 .0))
 
 read-question-requires : tie.Need-read-question-requires
 read-question-requires c κs = search needs
@@ -29,7 +29,7 @@ enum-told c = search needs
 
 print-refusal-requires : tie.Need-print-refusal-requires
 print-refusal-requires c κs =
-    let s = c .before .before .before .before .before .before .before .before .before .before .before .before .before .before .before .before .before .before in
+    let s = c .before .before .before .before .before .before .before .before .before .before .before .before .before .before .before .before .before .before .before .before .before .before in
     record { room = omega (arith, refusal-length 10 (omega arith), s .pre .room .places) }
 
 same-length : tie.Need-same-length
@@ -44,11 +44,14 @@ same-length-3 c = search needs
 same-length-4 : tie.Need-same-length-4
 same-length-4 c = search needs
 
+same-length-5 : tie.Need-same-length-5
+same-length-5 c = search needs
+
 returns : tie.Need-returns
 returns c =
-    let q = c .before .before .before .before .before .before .before .before .before .before .before .before .read-question in
-    let s = c .before .before .before .before .before .before .before .before .before .before .before .before .before .before .before .before .before .before .before .before .before in
-    malformed (s .args .text .now) (tables 96 (q .last .1 .0) (q .last .1 .1 .0)) (q .last .1 .1 .1 .0) (q .ensures) (c .before .before .before .before .enum-told .given .1) _ _ _ (c .before .before .print-refusal .ensures)
+    let q = c .before .before .before .before .before .before .before .before .before .before .before .before .before .before .read-question in
+    let s = c .before .before .before .before .before .before .before .before .before .before .before .before .before .before .before .before .before .before .before .before .before .before .before .before .before in
+    malformed (s .args .text .now) (tables 96 (q .last .1 .0) (q .last .1 .1 .0) (q .last .1 .1 .1 .0)) (q .last .1 .1 .1 .1 .0) (q .ensures) (c .before .before .before .before .enum-told .given .1) _ _ _ (c .before .before .print-refusal .ensures)
 
 cast-k : tie.Need-cast-k
 cast-k c = search needs
@@ -71,17 +74,20 @@ slice-reshare-prefix-answer-question-2 c = fits-at (c .before .before .before .b
 slice-aggregate-answer-question-2 : tie.Need-slice-aggregate-answer-question-2
 slice-aggregate-answer-question-2 c = sym (length-take-le _ _ (fits-at (c .before .before .before .before .before) .latest-fit))
 
-slice-relend-prefix-answer-question : tie.Need-slice-relend-prefix-answer-question
-slice-relend-prefix-answer-question c = fits-at (c .before .before .before .before .before) .stops-fit
+slice-reshare-prefix-answer-question-3 : tie.Need-slice-reshare-prefix-answer-question-3
+slice-reshare-prefix-answer-question-3 c = fits-at (c .before .before .before .before .before) .service-fit
 
 slice-aggregate-answer-question-3 : tie.Need-slice-aggregate-answer-question-3
-slice-aggregate-answer-question-3 c = sym (length-take-le _ _ (fits-at (c .before .before .before .before .before .before) .stops-fit))
+slice-aggregate-answer-question-3 c = sym (length-take-le _ _ (fits-at (c .before .before .before .before .before .before) .service-fit))
+
+slice-relend-prefix-answer-question : tie.Need-slice-relend-prefix-answer-question
+slice-relend-prefix-answer-question c = fits-at (c .before .before .before .before .before .before) .stops-fit
+
+slice-aggregate-answer-question-4 : tie.Need-slice-aggregate-answer-question-4
+slice-aggregate-answer-question-4 c = sym (length-take-le _ _ (fits-at (c .before .before .before .before .before .before .before) .stops-fit))
 
 answer-question-requires : tie.Need-answer-question-requires
 answer-question-requires c κs = search needs
-
-same-length-5 : tie.Need-same-length-5
-same-length-5 c = search needs
 
 same-length-6 : tie.Need-same-length-6
 same-length-6 c = search needs
@@ -92,12 +98,18 @@ same-length-7 c = search needs
 same-length-8 : tie.Need-same-length-8
 same-length-8 c = search needs
 
+same-length-9 : tie.Need-same-length-9
+same-length-9 c = search needs
+
+same-length-10 : tie.Need-same-length-10
+same-length-10 c = search needs
+
 returns-2 : tie.Need-returns-2
 returns-2 c =
-    let a = c .before .before .before .before .before .before .before .before .before .before .before .before .answer in
-    let q = c .before .before .before .before .before .before .before .before .before .before .before .before .before .before .before .before .before .before .before .before .read-question in
-    let s = c .before .before .before .before .before .before .before .before .before .before .before .before .before .before .before .before .before .before .before .before .before .before .before .before .before .before .before .before .before in
-    asked-of (s .args .text .now) (tables 96 (q .last .1 .0) (q .last .1 .1 .0)) (q .last .1 .1 .1 .0) (q .ensures) (a .given .0 .0) (a .given .0 .1 .0) (a .given .1) _ _ _ (c .before .before .before .before .answer-question .ensures)
+    let a = c .before .before .before .before .before .before .before .before .before .before .before .before .before .answer in
+    let q = c .before .before .before .before .before .before .before .before .before .before .before .before .before .before .before .before .before .before .before .before .before .before .before .read-question in
+    let s = c .before .before .before .before .before .before .before .before .before .before .before .before .before .before .before .before .before .before .before .before .before .before .before .before .before .before .before .before .before .before .before .before .before .before in
+    asked-of (s .args .text .now) (tables 96 (q .last .1 .0) (q .last .1 .1 .0) (q .last .1 .1 .1 .0)) (q .last .1 .1 .1 .1 .0) (q .ensures) (a .given .0 .0) (a .given .0 .1 .0) (a .given .1) _ _ _ (c .before .before .before .before .answer-question .ensures)
 
 pub answer-text-spec : {M : Type 1} → statement M
 answer-text-spec =
@@ -111,6 +123,7 @@ answer-text-spec =
     same-length-2
     same-length-3
     same-length-4
+    same-length-5
     returns
     cast-k
     cast-allowance
@@ -119,11 +132,14 @@ answer-text-spec =
     slice-aggregate-answer-question
     slice-reshare-prefix-answer-question-2
     slice-aggregate-answer-question-2
-    slice-relend-prefix-answer-question
+    slice-reshare-prefix-answer-question-3
     slice-aggregate-answer-question-3
+    slice-relend-prefix-answer-question
+    slice-aggregate-answer-question-4
     answer-question-requires
-    same-length-5
     same-length-6
     same-length-7
     same-length-8
+    same-length-9
+    same-length-10
     returns-2)

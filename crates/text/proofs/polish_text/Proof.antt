@@ -16,11 +16,14 @@ slice-aggregate-answer-text-3 c = search needs
 slice-aggregate-answer-text-4 : tie.Need-slice-aggregate-answer-text-4
 slice-aggregate-answer-text-4 c = search needs
 
+slice-aggregate-answer-text-5 : tie.Need-slice-aggregate-answer-text-5
+slice-aggregate-answer-text-5 c = search needs
+
 answer-text-requires : tie.Need-answer-text-requires
 answer-text-requires c κs = search needs
 
 returns : tie.Need-returns
-returns c = shown (c .before .before .before .before .answer-text .ensures)
+returns c = shown (c .before .before .before .before .before .answer-text .ensures)
 
 pub polish-text-spec : {M : Type 1} → statement M
 polish-text-spec =
@@ -30,5 +33,6 @@ polish-text-spec =
     slice-aggregate-answer-text-2
     slice-aggregate-answer-text-3
     slice-aggregate-answer-text-4
+    slice-aggregate-answer-text-5
     answer-text-requires
     returns)

@@ -18,29 +18,30 @@ use Rattle.text_question.proofs.read_question.Tie as tie
 
 header-is : (c : tie.After-header) →
     let h = c .header .given .0 .0 in
-    let t = c .before .before .before .before .before .before .before .before .args .text .now in
+    let t = c .before .before .before .before .before .before .before .before .before .args .text .now in
     header t ≡ some (record { k = h .k; allowance = h .allowance; locations = h .locations; depot = h .depot }, drop (c .header .given .0 .1 .0) t)
 header-is c = rw (c .header .given .1) at (c .before .before .read-header .ensures)
 
 few : (c : tie.After-header) → c .header .given .0 .0 .locations ≤ 96
 few c = header-sound _ _ _ (header-is c) .few-locations
 
-cells : (c : tie.After-header) → c .header .given .0 .0 .locations * c .header .given .0 .0 .locations ≤ length (c .before .before .before .before .before .before .before .before .args .legs .now)
+cells : (c : tie.After-header) → c .header .given .0 .0 .locations * c .header .given .0 .0 .locations ≤ length (c .before .before .before .before .before .before .before .before .before .args .legs .now)
 cells c = omega (arith, cells-few (c .header .given .0 .0 .locations) (few c))
 
 tables-are : (c : tie.After-round) →
-    let h = c .before .before .before .before .before .before .before .before .before .before .header .given in
-    let t = c .before .before .before .before .before .before .before .before .before .before .before .before .before .before .before .before .before .before .args .text .now in
-    tables-of (h .0 .0 .locations) (drop (h .0 .1 .0) t) ≡ some (tables (h .0 .0 .locations) (c .before .before .before .before .before .before .read-tables .last .1 .1 .1 .0) (c .before .before .before .before .before .before .read-tables .last .1 .1 .1 .1 .0), drop (c .round .given .0 .0) t)
-tables-are c = rw (c .round .given .1) at (c .before .before .before .before .before .before .read-tables .ensures)
+    let h = c .before .before .before .before .before .before .before .before .before .before .before .before .before .header .given in
+    let t = c .before .before .before .before .before .before .before .before .before .before .before .before .before .before .before .before .before .before .before .before .before .before .args .text .now in
+    let read = c .before .before .before .before .before .before .before .before .read-tables .last .1 .1 .1 in
+    tables-of (h .0 .0 .locations) (drop (h .0 .1 .0) t) ≡ some (tables (h .0 .0 .locations) (read .0) (read .1 .0) (read .1 .1 .0), drop (c .round .given .0 .0) t)
+tables-are c = rw (c .round .given .1) at (c .before .before .before .before .before .before .before .before .read-tables .ensures)
 
 round-is : (c : tie.After-count) →
-    let t = c .before .before .before .before .before .before .before .before .before .before .before .before .before .before .before .before .before .before .before .before .before .before .before .before .before .before .args .text .now in
+    let t = c .before .before .before .before .before .before .before .before .before .before .before .before .before .before .before .before .before .before .before .before .before .before .before .before .before .before .before .before .before .before .args .text .now in
     line-of (ascii "round=") 30000 (drop (c .before .before .before .before .before .before .before .before .round .given .0 .0) t) ≡ some (take (c .count .given .0 .0) (c .before .before .before .before .read-line .last .1 .1 .1 .0), drop (c .count .given .0 .1 .0) t)
-round-is c = rw (c .before .before .before .before .before .before .before .before .before .before .before .before .before .before .before .before .before .before .before .before .before .before .before .before .before .before .pre .stops-places, c .count .given .1) at (c .before .before .before .before .read-line .ensures .reads)
+round-is c = rw (c .before .before .before .before .before .before .before .before .before .before .before .before .before .before .before .before .before .before .before .before .before .before .before .before .before .before .before .before .before .before .pre .stops-places, c .count .given .1) at (c .before .before .before .before .read-line .ensures .reads)
 
 returns : tie.Need-returns
-returns c = record { reads = too-long (c .before .before .before .before .before .args .text .now) (c .if1 .taken); within = omega arith }
+returns c = record { reads = too-long (c .before .before .before .before .before .before .args .text .now) (c .if1 .taken); within = omega arith }
 
 read-header-requires : tie.Need-read-header-requires
 read-header-requires c κs = search needs
@@ -53,7 +54,7 @@ enum-told c = search needs
 
 returns-2 : tie.Need-returns-2
 returns-2 c =
-    record { reads = header-missing (c .before .before .before .before .before .before .before .before .args .text .now) (c .before .before .before .if1 .left) (rw (c .enum-told .given .1) at (c .before .before .read-header .ensures)); within = omega arith }
+    record { reads = header-missing (c .before .before .before .before .before .before .before .before .before .args .text .now) (c .before .before .before .if1 .left) (rw (c .enum-told .given .1) at (c .before .before .read-header .ensures)); within = omega arith }
 
 mul-cells : tie.Need-mul-cells
 mul-cells c = omega (arith, cells-few (c .before .header .given .0 .0 .locations) (few (c .before)))
@@ -70,10 +71,22 @@ slice-relend-prefix-read-tables-2 c = omega (arith, few (c .before .before))
 slice-aggregate-read-tables-2 : tie.Need-slice-aggregate-read-tables-2
 slice-aggregate-read-tables-2 c = sym (length-take-le _ _ (omega (arith, few (c .before .before .before))))
 
+slice-relend-prefix-read-tables-3 : tie.Need-slice-relend-prefix-read-tables-3
+slice-relend-prefix-read-tables-3 c = omega (arith, few (c .before .before .before))
+
+slice-aggregate-read-tables-3 : tie.Need-slice-aggregate-read-tables-3
+slice-aggregate-read-tables-3 c = sym (length-take-le _ _ (omega (arith, few (c .before .before .before .before))))
+
 read-tables-requires : tie.Need-read-tables-requires
 read-tables-requires c κs =
-    let h = c .before .before .before in
-    record { square = record { square = length-take-le _ _ (cells h) }; deadlines = length-take-le _ _ (omega (arith, few h)) }
+    let h = c .before .before .before .before in
+    let s = c .before .before .before .before .before .before .before .before .before .before .before .before .before in
+    let n = h .header .given .0 .0 .locations in
+    record {
+      square = record { square = length-take-le (n * n) (s .args .legs .now) (cells h) };
+      deadlines = length-take-le n (s .args .latest .now) (omega (arith, few h));
+      services = length-take-le n (s .args .service .now) (omega (arith, few h));
+    }
 
 enum-known-round : tie.Need-enum-known-round
 enum-known-round c = search needs
@@ -87,11 +100,14 @@ same-length c = search needs
 same-length-2 : tie.Need-same-length-2
 same-length-2 c = search needs
 
+same-length-3 : tie.Need-same-length-3
+same-length-3 c = search needs
+
 returns-3 : tie.Need-returns-3
 returns-3 c =
-    let h = c .before .before .before .before .before .before .before .before .before .before in
+    let h = c .before .before .before .before .before .before .before .before .before .before .before .before .before in
     record {
-      reads = tables-missing (h .before .before .before .before .before .before .before .before .args .text .now) (h .before .before .before .if1 .left) (header-is h) (rw (c .enum-told2 .given .1) at (c .before .before .before .before .before .before .read-tables .ensures));
+      reads = tables-missing (c .before .before .before .before .before .before .before .before .before .before .before .before .before .before .before .before .before .before .before .before .before .before .args .text .now) (h .before .before .before .if1 .left) (header-is h) (rw (c .enum-told2 .given .1) at (c .before .before .before .before .before .before .before .before .read-tables .ensures));
       within = omega arith;
     }
 
@@ -107,23 +123,11 @@ enum-known-count c = search needs
 enum-told-3 : tie.Need-enum-told-3
 enum-told-3 c = search needs
 
-same-length-3 : tie.Need-same-length-3
-same-length-3 c = search needs
-
 same-length-4 : tie.Need-same-length-4
 same-length-4 c = search needs
 
 same-length-5 : tie.Need-same-length-5
 same-length-5 c = search needs
-
-returns-4 : tie.Need-returns-4
-returns-4 c =
-    let s = c .before .before .before .before .before .before .before .before .before .before .before .before .before .before .before .before .before .before .before .before .before .before .before .before .before .before in
-    let h = c .before .before .before .before .before .before .before .before .before .before .before .before .before .before .before .before .before .before in
-    record {
-      reads = round-missing (s .args .text .now) (h .before .before .before .if1 .left) (header-is h) (tables-are (c .before .before .before .before .before .before .before .before)) (rw (s .pre .stops-places, c .enum-told3 .given .1) at (c .before .before .before .before .read-line .ensures .reads));
-      within = omega arith;
-    }
 
 same-length-6 : tie.Need-same-length-6
 same-length-6 c = search needs
@@ -131,16 +135,17 @@ same-length-6 c = search needs
 same-length-7 : tie.Need-same-length-7
 same-length-7 c = search needs
 
-same-length-8 : tie.Need-same-length-8
-same-length-8 c = search needs
-
-returns-5 : tie.Need-returns-5
-returns-5 c =
-    let h = c .before .before .before .before .before .before .before .before .before .before .before .before .before .before .before .before .before .before .before .before in
+returns-4 : tie.Need-returns-4
+returns-4 c =
+    let s = c .before .before .before .before .before .before .before .before .before .before .before .before .before .before .before .before .before .before .before .before .before .before .before .before .before .before .before .before .before .before in
+    let h = c .before .before .before .before .before .before .before .before .before .before .before .before .before .before .before .before .before .before .before .before .before in
     record {
-      reads = more-left (c .before .before .before .before .before .before .before .before .before .before .before .before .before .before .before .before .before .before .before .before .before .before .before .before .before .before .before .before .args .text .now) (h .before .before .before .if1 .left) (header-is h) (tables-are (c .before .before .before .before .before .before .before .before .before .before)) (c .before .before .count .given .0 .1 .0) (round-is (c .before .before)) (c .if2 .taken);
+      reads = round-missing (s .args .text .now) (h .before .before .before .if1 .left) (header-is h) (tables-are (c .before .before .before .before .before .before .before .before)) (rw (s .pre .stops-places, c .enum-told3 .given .1) at (c .before .before .before .before .read-line .ensures .reads));
       within = omega arith;
     }
+
+same-length-8 : tie.Need-same-length-8
+same-length-8 c = search needs
 
 same-length-9 : tie.Need-same-length-9
 same-length-9 c = search needs
@@ -151,17 +156,38 @@ same-length-10 c = search needs
 same-length-11 : tie.Need-same-length-11
 same-length-11 c = search needs
 
+returns-5 : tie.Need-returns-5
+returns-5 c =
+    let h = c .before .before .before .before .before .before .before .before .before .before .before .before .before .before .before .before .before .before .before .before .before .before .before in
+    record {
+      reads = more-left (c .before .before .before .before .before .before .before .before .before .before .before .before .before .before .before .before .before .before .before .before .before .before .before .before .before .before .before .before .before .before .before .before .args .text .now) (h .before .before .before .if1 .left) (header-is h) (tables-are (c .before .before .before .before .before .before .before .before .before .before)) (c .before .before .count .given .0 .1 .0) (round-is (c .before .before)) (c .if2 .taken);
+      within = omega arith;
+    }
+
+same-length-12 : tie.Need-same-length-12
+same-length-12 c = search needs
+
+same-length-13 : tie.Need-same-length-13
+same-length-13 c = search needs
+
+same-length-14 : tie.Need-same-length-14
+same-length-14 c = search needs
+
+same-length-15 : tie.Need-same-length-15
+same-length-15 c = search needs
+
 returns-6 : tie.Need-returns-6
 returns-6 c =
-    let s = c .before .before .before .before .before .before .before .before .before .before .before .before .before .before .before .before .before .before .before .before .before .before .before .before .before .before .before .before in
-    let h = c .before .before .before .before .before .before .before .before .before .before .before .before .before .before .before .before .before .before .before .before in
+    let s = c .before .before .before .before .before .before .before .before .before .before .before .before .before .before .before .before .before .before .before .before .before .before .before .before .before .before .before .before .before .before .before .before in
+    let h = c .before .before .before .before .before .before .before .before .before .before .before .before .before .before .before .before .before .before .before .before .before .before .before in
     let n = h .header .given .0 .0 .locations in
-    let read = c .before .before .before .before .before .before .before .before .before .before .before .before .before .before .before .before .read-tables in
+    let read = c .before .before .before .before .before .before .before .before .before .before .before .before .before .before .before .before .before .before .read-tables in
     record {
       reads =
           rw (
             front-part (n * n) (s .args .legs .now) (read .last .1 .1 .1 .0) (cells h) (read .kept .1 .1 .1 .0),
             front-part n (s .args .latest .now) (read .last .1 .1 .1 .1 .0) (omega (arith, few h)) (read .kept .1 .1 .1 .1 .0),
+            front-part n (s .args .service .now) (read .last .1 .1 .1 .1 .1 .0) (omega (arith, few h)) (read .kept .1 .1 .1 .1 .1 .0),
           )
           (question-read (s .args .text .now) (h .before .before .before .if1 .left) (header-is h) (tables-are (c .before .before .before .before .before .before .before .before .before .before)) (c .before .before .count .given .0 .1 .0) (round-is (c .before .before)) (c .if2 .left));
       within = rw (c .before .before .count .given .1) at (c .before .before .before .before .before .before .read-line .ensures .within);
@@ -181,25 +207,31 @@ read-question-spec =
     slice-aggregate-read-tables
     slice-relend-prefix-read-tables-2
     slice-aggregate-read-tables-2
+    slice-relend-prefix-read-tables-3
+    slice-aggregate-read-tables-3
     read-tables-requires
     enum-known-round
     enum-told-2
     same-length
     same-length-2
+    same-length-3
     returns-3
     slice-aggregate-read-line
     read-line-requires
     enum-known-count
     enum-told-3
-    same-length-3
     same-length-4
     same-length-5
-    returns-4
     same-length-6
     same-length-7
+    returns-4
     same-length-8
-    returns-5
     same-length-9
     same-length-10
     same-length-11
+    returns-5
+    same-length-12
+    same-length-13
+    same-length-14
+    same-length-15
     returns-6)

@@ -75,7 +75,9 @@ struct Bench {
 struct Best {
     rust: f64,
     new: f64,
+    /// None also where the two reply otherwise, since their times are of different work: an archive from before service times knows nothing of them.
     old: Option<f64>,
+    apart: bool,
 }
 
 impl Best {
@@ -89,6 +91,8 @@ impl Best {
         let mut cells = format!("{:.2} | {:.2} | {to_rust:.3}", self.rust, self.new);
         if let Some((old, ratio)) = self.old.zip(to_old) {
             cells += &format!(" | {old:.2} | {ratio:.3}");
+        } else if self.apart {
+            cells += " | | other reply";
         }
         cells
     }
@@ -215,12 +219,18 @@ impl Bench {
             round += 1;
         }
         let (first, last) = (&sides[0], &sides[sides.len() - 1]);
-        if first.reply != last.reply {
+        let apart = first.reply != last.reply;
+        if apart {
             self.apart.push(String::from(name));
         }
         let (old, new) = (first.best, last.best);
-        let old = (sides.len() > 1).then_some(old);
-        Ok(Best { rust, new, old })
+        let old = (sides.len() > 1 && !apart).then_some(old);
+        Ok(Best {
+            rust,
+            new,
+            old,
+            apart,
+        })
     }
 }
 

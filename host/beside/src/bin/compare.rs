@@ -110,7 +110,7 @@ fn main() -> ExitCode {
     };
     println!("seed {}, {} cases", settings.seed, settings.cases);
     if let Some(fault) = checks::fault() {
-        println!("the Rust does not give what document 01 says: {fault}");
+        println!("the Rust does not give what the documents say: {fault}");
         return ExitCode::FAILURE;
     }
     let mut tallies = Tallies {

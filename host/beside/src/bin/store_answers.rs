@@ -24,7 +24,7 @@ const PLACE: u64 = 99;
 
 fn main() -> ExitCode {
     if let Some(fault) = checks::fault() {
-        eprintln!("the Rust does not give what document 01 says: {fault}");
+        eprintln!("the Rust does not give what the documents say: {fault}");
         return ExitCode::FAILURE;
     }
     match std::env::args().nth(1).as_deref() {
@@ -54,14 +54,17 @@ fn refused_searches() {
         k: 3,
         ..polishing(1, 5)
     };
-    let (mut k, mut locations, mut leg, mut depot, mut room) =
-        (asked(), asked(), asked(), asked(), asked());
+    let (mut k, mut locations, mut leg, mut service, mut depot, mut room) =
+        (asked(), asked(), asked(), asked(), asked(), asked());
     k.k = 6;
     locations.tables.locations = 9;
     leg.tables.legs[0] = 1_000_001;
+    // Before 4, which it would be too.
+    service.tables.service[0] = 1_000_001;
+    service.depot = 10;
     depot.depot = 10;
     room.room = 4;
-    for case in [k, locations, leg, depot, room] {
+    for case in [k, locations, leg, service, depot, room] {
         say_polished(&case);
     }
     ran(1, 8);
@@ -105,11 +108,17 @@ fn cuts_of(seed: u16) -> usize {
     usize::from(2 + seed % 4)
 }
 
+/// The most seconds at a stop: none for every other four seeds.
+fn service_of(seed: u16) -> u16 {
+    seed / 4 % 2 * 40
+}
+
 fn tables(seed: u16) -> Tables {
     Tables {
         locations: LOCATIONS,
         legs: filled(seed, 99, LOCATIONS * LOCATIONS),
         latest: filled(seed, 799, LOCATIONS),
+        service: filled(seed, service_of(seed), LOCATIONS),
     }
 }
 
@@ -133,6 +142,7 @@ fn seen(reply: &Reply, lent: usize, written: usize, places: usize, before: u64) 
 fn polishing(seed: u16, stops: usize) -> polish::Case {
     let mut tables = tables(seed);
     tables.legs[0] = 0;
+    tables.service[0] = u32::from(service_of(seed));
     polish::Case {
         k: cuts_of(seed),
         allowance: allowance_of(seed),

@@ -1,6 +1,6 @@
 //! One listing of nearby cuts: what is handed in, and what document 01 refuses of it.
 
-use crate::rules::{bad_k, lowest, too_many_stops, LONGEST_PIECE, MOST_NEIGHBOURS};
+use crate::rules::{bad_k, first_refusal, too_many_stops, LONGEST_PIECE, MOST_NEIGHBOURS};
 use std::fmt::{Display, Formatter, Result as Written};
 
 pub const RESULT_PLACES: usize = 2;
@@ -19,9 +19,9 @@ pub struct Case {
 }
 
 impl Case {
-    /// The lowest number of "When it says no" that applies, 0 if none does.
+    /// The first number of the stated order that applies, 0 if none does.
     pub fn refusal(&self) -> u32 {
-        lowest(&[
+        first_refusal(&[
             (1, bad_k(self.k)),
             (5, too_many_stops(self.n)),
             (9, self.bad_listing()),

@@ -1,6 +1,6 @@
-//! One call of the run: what is handed in, and what document 01 refuses of it.
+//! One call of the run: what is handed in, and what is refused of it.
 
-use crate::rules::{bad_k, lowest, too_many_stops, MOST_ROUNDS};
+use crate::rules::{bad_k, first_refusal, too_many_stops, MOST_ROUNDS};
 use crate::tables::{listed, Tables};
 use std::fmt::{Display, Formatter, Result as Written};
 
@@ -54,13 +54,14 @@ impl Case {
         rounds
     }
 
-    /// The lowest number of "When it says no" that applies, 0 if none does.
+    /// The first number of the stated order that applies, 0 if none does.
     pub fn refusal(&self) -> u32 {
-        let [size, leg] = self.tables.rules();
-        lowest(&[
+        let [size, leg, service] = self.tables.rules();
+        first_refusal(&[
             (1, bad_k(self.k)),
             size,
             leg,
+            service,
             (4, self.unknown_place()),
             (5, self.bad_rounds()),
             (21, self.room < self.lengths.len() * NUMBERS_A_ROUND),

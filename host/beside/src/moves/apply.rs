@@ -2,7 +2,7 @@
 
 use super::case::Cutting;
 use crate::lent::{bits, filled_u32, Lent};
-use crate::rules::{lowest, too_many_stops};
+use crate::rules::{first_refusal, too_many_stops};
 use crate::tables::listed;
 use crate::trial::{Reply, Trial};
 use crate::{ffi, oracle};
@@ -21,7 +21,7 @@ pub struct Apply {
 impl Apply {
     pub fn refusal(&self) -> u32 {
         let n = self.route.len();
-        lowest(&[
+        first_refusal(&[
             (1, self.cutting.bad_k()),
             (5, too_many_stops(n)),
             (6, self.cutting.bad_pattern()),

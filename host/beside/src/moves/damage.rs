@@ -8,7 +8,7 @@ use crate::random::Random;
 use crate::rules::MOST_STOPS;
 use crate::trial::{damaged, Drawn};
 
-/// The refusal numbers of apply, highest first.
+/// The refusal numbers of apply, the last of the stated order first.
 const APPLY: [u32; 6] = [21, 8, 7, 6, 5, 1];
 pub const APPLY_SETS: u64 = 1 << APPLY.len();
 

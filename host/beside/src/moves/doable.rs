@@ -2,7 +2,7 @@
 
 use super::case::Cutting;
 use crate::lent::{filled, Lent};
-use crate::rules::{lowest, too_many_stops};
+use crate::rules::{first_refusal, too_many_stops};
 use crate::trial::{put, Reply, Trial};
 use crate::{ffi, oracle};
 use std::fmt::{Display, Formatter, Result as Written};
@@ -17,7 +17,7 @@ pub struct Doable {
 
 impl Doable {
     pub fn refusal(&self) -> u32 {
-        lowest(&[
+        first_refusal(&[
             (1, self.cutting.bad_k()),
             (5, too_many_stops(self.n)),
             (6, self.cutting.bad_pattern()),

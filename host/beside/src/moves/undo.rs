@@ -2,7 +2,7 @@
 
 use crate::lent::{bits, Lent};
 use crate::random::Random;
-use crate::rules::{lowest, too_many_stops};
+use crate::rules::{first_refusal, too_many_stops};
 use crate::tables::listed;
 use crate::trial::{Drawn, Reply, Trial, Visit};
 use crate::{ffi, oracle};
@@ -15,7 +15,7 @@ pub struct Undo {
 
 impl Undo {
     fn refusal(&self) -> u32 {
-        lowest(&[
+        first_refusal(&[
             (5, too_many_stops(self.route.len())),
             (22, self.journal.len() != self.route.len()),
         ])

@@ -8,7 +8,7 @@ use crate::random::Random;
 use crate::rules::{LONGEST_PIECE, MOST_NEIGHBOURS, MOST_STOPS};
 use crate::trial::{damaged, Drawn};
 
-/// The refusal numbers of the listing, highest first.
+/// The refusal numbers of the listing, the last of the stated order first.
 const NUMBERS: [u32; 4] = [21, 9, 5, 1];
 
 pub const SETS: u64 = 1 << NUMBERS.len();

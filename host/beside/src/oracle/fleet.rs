@@ -1,4 +1,4 @@
-//! Document 01's stand-ins over the lent tables and rounds.
+//! Document 01's stand-ins over the lent tables and rounds, with document 02's deadline rule.
 
 use super::list_k_opt::ListKOptAccess;
 use crate::domain::PlanningSolution;
@@ -72,7 +72,8 @@ impl ListKOptAccess<Fleet<'_>> for Access {
         i64::from(fleet.tables.leg(from, to))
     }
 
-    /// A stop is late if the legs from the depot up to it exceed its latest.
+    /// A stop is late if the legs from the depot up to it plus the service of the stops before it exceed its latest. Its own service does
+    /// not count, nor the depot's at the start; each visit counts.
     #[inline]
     fn route_feasible(&self, fleet: &Fleet, entity_index: usize, route: &[usize]) -> bool {
         let mut place = fleet.depots[entity_index] as usize;
@@ -82,6 +83,7 @@ impl ListKOptAccess<Fleet<'_>> for Access {
             if seconds > u64::from(fleet.tables.latest[stop]) {
                 return false;
             }
+            seconds += u64::from(fleet.tables.service[stop]);
             place = stop;
         }
         true

@@ -1,4 +1,4 @@
-//! The unchanged Rust, called on cases. A case must be one that document 01 does not refuse.
+//! The unchanged Rust, called on cases. A case must be one that is not refused.
 
 mod fleet;
 mod list_k_opt;

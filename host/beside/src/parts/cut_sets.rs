@@ -5,7 +5,7 @@ use crate::lent::{bits, filled, Lent};
 use crate::moves::generate::{random_cuts, random_length};
 use crate::oracle::seen;
 use crate::random::Random;
-use crate::rules::{bad_cuts, bad_k, lowest, too_many_stops, MOST_STOPS};
+use crate::rules::{bad_cuts, bad_k, first_refusal, too_many_stops, MOST_STOPS};
 use crate::tables::listed;
 use crate::trial::{damaged, put, Drawn, Reply, Trial, Visit, NO_ANSWER};
 use crate::{draw, ffi};
@@ -23,7 +23,7 @@ struct Step {
 
 impl Step {
     fn refusal(&self) -> u32 {
-        lowest(&[
+        first_refusal(&[
             (1, bad_k(self.k)),
             (5, too_many_stops(self.n)),
             (7, bad_cuts(self.k, self.n, &self.cuts)),

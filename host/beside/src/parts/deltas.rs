@@ -10,7 +10,7 @@ use crate::lent::{bits, Lent};
 use crate::moves::generate::random_cuts;
 use crate::oracle::{moves, seen};
 use crate::random::Random;
-use crate::rules::{bad_cuts, bad_k, bad_pattern, lowest, pattern_count};
+use crate::rules::{bad_cuts, bad_k, bad_pattern, first_refusal, pattern_count};
 use crate::tables::{listed, Tables};
 use crate::trial::{damaged, Drawn, Reply, Trial, Visit, NO_ANSWER};
 use std::fmt::{Display, Formatter, Result as Written};
@@ -27,7 +27,7 @@ struct Delta {
 
 impl Delta {
     fn refusal(&self) -> u32 {
-        lowest(&[
+        first_refusal(&[
             (1, bad_k(self.k)),
             (2, self.route.tables.bad_legs_size()),
             (3, self.route.tables.bad_leg()),

@@ -1,11 +1,11 @@
-//! The deadline check, by document 01's own words. Any late position is right.
+//! The deadline check, by the documents' own words. Any late position is right.
 
 use super::route::{damage_route, of_stops, random_route, Route};
-use crate::damage::sizes;
+use crate::damage::{service, sizes};
 use crate::ffi;
 use crate::lent::{filled, Lent};
 use crate::random::Random;
-use crate::rules::{lowest, LONGEST_LEG, MOST_STOPS};
+use crate::rules::{first_refusal, LONGEST_LEG, LONGEST_SERVICE, MOST_STOPS};
 use crate::tables::Tables;
 use crate::trial::{damaged, put, Drawn, Reply, Trial, Visit};
 use std::fmt::{Display, Formatter, Result as Written};
@@ -17,10 +17,11 @@ struct Feasible {
 
 impl Feasible {
     fn refusal(&self) -> u32 {
-        let [size, leg] = self.route.tables.rules();
-        lowest(&[
+        let [size, leg, service] = self.route.tables.rules();
+        first_refusal(&[
             size,
             leg,
+            service,
             (4, self.route.unknown()),
             (5, self.route.too_long()),
             (21, self.room < 1),
@@ -48,18 +49,21 @@ impl Trial for Feasible {
         let room = filled(self.room);
         let mut legs = Lent::new("legs", &self.route.tables.legs);
         let mut latest = Lent::new("deadlines", &self.route.tables.latest);
+        let mut service = Lent::new("service", &self.route.tables.service);
         let mut stops = Lent::new("route", &self.route.stops);
         let mut result = Lent::new("result", &room);
         let code = ffi::route_feasible(
             self.route.tables.locations,
             legs.slice(),
             latest.slice(),
+            service.slice(),
             self.route.depot,
             stops.slice(),
             result.slice(),
         );
         legs.kept()?;
         latest.kept()?;
+        service.kept()?;
         stops.kept()?;
         Ok(Reply::new(code, [result.written()?]))
     }
@@ -109,28 +113,38 @@ pub fn each_bound(random: &mut Random, visit: Visit) {
         let route = of_stops(random, stops);
         visit(Box::new(Feasible { route, room: 1 }));
     }
-    let whole = MOST_STOPS as u32 * LONGEST_LEG;
-    for due in [whole, whole - 1] {
-        let mut tables = Tables::of_legs(2, vec![LONGEST_LEG; 4]);
-        tables.latest[1] = due;
-        let mut stops = vec![0; MOST_STOPS];
-        stops[MOST_STOPS - 1] = 1;
-        let route = Route {
-            tables,
-            depot: 0,
-            stops,
-        };
-        visit(Box::new(Feasible { route, room: 1 }));
+    for service in [0, LONGEST_SERVICE] {
+        let reached = MOST_STOPS as u32 * LONGEST_LEG + (MOST_STOPS as u32 - 1) * service;
+        for due in [reached, reached - 1] {
+            visit(Box::new(longest(due, service)));
+        }
     }
 }
 
-const NUMBERS: [u32; 5] = [21, 5, 4, 3, 2];
+/// The depot as every stop but the last, each leg of the greatest length.
+fn longest(due: u32, service: u32) -> Feasible {
+    let mut tables = Tables::of_legs(2, vec![LONGEST_LEG; 4]);
+    tables.latest[1] = due;
+    tables.service = vec![service; 2];
+    let mut stops = vec![0; MOST_STOPS];
+    stops[MOST_STOPS - 1] = 1;
+    let route = Route {
+        tables,
+        depot: 0,
+        stops,
+    };
+    Feasible { route, room: 1 }
+}
+
+/// The last of the stated order first.
+const NUMBERS: [u32; 6] = [21, 5, 4, 23, 3, 2];
 pub const SETS: u64 = 1 << NUMBERS.len();
 
 pub fn draw_damaged(random: &mut Random, index: u64) -> Drawn {
     let check = random_check(random);
     damaged(check, &NUMBERS, index, |check, number| match number {
         2 => sizes(random, &mut check.route.tables),
+        23 => service(random, &mut check.route.tables),
         21 => check.room = 0,
         _ => damage_route(random, &mut check.route, number),
     })

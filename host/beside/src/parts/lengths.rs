@@ -5,7 +5,7 @@ use crate::damage::legs_size;
 use crate::ffi;
 use crate::lent::{filled, Lent};
 use crate::random::Random;
-use crate::rules::lowest;
+use crate::rules::first_refusal;
 use crate::trial::{damaged, put, Drawn, Reply, Trial};
 use std::fmt::{Display, Formatter, Result as Written};
 
@@ -16,7 +16,7 @@ struct Length {
 
 impl Length {
     fn refusal(&self) -> u32 {
-        lowest(&[
+        first_refusal(&[
             (2, self.route.tables.bad_legs_size()),
             (3, self.route.tables.bad_leg()),
             (4, self.route.unknown()),

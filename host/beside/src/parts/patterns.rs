@@ -2,7 +2,7 @@
 
 use crate::lent::{filled, Lent};
 use crate::random::Random;
-use crate::rules::{bad_k, bad_pattern, lowest, pattern_count};
+use crate::rules::{bad_k, bad_pattern, first_refusal, pattern_count};
 use crate::trial::{put, Reply, Trial, Visit};
 use crate::{ffi, oracle};
 use std::fmt::{Display, Formatter, Result as Written};
@@ -15,7 +15,7 @@ struct PatternAt {
 
 impl PatternAt {
     fn refusal(&self) -> u32 {
-        lowest(&[
+        first_refusal(&[
             (1, bad_k(self.k)),
             (6, bad_pattern(self.k, self.pattern)),
             (21, self.room < self.k.saturating_add(2)),

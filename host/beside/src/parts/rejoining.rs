@@ -8,7 +8,7 @@ use crate::moves::generate::{random_apply, random_cuts};
 use crate::oracle::{moves, seen};
 use crate::random::Random;
 use crate::rules::{
-    bad_cuts, bad_k, bad_pattern, lowest, pattern_count, too_many_stops, MOST_STOPS,
+    bad_cuts, bad_k, bad_pattern, first_refusal, pattern_count, too_many_stops, MOST_STOPS,
 };
 use crate::tables::listed;
 use crate::trial::{damaged, Drawn, Reply, Trial, Visit, NO_ANSWER};
@@ -27,7 +27,7 @@ struct Rejoin {
 impl Rejoin {
     fn refusal(&self) -> u32 {
         let n = self.route.len();
-        lowest(&[
+        first_refusal(&[
             (1, bad_k(self.k)),
             (5, too_many_stops(n)),
             (6, bad_pattern(self.k, self.pattern)),

@@ -1,7 +1,7 @@
 //! A route with its tables, as length, delta and the deadline check take it.
 
 use crate::damage;
-use crate::draw::{order, set_deadlines, some_depot, some_legs};
+use crate::draw::{order, set_times, some_depot, some_legs};
 use crate::random::Random;
 use crate::rules::{too_many_stops, MOST_STOPS};
 use crate::tables::{listed, Tables};
@@ -54,7 +54,7 @@ pub fn of_stops(random: &mut Random, stops: usize) -> Route {
     let mut tables = Tables::of_legs(locations, some_legs(random, locations));
     let depot = some_depot(random, locations);
     let stops = order(random, locations, depot, stops);
-    set_deadlines(random, &mut tables, depot, &stops);
+    set_times(random, &mut tables, depot, &stops);
     Route {
         tables,
         depot,

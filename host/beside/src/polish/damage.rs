@@ -1,4 +1,4 @@
-//! Cases that document 01 refuses: a good one, damaged in one or more ways.
+//! Cases that are refused: a good one, damaged in one or more ways.
 
 use super::generate::random_case;
 use crate::cases::polish::{Case, RESULT_PLACES};
@@ -7,8 +7,8 @@ use crate::random::Random;
 use crate::rules::MOST_STOPS;
 use crate::trial::{damaged, Drawn};
 
-/// The refusal numbers of polishing, highest first.
-const NUMBERS: [u32; 6] = [21, 5, 4, 3, 2, 1];
+/// The refusal numbers of polishing, the last of the stated order first.
+const NUMBERS: [u32; 7] = [21, 5, 4, 23, 3, 2, 1];
 
 /// How many sets of damages there are, the empty one included.
 pub const SETS: u64 = 1 << NUMBERS.len();
@@ -26,6 +26,7 @@ pub fn damage(random: &mut Random, case: &mut Case, number: u32) {
         1 => case.k = damage::wrong_k(random),
         2 => damage::sizes(random, &mut case.tables),
         3 => damage::a_leg(random, &mut case.tables),
+        23 => damage::service(random, &mut case.tables),
         4 => damage_stops(random, case),
         5 => {
             let length = MOST_STOPS + random.pick([1, 1, 2, 88, 512]);

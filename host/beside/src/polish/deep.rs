@@ -73,11 +73,15 @@ fn good(random: &mut Random, k: usize, stops: usize, legs: Vec<u32>) -> Case {
         locations,
         &case.tables.legs,
         &case.tables.latest,
+        &case.tables.service,
         case.depot,
         &mut case.route,
         &mut [0; 5],
     );
     assert_eq!(refused, 0);
+    if random.one_in(2) {
+        measured::set_service(random, &mut case);
+    }
     if random.one_in(2) {
         measured::set_deadlines(random, &mut case);
     }

@@ -1,7 +1,7 @@
-//! Random cases that document 01 does not refuse.
+//! Random cases that are not refused.
 
 use crate::cases::polish::Case;
-use crate::draw::{leg_table, order, set_deadlines, some_depot};
+use crate::draw::{leg_table, order, set_times, some_depot};
 use crate::oracle::polish::polish;
 use crate::random::Random;
 use crate::rules::{MOST_LOCATIONS, MOST_STOPS};
@@ -24,7 +24,7 @@ pub fn random_case(random: &mut Random) -> Case {
         5
     };
     let route = order(random, locations, depot, stops);
-    set_deadlines(random, &mut tables, depot, &route);
+    set_times(random, &mut tables, depot, &route);
     let mut case = Case {
         k,
         allowance: 0,

@@ -7,7 +7,8 @@ use crate::tables::Tables;
 
 pub const CANDIDATES: u64 = 2_000_000;
 pub const SIZES: [usize; 4] = [20, 64, 128, 512];
-pub const KINDS: [&str; 3] = ["quiet", "busy", "deadlines"];
+/// *service* has deadlines too, and a time spent at each stop; the others have none.
+pub const KINDS: [&str; 4] = ["quiet", "busy", "deadlines", "service"];
 
 /// As *deadlines*, but one stop is late when the route is handed in: by a second, or in every order.
 pub const LATE_KINDS: [&str; 4] = ["late", "never first", "never middle", "never last"];
@@ -46,6 +47,9 @@ pub fn case(kind: &str, k: usize, stops: usize) -> Case {
         route: (1..locations as u32).collect(),
         room: 5,
     };
+    if kind == "service" {
+        set_service(&mut random, &mut case);
+    }
     if kind != "quiet" && kind != "busy" {
         set_deadlines(&mut random, &mut case);
     }
@@ -74,6 +78,13 @@ fn busy(random: &mut Random, locations: usize) -> Vec<u32> {
     (0..locations * locations)
         .map(|_| 1 + random.below(1000) as u32)
         .collect()
+}
+
+/// At each location up to a minute is spent, so that some orders are on time and some are not.
+pub fn set_service(random: &mut Random, case: &mut Case) {
+    for seconds in &mut case.tables.service {
+        *seconds = random.below(60) as u32;
+    }
 }
 
 /// Each stop is due some seconds, up to one long leg, after the given order reaches it.

@@ -1,8 +1,9 @@
 //! Cases in which one route alone is on time: the one that a chosen pattern makes of the route handed in. Its legs take one second,
-//! all others more, and each stop is due when it is reached. The count of candidates then shows where the scan found it, which
-//! random cases seldom show of the later patterns.
+//! all others more, and each stop is due when it is reached, after some service times or none. The count of candidates then shows where the
+//! scan found it, which random cases seldom show of the later patterns.
 
 use crate::cases::polish::Case;
+use crate::draw::capped;
 use crate::heuristic::r#move::k_opt_reconnection::{enumerate_reconnections, KOptReconnection};
 use crate::random::Random;
 use crate::tables::Tables;
@@ -61,22 +62,24 @@ fn on_time_only(random: &mut Random, k: usize, route: Vec<u32>, target: &[u32]) 
     let mut legs: Vec<u32> = (0..locations * locations)
         .map(|_| 2 + random.below(9) as u32)
         .collect();
-    let mut latest = vec![u32::MAX; locations];
     let mut place = 0;
-    for (due, &stop) in (1..).zip(target) {
+    for &stop in target {
         legs[place * locations + stop as usize] = 1;
-        latest[stop as usize] = due;
         place = stop as usize;
     }
     legs[place * locations] = 1;
+    let mut tables = Tables::of_legs(locations, legs);
+    let longest = random.pick([0, 0, 2, 30]);
+    for seconds in &mut tables.service {
+        *seconds = random.below(longest + 1) as u32;
+    }
+    for (&stop, seconds) in target.iter().zip(tables.arrivals(0, target)) {
+        tables.latest[stop as usize] = capped(seconds);
+    }
     Case {
         k,
         allowance: u64::MAX,
-        tables: Tables {
-            locations,
-            legs,
-            latest,
-        },
+        tables,
         depot: 0,
         route,
         room: 5,

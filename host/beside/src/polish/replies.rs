@@ -29,6 +29,7 @@ impl Trial for Case {
         let room = filled(self.room);
         let mut legs = Lent::new("legs", &self.tables.legs);
         let mut latest = Lent::new("deadlines", &self.tables.latest);
+        let mut service = Lent::new("service", &self.tables.service);
         let mut route = Lent::new("route", &self.route);
         let mut result = Lent::new("result", &room);
         let code = ffi::polish_route(
@@ -37,12 +38,14 @@ impl Trial for Case {
             self.tables.locations,
             legs.slice(),
             latest.slice(),
+            service.slice(),
             self.depot,
             route.slice(),
             result.slice(),
         );
         legs.kept()?;
         latest.kept()?;
+        service.kept()?;
         Ok(Reply::new(code, [route.written()?, result.written()?]))
     }
 

@@ -2,7 +2,7 @@
 //! a stretch at once must be spent inside it at exactly the allowance.
 
 use crate::cases::polish::Case;
-use crate::draw::{leg_table, order, set_deadlines};
+use crate::draw::{leg_table, order, set_times};
 use crate::oracle::polish::polish;
 use crate::random::Random;
 use crate::tables::Tables;
@@ -29,7 +29,7 @@ pub fn route_of(random: &mut Random, k: usize, stops: usize) -> Case {
     let locations = stops + 1;
     let mut tables = Tables::of_legs(locations, leg_table(random, locations));
     let route = order(random, locations, 0, stops);
-    set_deadlines(random, &mut tables, 0, &route);
+    set_times(random, &mut tables, 0, &route);
     Case {
         k,
         allowance: 0,

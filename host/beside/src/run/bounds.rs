@@ -1,9 +1,9 @@
 //! Runs at the bounds of document 01, and rounds of every length near the ones that matter.
 
 use crate::cases::run::{Case, NUMBERS_A_ROUND};
-use crate::draw::leg_table;
+use crate::draw::{capped, leg_table};
 use crate::random::Random;
-use crate::rules::{LONGEST_LEG, MOST_LOCATIONS, MOST_ROUNDS, MOST_STOPS};
+use crate::rules::{LONGEST_LEG, LONGEST_SERVICE, MOST_LOCATIONS, MOST_ROUNDS, MOST_STOPS};
 use crate::tables::Tables;
 use crate::trial::Visit;
 
@@ -34,6 +34,7 @@ pub fn each(random: &mut Random, visit: Visit) {
         }
         visit(Box::new(longest(k)));
         visit(Box::new(fullest(random, k)));
+        visit(Box::new(served(fullest(random, k))));
     }
     visit(Box::new(finished_at_the_bound()));
 }
@@ -87,6 +88,17 @@ fn fullest(random: &mut Random, k: usize) -> Case {
     let round: Vec<u32> = (0..MOST_STOPS as u32).rev().collect();
     let mut case = Case::of_rounds(k, tables, &vec![(1000, round); MOST_ROUNDS]);
     case.allowance = if k == 2 { 200_000 } else { 60 };
+    case
+}
+
+/// The longest service times, and each stop due exactly when the first round reaches it.
+fn served(mut case: Case) -> Case {
+    case.tables.service = vec![LONGEST_SERVICE; MOST_LOCATIONS];
+    let round = case.rounds()[0].to_vec();
+    let arrivals = case.tables.arrivals(case.depots[0], &round);
+    for (stop, seconds) in round.into_iter().zip(arrivals) {
+        case.tables.latest[stop as usize] = capped(seconds);
+    }
     case
 }
 

@@ -1,4 +1,4 @@
-//! Runs that document 01 refuses: a good one, damaged in one or more ways.
+//! Runs that are refused: a good one, damaged in one or more ways.
 
 use super::generate::random_run;
 use crate::cases::run::{Case, NUMBERS_A_ROUND};
@@ -7,8 +7,8 @@ use crate::random::Random;
 use crate::rules::{MOST_ROUNDS, MOST_STOPS};
 use crate::trial::{damaged, Drawn};
 
-/// The refusal numbers of the run, highest first.
-const NUMBERS: [u32; 6] = [21, 5, 4, 3, 2, 1];
+/// The refusal numbers of the run, the last of the stated order first.
+const NUMBERS: [u32; 7] = [21, 5, 4, 23, 3, 2, 1];
 
 pub const SETS: u64 = 1 << NUMBERS.len();
 
@@ -35,6 +35,7 @@ fn damage(random: &mut Random, case: &mut Case, number: u32) {
         1 => case.k = damage::wrong_k(random),
         2 => damage::sizes(random, &mut case.tables),
         3 => damage::a_leg(random, &mut case.tables),
+        23 => damage::service(random, &mut case.tables),
         4 => damage_places(random, case),
         5 => damage_rounds(random, case),
         _ => case.room = random.index(case.lengths.len() * NUMBERS_A_ROUND),

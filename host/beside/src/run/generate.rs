@@ -1,7 +1,7 @@
-//! Random runs that document 01 does not refuse.
+//! Random runs that are not refused.
 
 use crate::cases::run::{Case, NUMBERS_A_ROUND};
-use crate::draw::{order, set_deadlines, some_depot, some_legs};
+use crate::draw::{order, set_times, some_depot, some_legs};
 use crate::oracle::run::{run, run_quietly};
 use crate::random::Random;
 use crate::rules::{MOST_ROUNDS, MOST_STOPS};
@@ -72,7 +72,7 @@ fn of_lengths(random: &mut Random, k: usize, locations: usize, lengths: &[usize]
     }
     if !rounds.is_empty() && random.one_in(2) {
         let (depot, route) = &rounds[random.index(rounds.len())];
-        set_deadlines(random, &mut tables, *depot, route);
+        set_times(random, &mut tables, *depot, route);
     }
     let mut case = Case::of_rounds(k, tables, &rounds);
     for pin in &mut case.pins {

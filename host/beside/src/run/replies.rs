@@ -21,6 +21,7 @@ impl Trial for Case {
         let room = filled(self.room);
         let mut legs = Lent::new("legs", &self.tables.legs);
         let mut latest = Lent::new("deadlines", &self.tables.latest);
+        let mut service = Lent::new("service", &self.tables.service);
         let mut stops = Lent::new("stops", &self.stops);
         let mut lengths = Lent::new("lengths", &self.lengths);
         let mut depots = Lent::new("depots", &self.depots);
@@ -32,6 +33,7 @@ impl Trial for Case {
             self.tables.locations,
             legs.slice(),
             latest.slice(),
+            service.slice(),
             stops.slice(),
             lengths.slice(),
             depots.slice(),
@@ -40,6 +42,7 @@ impl Trial for Case {
         );
         legs.kept()?;
         latest.kept()?;
+        service.kept()?;
         lengths.kept()?;
         depots.kept()?;
         pins.kept()?;

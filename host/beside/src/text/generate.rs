@@ -2,7 +2,8 @@
 
 use super::case::Text;
 use crate::cases::polish::Case;
-use crate::polish::bounds::text_case;
+use crate::damage::a_service_time;
+use crate::polish::bounds::{served_text_case, text_case};
 use crate::polish::damage::damage;
 use crate::polish::generate::random_case;
 use crate::random::Random;
@@ -13,8 +14,8 @@ pub fn draw(random: &mut Random, _index: u64) -> Drawn {
     (Box::new(Text(good(random))), None)
 }
 
-/// Refusal numbers of what a text holds, highest first.
-const NUMBERS: [u32; 4] = [5, 4, 3, 1];
+/// Refusal numbers of what a text holds, the last of the stated order first.
+const NUMBERS: [u32; 5] = [5, 4, 23, 3, 1];
 
 /// How many sets of them there are.
 pub const SETS: u64 = 1 << NUMBERS.len();
@@ -24,7 +25,11 @@ pub fn draw_refused(random: &mut Random, index: u64) -> Drawn {
     let mut case = random_case(random);
     for (bit, &number) in NUMBERS.iter().enumerate() {
         if (index >> bit) & 1 == 1 {
-            damage(random, &mut case, number);
+            match number {
+                // Another number of entries would be 10.
+                23 => a_service_time(random, &mut case.tables),
+                _ => damage(random, &mut case, number),
+            }
         }
     }
     (Box::new(Text(written(&case))), None)
@@ -42,6 +47,7 @@ pub fn written(case: &Case) -> Vec<u8> {
         locations,
         legs,
         latest,
+        service,
     } = &case.tables;
     let mut text = format!(
         "k={}\nallowance={allowance}\nlocations={locations}\ndepot={}\n",
@@ -50,7 +56,8 @@ pub fn written(case: &Case) -> Vec<u8> {
     for row in legs.chunks(*locations) {
         text += &format!("legs={}\n", listed(row));
     }
-    text += &format!("latest={}\nround={}\n", listed(latest), listed(&case.route));
+    text += &format!("latest={}\nservice={}\n", listed(latest), listed(service));
+    text += &format!("round={}\n", listed(&case.route));
     text.into_bytes()
 }
 
@@ -58,6 +65,14 @@ pub fn each_bound(random: &mut Random, visit: Visit) {
     let mut visit = |case: &Case| visit(Box::new(Text(written(case))));
     for allowance in [0, 3, 10, 11, 100, u64::MAX] {
         visit(&text_case(allowance));
+    }
+    for (latest, service) in [(11, 10), (12, 10), (9, 1_000_000), (9, 1_000_001)] {
+        visit(&served_text_case(latest, service));
+    }
+    for entries in [0, 1, 2, 4] {
+        let mut case = text_case(100);
+        case.tables.service = vec![1_000_001; entries];
+        visit(&case);
     }
     for stops in [0, 1, 511, 512, 513, 29_000] {
         visit(&stops_of_one_place(stops));

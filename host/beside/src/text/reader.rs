@@ -1,4 +1,4 @@
-//! A text's meaning, written from document 01's "Text program": a reader that takes the lines apart, over the unchanged Rust.
+//! A text's meaning, written from document 01's "Text program" and the line that document 02 adds: a reader that takes the lines apart, over the unchanged Rust.
 
 use crate::cases::polish::{Case, RESULT_PLACES};
 use crate::oracle::polish::{polish, Counts};
@@ -54,6 +54,7 @@ fn read(text: &[u8]) -> Option<Case> {
         legs.extend(row(value(lines.next(), "legs")?, locations)?);
     }
     let latest = row(value(lines.next(), "latest")?, locations)?;
+    let service = row(value(lines.next(), "service")?, locations)?;
     let route = match value(lines.next(), "round")? {
         "" => Vec::new(),
         words => numbers(words)?,
@@ -68,6 +69,7 @@ fn read(text: &[u8]) -> Option<Case> {
             locations,
             legs,
             latest,
+            service,
         },
         depot,
         route,

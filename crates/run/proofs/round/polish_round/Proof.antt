@@ -6,7 +6,7 @@ use Rattle.run.proofs.round.polish_round.Statement.{statement}
 use Rattle.run.proofs.round.polish_round.Tie as tie
 
 abbrev lent : tie.Start → Trip
-lent s = trip (s .args .locations) (s .args .legs .now) (s .args .latest .now) (s .args .depot)
+lent s = trip (s .args .locations) (s .args .legs .now) (s .args .latest .now) (s .args .service .now) (s .args .depot)
 
 pair-loop-requires : tie.Need-pair-loop-requires
 pair-loop-requires c κs = search needs
@@ -16,7 +16,7 @@ same-length c = search needs
 
 returns : tie.Need-returns
 returns c =
-    let s = c .before .before .before .before .before .before .before .before in
+    let s = c .before .before .before .before .before .before .before .before .before in
     by-pairs (problem (lent s)) (s .args .k) (s .args .left) (s .args .route .now) _ (c .before .before .pair-loop .result) (c .before .before .before .before .if1 .taken) (c .before .before .pair-loop .ensures)
 
 polish-route-requires : tie.Need-polish-route-requires
@@ -33,7 +33,7 @@ same-length-2 c = search needs
 
 returns-2 : tie.Need-returns-2
 returns-2 c =
-    let s = c .before .before .before .before .before .before .before .before .before .before .before in
+    let s = c .before .before .before .before .before .before .before .before .before .before .before .before in
     by-scan-finished (problem (lent s)) (s .args .k) (s .args .left) (s .args .route .now) _ (c .before .before .before .before .before .polish-route .result) _ (c .before .before .before .before .before .before .before .if1 .left) (c .before .before .before .before .before .polish-route .ensures) (c .before .counts .given .1)
 
 same-length-3 : tie.Need-same-length-3
@@ -41,7 +41,7 @@ same-length-3 c = search needs
 
 returns-3 : tie.Need-returns-3
 returns-3 c =
-    let s = c .before .before .before .before .before .before .before .before .before .before .before in
+    let s = c .before .before .before .before .before .before .before .before .before .before .before .before in
     by-scan-spent (problem (lent s)) (s .args .k) (s .args .left) (s .args .route .now) _ (c .before .before .before .before .before .polish-route .result) _ (c .before .before .before .before .before .before .before .if1 .left) (c .before .before .before .before .before .polish-route .ensures) (c .before .counts2 .given .1)
 
 pub polish-round-spec : {M : Type 1} → statement M
