@@ -11,7 +11,7 @@ use lib.Seq.{drop-at}
 use borrow.Author.Tests.{eq-eqb, ne-eqb}
 use Rattle.text_decimal.specs.Decimal.{last-digit, leading, digits}
 use Rattle.text_decimal.specs.Text.{ascii, line, Room, Put}
-use Rattle.text_printing.specs.Answer.{outcome, late-line, answer-text, Fits, Printed}
+use Rattle.text_printing.specs.Answer.{outcome, none-line, late-line, answer-text, Fits, Printed}
 use Rattle.text_printing.proofs.Lists.{line-one}
 
 abbrev pub from-round : ℕ → List ℕ → List ℕ
@@ -35,7 +35,7 @@ unfolding answer-text
 answer-lines finished examined accepted before after late route = refl
 
 -- The last line, by whether a stop is late.
-pub late-none : (late : ℕ) (route : List ℕ) → late ≡ length route → late-line late route ≡ ascii "late=none\n"
+pub late-none : (late : ℕ) (route : List ℕ) → late ≡ length route → late-line late route ≡ none-line
 unfolding late-line
 late-none late route e = rw (eq-eqb late (length route) e) refl
 
@@ -44,22 +44,22 @@ unfolding late-line
 late-some late route n = rw (ne-eqb late (length route) n) refl
 
 -- No number is spelled as the word none is.
-digits-not-none : (n : ℕ) → line (ascii "late=") (n ∷ []) ≡ ascii "late=none\n" → ⊥
+digits-not-none : (n : ℕ) → line (ascii "late=") (n ∷ []) ≡ none-line → ⊥
 unfolding digits
 digits-not-none n e =
     let front = ascii "late=" ++ leading (n / 10) in
     let back = last-digit n ∷ 10 ∷ [] in
     let parted : line (ascii "late=") (n ∷ []) ≡ front ++ back = line-one (ascii "late=") n ∙ simp append-assoc refl in
-    let whole : front ++ back ≡ ascii "late=none\n" = sym parted ∙ e in
+    let whole : front ++ back ≡ none-line = sym parted ∙ e in
     let eight : length front ≡ 8 = omega (arith, ap length whole, length-append front back) in
     let ends : back ≡ 101 ∷ 10 ∷ [] = sym (drop-at front back 8 eight) ∙ ap (λ xs. drop 8 xs) whole in
     absurd (omega (arith, ap (λ xs. getD xs 0 0) ends))
 
 -- The line says none exactly where the position is the number of stops.
-pub none-exactly : (late : ℕ) (route : List ℕ) → (late-line late route ≡ ascii "late=none\n") ↔ (late ≡ length route)
+pub none-exactly : (late : ℕ) (route : List ℕ) → (late-line late route ≡ none-line) ↔ (late ≡ length route)
 none-exactly late route = (λ e. by e (ℕ-discrete late (length route)), late-none late route)
   where
-    by : late-line late route ≡ ascii "late=none\n" → Dec (late ≡ length route) → late ≡ length route
+    by : late-line late route ≡ none-line → Dec (late ≡ length route) → late ≡ length route
     by e (yes q) = q
     by e (no n) = absurd (digits-not-none late (sym (late-some late route n) ∙ e))
 

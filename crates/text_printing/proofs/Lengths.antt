@@ -9,7 +9,7 @@ use lib.ListN.{length, getD, length-append}
 use Rattle.text_decimal.specs.Decimal.{digits}
 use Rattle.text_decimal.specs.Text.{ascii, further, listed, line}
 use Rattle.text_decimal.proofs.Digits.{digits-length}
-use Rattle.text_printing.specs.Answer.{outcome, late-line, answer-text, refusal-text}
+use Rattle.text_printing.specs.Answer.{outcome, none-line, late-line, answer-text, refusal-text}
 
 further-length : (values : List ℕ) → ((i : ℕ) → getD values i 0 < 2 ^ 32) → length (further values) ≤ 11 * length values
 unfolding further
@@ -38,7 +38,7 @@ late-length : (late : ℕ) (route : List ℕ) → late < 2 ^ 64 → length (late
 unfolding late-line
 late-length late route h = by (eqb late (length route))
   where
-    by : (none : Bool) → length (cond none (ascii "late=none\n") (line (ascii "late=") (late ∷ []))) ≤ 26
+    by : (none : Bool) → length (cond none none-line (line (ascii "late=") (late ∷ []))) ≤ 26
     by true = omega arith
     by false = omega (arith, value-length (ascii "late=") late h)
 

@@ -12,9 +12,12 @@ abbrev pub outcome : Bool → List ℕ
 outcome true = ascii "answer=finished\n"
 outcome false = ascii "answer=spent\n"
 
+abbrev pub none-line : List ℕ
+none-line = ascii "late=none\n"
+
 -- "A last line `late=` with the position, from 0, in the round it prints, or `late=none`": none exactly where late is the number of the round's stops.
 unfoldable pub late-line : (late : ℕ) → List ℕ → List ℕ
-late-line late route = cond (eqb late (length route)) (ascii "late=none\n") (line (ascii "late=") (late ∷ []))
+late-line late route = cond (eqb late (length route)) none-line (line (ascii "late=") (late ∷ []))
 
 -- ".. examined, accepted, length before, length after"; then the round handed back, and its lowest late position. "An empty round is `round=`."
 unfoldable pub answer-text : Bool → (examined accepted before after late : ℕ) → List ℕ → List ℕ
