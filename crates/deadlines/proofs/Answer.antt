@@ -4,7 +4,8 @@ use mathlib.Core.Bool.{Bool, true, false}
 use mathlib.Core.List.{List}
 use Prim.Native.Nat.{ℕ}
 use native.Mathlib.Omega.{arith}
-use Rattle.theory.specs.Route.{Timetable, timely, Timely}
+use lib.ListN.{length}
+use Rattle.theory.specs.Route.{Timetable, timely, Timely, late-position}
 use Rattle.theory.specs.Answers.{LateAt, Checked}
 use Rattle.theory.specs.declared.Deadline.{Deadline}
 use Rattle.theory.specs.declared.Deadline.the-variants as Check
@@ -26,3 +27,10 @@ kept-told B depot r a told = sym (kept-timely B depot r (rw a at told))
 
 pub late-told : (B : Timetable) (depot : ℕ) (r : List ℕ) {answer : Deadline} {p : ℕ} → answer ≡ Check.Late p → Checked B depot r answer → false ≡ timely B depot r
 late-told B depot r a told = sym (late-untimely B depot r (rw a at told))
+
+-- Where every deadline is kept, the number of stops is the answer.
+pub none-told : (B : Timetable) (depot : ℕ) (r : List ℕ) → timely B depot r ≡ true → length r ≡ late-position B depot r
+none-told B depot r e = sym (late-position-none B depot r .1 (timely-iff B depot r .0 e))
+
+pub position-told : (B : Timetable) (depot : ℕ) (r : List ℕ) {answer : Deadline} {p : ℕ} → answer ≡ Check.Late p → Checked B depot r answer → p ≡ late-position B depot r
+position-told B depot r a told = (rw a at told) .1
