@@ -1,4 +1,5 @@
 -- `text_printing::put_late` meets its contract. Assumes nothing.
+use native.Mathlib.Omega.{arith}
 use borrow.Author.Needs.{needs}
 use Rattle.text_printing.proofs.Answer.{late-none, late-some}
 use Rattle.text_printing.proofs.put_late.Statement.{statement}
@@ -10,7 +11,7 @@ slice-aggregate-put-text c = search needs
 put-text-requires : tie.Need-put-text-requires
 put-text-requires c κs =
     let s = c .before .before .before .before .before in
-    rw (late-none (s .args .late) (s .args .route .now) (c .before .before .if1 .taken)) at (s .pre)
+    rw (late-none (s .args .late) (s .args .route .now) (omega (arith, c .before .before .if1 .taken))) at (s .pre)
 
 same-length : tie.Need-same-length
 same-length c = search needs
@@ -18,7 +19,7 @@ same-length c = search needs
 returns : tie.Need-returns
 returns c =
     let s = c .before .before .before .before .before .before .before .before in
-    rw (late-none (s .args .late) (s .args .route .now) (c .before .before .before .before .before .if1 .taken)) (c .before .before .put-text .ensures)
+    rw (late-none (s .args .late) (s .args .route .now) (omega (arith, c .before .before .before .before .before .if1 .taken))) (c .before .before .put-text .ensures)
 
 slice-aggregate-put-value : tie.Need-slice-aggregate-put-value
 slice-aggregate-put-value c = search needs
@@ -26,7 +27,7 @@ slice-aggregate-put-value c = search needs
 put-value-requires : tie.Need-put-value-requires
 put-value-requires c κs =
     let s = c .before .before .before .before .before in
-    rw (late-some (s .args .late) (s .args .route .now) (c .before .before .if1 .left)) at (s .pre)
+    rw (late-some (s .args .late) (s .args .route .now) (λ e. absurd (omega (arith, c .before .before .if1 .left)))) at (s .pre)
 
 same-length-2 : tie.Need-same-length-2
 same-length-2 c = search needs
@@ -34,7 +35,7 @@ same-length-2 c = search needs
 returns-2 : tie.Need-returns-2
 returns-2 c =
     let s = c .before .before .before .before .before .before .before .before in
-    rw (late-some (s .args .late) (s .args .route .now) (c .before .before .before .before .before .if1 .left)) (c .before .before .put-value .ensures)
+    rw (late-some (s .args .late) (s .args .route .now) (λ e. absurd (omega (arith, c .before .before .before .before .before .if1 .left)))) (c .before .before .put-value .ensures)
 
 pub put-late-spec : {M : Type 1} → statement M
 put-late-spec =
