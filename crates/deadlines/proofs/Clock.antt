@@ -1,6 +1,5 @@
 -- The clock that runs along a route: when each stop is left, and so when the next is reached.
 use mathlib.Core.Path.{_≡_, refl, sym, ap}
-use mathlib.Core.Bool.{true}
 use mathlib.Core.List.{List, [], _∷_}
 use Prim.Native.Nat.{ℕ, suc, _+_, _≤_, _<_}
 use native.Mathlib.Numerals.{add-one}
@@ -8,11 +7,12 @@ use native.Mathlib.Omega.{arith}
 use lib.ListN.{length, getD, take}
 use lib.Seq.{take-suc}
 use borrow.Author.Count.{below-more}
-use borrow.Author.Tests.{lt-ltb}
+use borrow.Author.Tests.{lt-ltb, le-ltb}
 use Rattle.theory.specs.Moves.{total}
-use Rattle.theory.specs.Route.{Timetable, path, arrival, late}
+use Rattle.theory.specs.Route.{Timetable, path, arrival, late, late-position}
 use Rattle.theory.specs.Costs.{last-of}
 use Rattle.theory.proofs.Costs.{path-append}
+use Rattle.theory.proofs.LatePosition.{late-position-only}
 use Rattle.theory.proofs.Moves.{total-append}
 use Rattle.costs.proofs.Segments.{last-snoc}
 
@@ -36,9 +36,15 @@ module _ (B : Timetable) (depot : ℕ) (route : List ℕ) (i clock previous seco
   unfolding arrival total
   left = omega (arith, reached, ap (total (B .service)) (take-suc route i 0 h), total-append (B .service) (take i route) (getD route i 0 ∷ []))
 
-  pub late-there : B .latest (getD route i 0) < clock + seconds → late B depot route i ≡ true
+  pub late-there : B .latest (getD route i 0) < clock + seconds → i ≡ late-position B depot route
   unfolding late
-  late-there too-late = lt-ltb (B .latest (getD route i 0)) (arrival B depot route i) (rw reached too-late)
+  late-there too-late =
+      late-position-only B depot route i (record {
+        least = omega arith;
+        most = omega arith;
+        before = λ j l k. le-ltb (B .latest (getD route j 0)) (arrival B depot route j) (at .kept j k);
+        there = λ l. lt-ltb (B .latest (getD route i 0)) (arrival B depot route i) (rw reached too-late);
+      })
 
   pub at-next : (served : ℕ) → served ≡ B .service (getD route i 0) → clock + seconds ≤ B .latest (getD route i 0) → At B depot route (i + 1) (clock + seconds + served) (getD route i 0)
   at-next served e in-time =

@@ -93,6 +93,11 @@ pub tail-on-time : (C : Clock) (depot : ℕ) (r : List ℕ) (c a t g : ℕ) → 
     on-time C a t (drop c r) ≡ leb (lateness C depot r c) g
 tail-on-time C depot r c a t g l h = tail-from C depot r (length r - c) c a t g (omega arith) h
 
+-- The whole route: on time exactly where no stop is late.
+pub on-time-is : (C : Clock) (depot : ℕ) (r : List ℕ) → on-time C depot 0 r ≡ leb (lateness C depot r 0) 0
+unfolding left path
+on-time-is C depot r = tail-on-time C depot r 0 depot 0 0 (omega arith) (λ h. rw (take-suc r 0 0 h) (omega arith))
+
 -- ---- a head
 
 module _ (C : Clock) (depot : ℕ) (r : List ℕ) (p : ℕ) (f : LongestHead C depot r p) (c : ℕ) (l : c ≤ p) where

@@ -13,6 +13,7 @@ pub mod Index
 pub mod Distinct
 pub mod Dictionary
 pub mod Clock
+pub mod LatePosition
 pub mod Steps
 pub mod Cuts
 pub mod Stops

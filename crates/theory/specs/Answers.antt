@@ -9,7 +9,7 @@ use lib.ListN.{length, getD, take}
 use lib.IntN.{ℤ}
 use lib.Ieee.{Float}
 use Rattle.theory.specs.Moves.{Pattern}
-use Rattle.theory.specs.Route.{Problem, Timetable, late, Timely, tour-length}
+use Rattle.theory.specs.Route.{Problem, Timetable, late-position, Timely, tour-length, timetable-of}
 use Rattle.theory.specs.Scan.{Reply}
 use Rattle.theory.specs.Polish.{polish-with, Demand3}
 use Rattle.theory.specs.declared.Deadline.{Deadline}
@@ -62,16 +62,16 @@ abbrev pub delta-answer : LengthDelta → Answer ℤ
 delta-answer (Delta.Refused n) = refused n
 delta-answer (Delta.Seconds s) = reply 0 (s ∷ [])
 
--- "A stop is late if the legs up to it plus the service of the stops before it exceed its latest."
+-- "It shall name the lowest one."
 abbrev pub LateAt : Timetable → (depot : ℕ) → List ℕ → ℕ → Type 0
-LateAt B depot route p = (p < length route) × (late B depot route p ≡ true)
+LateAt B depot route p = (p < length route) × (p ≡ late-position B depot route)
 
--- "The check answers kept exactly then, else some late position; which one is free."
+-- "The check answers kept exactly then", else the lowest late position.
 abbrev pub Checked : Timetable → (depot : ℕ) → List ℕ → Deadline → Type 0
 Checked B depot route Check.Kept = Timely B depot route
 Checked B depot route (Check.Late p) = LateAt B depot route p
 
--- The position that the check writes for a route of n stops: a late one, or n for kept.
+-- The position that the check writes for a route of n stops: the lowest late one, or n for kept.
 abbrev pub deadline-position : ℕ → Deadline → ℕ
 deadline-position n Check.Kept = n
 deadline-position n (Check.Late p) = p
@@ -79,10 +79,6 @@ deadline-position n (Check.Late p) = p
 abbrev pub feasibility-answer : ℕ → Feasibility → Answer ℕ
 feasibility-answer n (Judged.Refused q) = refused q
 feasibility-answer n (Judged.Checked d) = reply 0 (deadline-position n d ∷ [])
-
--- What a written position says of a route.
-abbrev pub Verdict : Timetable → (depot : ℕ) → List ℕ → ℕ → Type 0
-Verdict B depot route p = ((p ≡ length route) × Timely B depot route) ⊎ LateAt B depot route p
 
 -- "The position with its distance, or none."
 abbrev pub nearest-values : Nearest → List (ℕ × Float)
@@ -124,23 +120,25 @@ abbrev pub counts-of : Polished → Counts
 counts-of (Polishing.Finished c) = c
 counts-of (Polishing.Spent c) = c
 
--- "Five numbers: 0 finished or 1 spent, then the four named": examined, accepted, length before, length after.
+-- "Five numbers: 0 finished or 1 spent, then the four named": examined, accepted, length before, length after; "a sixth number", the lowest late position.
 abbrev pub polish-values : Polished → List ℕ
-polish-values (Polishing.Finished c) = 0 ∷ c .examined ∷ c .accepted ∷ c .before ∷ c .after ∷ []
-polish-values (Polishing.Spent c) = 1 ∷ c .examined ∷ c .accepted ∷ c .before ∷ c .after ∷ []
+polish-values (Polishing.Finished c) = 0 ∷ c .examined ∷ c .accepted ∷ c .before ∷ c .after ∷ c .late ∷ []
+polish-values (Polishing.Spent c) = 1 ∷ c .examined ∷ c .accepted ∷ c .before ∷ c .after ∷ c .late ∷ []
 
--- The same five numbers, of the scan's reply q to a route.
-abbrev pub five-numbers : Problem → List ℕ → Reply (List ℕ) → List ℕ
-five-numbers P route q = cond (q .finished) 0 1 ∷ q .examined ∷ q .accepted ∷ tour-length P route ∷ tour-length P (q .route) ∷ []
+-- The same six numbers, of the scan's reply q to a route.
+abbrev pub six-numbers : Problem → List ℕ → Reply (List ℕ) → List ℕ
+six-numbers P route q =
+    cond (q .finished) 0 1 ∷ q .examined ∷ q .accepted ∷ tour-length P route ∷ tour-length P (q .route) ∷ late-position (timetable-of P) (P .depot) (q .route) ∷ []
 
 -- What a result and a route that were handed back say: the scan's reply.
 abbrev pub handed-back : List ℕ → List ℕ → Reply (List ℕ)
 handed-back result route = record { finished = eqb (getD result 0 0) 0; examined = getD result 1 0; accepted = getD result 2 0; route = route }
 
 -- What polishing promises, of the route handed in, the answer and the route handed back, for a list of patterns: "round and reply are those of document
--- 01's scan", with the lengths; and demand 3.
+-- 01's scan", with the lengths and the lowest late position; and demand 3.
 pub record Polishes (P : Problem) (ps : List Pattern) (k allowance : ℕ) (route : List ℕ) (answer : Polished) (route′ : List ℕ) : Type 0 where
   pub scan : reply-of answer route′ ≡ polish-with P ps k allowance route
   pub before : counts-of answer .before ≡ tour-length P route
   pub after : counts-of answer .after ≡ tour-length P route′
+  pub late : counts-of answer .late ≡ late-position (timetable-of P) (P .depot) route′
   pub demand3 : Demand3 P ps k allowance route (reply-of answer route′)

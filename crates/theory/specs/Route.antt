@@ -75,6 +75,16 @@ unfoldable pub late : Timetable → (depot : ℕ) → List ℕ → ℕ → Bool
 unfolding arrival
 late B depot r i = ltb (B .latest (getD r i 0)) (arrival B depot r i)
 
+-- The first of the n places from `from` on that passes a test, or the place behind them.
+unfoldable pub first-where : (ℕ → Bool) → (from n : ℕ) → ℕ
+first-where t from zero = from
+first-where t from (suc n) = cond (t from) from (first-where t (suc from) n)
+
+-- "It shall name the lowest one", "the number of stops standing for none".
+unfoldable pub late-position : Timetable → (depot : ℕ) → List ℕ → ℕ
+unfolding late first-where
+late-position B depot r = first-where (late B depot r) 0 (length r)
+
 -- A test holds at every place below n.
 unfoldable pub every : ℕ → (ℕ → Bool) → Bool
 every zero t = true

@@ -7,7 +7,7 @@ use Rattle.theory.specs.Moves.{patterns, cut-sets}
 use Rattle.theory.specs.Route.{Problem, timely}
 use Rattle.theory.specs.Tables.{tables, timetable-by}
 use Rattle.theory.specs.Polish.{polish}
-use Rattle.theory.specs.Answers.{five-numbers}
+use Rattle.theory.specs.Answers.{six-numbers}
 
 pub data Ask : Type 0 where
   pattern : (k index : ℕ) → Ask
@@ -26,14 +26,14 @@ T latest service =
       depot = 0;
     }
 
--- What the definitions answer: a pattern's mask and order; a number; polishing's five numbers and the route.
+-- What the definitions answer: a pattern's mask and order; a number; polishing's six numbers and the route.
 unfoldable pub answer : Ask → List ℕ
 unfolding patterns cut-sets
 answer (pattern k i) = let p = getD (patterns k) i (record { order = []; mask = 0 }) in p .mask ∷ p .order
 answer (how-many-patterns k) = length (patterns k) ∷ []
 answer (how-many-cut-sets k n) = length (cut-sets k n) ∷ []
 answer (kept l s r) = cond (timely (timetable-by (tables 2 (1 ∷ 1 ∷ 1 ∷ 1 ∷ []) l s)) 0 r) 1 0 ∷ []
-answer (T-with k a l s) = (let q = polish (T l s) k a (1 ∷ 2 ∷ []) in five-numbers (T l s) (1 ∷ 2 ∷ []) q ++ q .route)
+answer (T-with k a l s) = (let q = polish (T l s) k a (1 ∷ 2 ∷ []) in six-numbers (T l s) (1 ∷ 2 ∷ []) q ++ q .route)
 
 abbrev pub far : ℕ
 far = 4294967295
@@ -60,14 +60,17 @@ runs =
     ∷ (how-many-cut-sets 3 4, 10 ∷ [])
     ∷ (how-many-cut-sets 4 4, 5 ∷ [])
     ∷ (how-many-cut-sets 5 4, 1 ∷ [])
-    ∷ (T-with 3 11 (far ∷ far ∷ far ∷ []) none, 0 ∷ 11 ∷ 1 ∷ 15 ∷ 3 ∷ 2 ∷ 1 ∷ [])
-    ∷ (T-with 3 10 (far ∷ far ∷ far ∷ []) none, 1 ∷ 10 ∷ 1 ∷ 15 ∷ 3 ∷ 2 ∷ 1 ∷ [])
-    ∷ (T-with 3 3 (far ∷ far ∷ far ∷ []) none, 1 ∷ 3 ∷ 0 ∷ 15 ∷ 15 ∷ 1 ∷ 2 ∷ [])
-    ∷ (T-with 3 100 (far ∷ 1 ∷ far ∷ []) none, 0 ∷ 7 ∷ 0 ∷ 15 ∷ 15 ∷ 1 ∷ 2 ∷ [])
-    ∷ (T-with 3 100 (far ∷ 2 ∷ far ∷ []) none, 0 ∷ 11 ∷ 1 ∷ 15 ∷ 3 ∷ 2 ∷ 1 ∷ [])
-    ∷ (T-with 3 100 (far ∷ far ∷ far ∷ []) none, 0 ∷ 11 ∷ 1 ∷ 15 ∷ 3 ∷ 2 ∷ 1 ∷ [])
-    ∷ (T-with 4 100 (far ∷ far ∷ far ∷ []) none, 0 ∷ 0 ∷ 0 ∷ 15 ∷ 15 ∷ 1 ∷ 2 ∷ [])
-    ∷ (T-with 3 18446744073709551615 (far ∷ far ∷ far ∷ []) none, 0 ∷ 11 ∷ 1 ∷ 15 ∷ 3 ∷ 2 ∷ 1 ∷ [])
+    ∷ (T-with 3 11 (far ∷ far ∷ far ∷ []) none, 0 ∷ 11 ∷ 1 ∷ 15 ∷ 3 ∷ 2 ∷ 2 ∷ 1 ∷ [])
+    ∷ (T-with 3 10 (far ∷ far ∷ far ∷ []) none, 1 ∷ 10 ∷ 1 ∷ 15 ∷ 3 ∷ 2 ∷ 2 ∷ 1 ∷ [])
+    ∷ (T-with 3 3 (far ∷ far ∷ far ∷ []) none, 1 ∷ 3 ∷ 0 ∷ 15 ∷ 15 ∷ 2 ∷ 1 ∷ 2 ∷ [])
+    ∷ (T-with 3 100 (far ∷ 1 ∷ far ∷ []) none, 0 ∷ 7 ∷ 0 ∷ 15 ∷ 15 ∷ 0 ∷ 1 ∷ 2 ∷ [])
+    ∷ (T-with 3 100 (far ∷ 2 ∷ far ∷ []) none, 0 ∷ 11 ∷ 1 ∷ 15 ∷ 3 ∷ 2 ∷ 2 ∷ 1 ∷ [])
+    ∷ (T-with 3 100 (far ∷ far ∷ far ∷ []) none, 0 ∷ 11 ∷ 1 ∷ 15 ∷ 3 ∷ 2 ∷ 2 ∷ 1 ∷ [])
+    ∷ (T-with 4 100 (far ∷ far ∷ far ∷ []) none, 0 ∷ 0 ∷ 0 ∷ 15 ∷ 15 ∷ 2 ∷ 1 ∷ 2 ∷ [])
+    ∷ (T-with 3 18446744073709551615 (far ∷ far ∷ far ∷ []) none, 0 ∷ 11 ∷ 1 ∷ 15 ∷ 3 ∷ 2 ∷ 2 ∷ 1 ∷ [])
+    -- Both stops late, and none on the way there: the first of them.
+    ∷ (T-with 3 100 (far ∷ 0 ∷ 0 ∷ []) none, 0 ∷ 7 ∷ 0 ∷ 15 ∷ 15 ∷ 0 ∷ 1 ∷ 2 ∷ [])
+    ∷ (T-with 3 100 (far ∷ far ∷ 0 ∷ []) none, 0 ∷ 7 ∷ 0 ∷ 15 ∷ 15 ∷ 1 ∷ 1 ∷ 2 ∷ [])
     -- Two locations, legs of 1: the service of the stop itself and of the depot at the start does not count, each visit does, the depot as a stop does.
     ∷ (kept (far ∷ 1 ∷ []) (5 ∷ 10 ∷ []) (1 ∷ []), 1 ∷ [])
     ∷ (kept (far ∷ 11 ∷ []) (5 ∷ 10 ∷ []) (1 ∷ 1 ∷ []), 0 ∷ [])
@@ -75,6 +78,6 @@ runs =
     ∷ (kept (far ∷ 6 ∷ []) (5 ∷ 10 ∷ []) (0 ∷ 1 ∷ []), 0 ∷ [])
     ∷ (kept (far ∷ 7 ∷ []) (5 ∷ 10 ∷ []) (0 ∷ 1 ∷ []), 1 ∷ [])
     -- Ten seconds at stop 2: the legs up to stop 1 behind it are 2, and it is reached at second 12.
-    ∷ (T-with 3 100 (far ∷ 11 ∷ far ∷ []) (0 ∷ 0 ∷ 10 ∷ []), 0 ∷ 7 ∷ 0 ∷ 15 ∷ 15 ∷ 1 ∷ 2 ∷ [])
-    ∷ (T-with 3 100 (far ∷ 12 ∷ far ∷ []) (0 ∷ 0 ∷ 10 ∷ []), 0 ∷ 11 ∷ 1 ∷ 15 ∷ 3 ∷ 2 ∷ 1 ∷ [])
+    ∷ (T-with 3 100 (far ∷ 11 ∷ far ∷ []) (0 ∷ 0 ∷ 10 ∷ []), 0 ∷ 7 ∷ 0 ∷ 15 ∷ 15 ∷ 2 ∷ 1 ∷ 2 ∷ [])
+    ∷ (T-with 3 100 (far ∷ 12 ∷ far ∷ []) (0 ∷ 0 ∷ 10 ∷ []), 0 ∷ 11 ∷ 1 ∷ 15 ∷ 3 ∷ 2 ∷ 2 ∷ 1 ∷ [])
     ∷ []

@@ -10,7 +10,7 @@ pub const PATTERNS: usize = 383;
 
 pub const ORDER_BYTES: usize = 6 * PATTERNS;
 
-// The deadline check: every deadline is kept, or the stop at some position is late.
+// The deadline check: every deadline is kept, or the lowest position whose stop is late.
 pub enum Deadline {
     Kept,
     Late(usize),
@@ -54,12 +54,14 @@ pub struct ReconnectionAt {
     pub reconnection: KOptReconnection,
 }
 
-// What polishing counts: candidates examined and accepted, and the lengths of the route handed in and of the route handed back.
+// What polishing counts: candidates examined and accepted, the lengths of the route handed in and of the route handed back, and the lowest position of that
+// one that is late, or the number of its stops.
 pub struct Counts {
     pub examined: u64,
     pub accepted: u64,
     pub before: u64,
     pub after: u64,
+    pub late: u64,
 }
 
 // The answer of polishing: no candidate is left that improves, or the allowance is spent.
