@@ -4,6 +4,7 @@ use theory::Deadline;
 use theory::STOPS;
 ghost use mathlib.Core.Path.{_≡_};
 ghost use Prim.Native.Nat.{min, max, _-_};
+ghost use Rattle.theory.specs.Route.{late-position};
 ghost use Rattle.theory.specs.Tables.{timetable-by, clock-by, Timed, trip, tables};
 ghost use Rattle.theory.specs.Answers.{Checked};
 ghost use Rattle.deadlines.specs.Stays.{ServiceOf, ServiceIs, Stays, StaysFillable};
@@ -37,6 +38,25 @@ pub fn check_deadlines(
         i += 1;
     }
     Deadline::Kept
+}
+
+// The lowest late position of a route, or the number of its stops.
+pub fn late_position(
+    locations: usize,
+    legs: &[u32],
+    latest: &[u32],
+    service: &[u32],
+    depot: u32,
+    route: &[u32],
+) -> u64
+    requires { ⌜ Timed (trip locations (now legs) (now latest) (now service) depot) (now route) ⌝ }
+    ensures { λ r. ⌜ r ≡ late-position (timetable-by (tables locations (now (legs .entry)) (now (latest .entry)) (now (service .entry)))) depot (now (route .entry)) ⌝ }
+{
+    let judged = check_deadlines(locations, legs, latest, service, depot, route);
+    match judged {
+        Deadline::Kept => route.len() as u64,
+        Deadline::Late(position) => position as u64,
+    }
 }
 
 // The service of a stop.

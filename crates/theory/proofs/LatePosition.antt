@@ -61,16 +61,15 @@ module _ (B : Timetable) (depot : ℕ) (r : List ℕ) where
   -- The number of stops exactly where every deadline is kept.
   pub late-position-none : (late-position B depot r ≡ length r) ↔ Timely B depot r
   unfolding late
-  late-position-none =
-      (
-        λ e i h. ltb-false (B .latest (getD r i 0)) (arrival B depot r i) (late-position-is .before i (omega arith) (omega arith)),
-        λ k. sym (late-position-only (length r) (record {
-          least = omega arith;
-          most = omega arith;
-          before = λ j h l. le-ltb (B .latest (getD r j 0)) (arrival B depot r j) (k j l);
-          there = λ l. absurd (omega arith);
-        })),
-      )
+  late-position-none = (
+    λ e i h. ltb-false (B .latest (getD r i 0)) (arrival B depot r i) (late-position-is .before i (omega arith) (omega arith)),
+    λ k. sym (late-position-only (length r) (record {
+      least = omega arith;
+      most = omega arith;
+      before = λ j h l. le-ltb (B .latest (getD r j 0)) (arrival B depot r j) (k j l);
+      there = λ l. absurd (omega arith);
+    })),
+  )
 
 -- A late position is told only where nothing was accepted.
 pub late-unchanged : (P : Problem) (ps : List Pattern) (k A : ℕ) (r : List ℕ) (answer : Polished) (r′ : List ℕ) → Polishes P ps k A r answer r′ →
