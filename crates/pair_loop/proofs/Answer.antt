@@ -1,0 +1,46 @@
+-- What the pair loop answers, from what its passes counted. Assumes nothing.
+use mathlib.Core.Path.{_≡_, refl, sym, ap, _∙_}
+use mathlib.Core.Bool.{Bool, true, false}
+use mathlib.Core.List.{List}
+use Prim.Native.Nat.{ℕ}
+use Rattle.theory.specs.Moves.{total}
+use Rattle.theory.specs.Route.{tour-length, late-position}
+use Rattle.theory.specs.Tables.{problem, timetable-by, legs-only, Timed, Trip}
+use Rattle.theory.specs.Answers.{reply-of, counts-of}
+use Rattle.theory.specs.declared.Counts.{Counts}
+use Rattle.theory.specs.declared.Polished.{Polished}
+use Rattle.pair_reversal.proofs.Trying.{timed-rearranged}
+use Rattle.pair_loop.specs.declared.PairLoop.{PairLoop}
+use Rattle.pair_loop.specs.PairLoop.{PairsTried, reply-so-far, pair-loop}
+use Rattle.pair_loop.proofs.Progress.{loop-onward, loop-promise}
+
+-- Deadlines play no part in a length.
+length-alone : (T : Trip) (r : List ℕ) → tour-length (legs-only (T .tables .locations) (T .tables .legs) (T .depot)) r ≡ tour-length (problem T) r
+unfolding tour-length
+length-alone T r = refl
+
+module _ (T : Trip) (A : ℕ) (route : List ℕ) {counted : PairLoop} {route′ : List ℕ} (e : reply-so-far counted route′ ≡ pair-loop (problem T) A route) where
+  pub timed-after : Timed T route → Timed T route′
+  timed-after timed = timed-rearranged (λ g. ap (λ q. total g (q .route)) e ∙ loop-onward (problem T) A route .same g) timed .0
+
+  module _ {before after late : ℕ} (b : before ≡ tour-length (legs-only (T .tables .locations) (T .tables .legs) (T .depot)) route)
+      (a : after ≡ tour-length (legs-only (T .tables .locations) (T .tables .legs) (T .depot)) route′)
+      (l : late ≡ late-position (timetable-by (T .tables)) (T .depot) route′) where
+    abbrev counts : Counts
+    counts = record { examined = counted .examined; accepted = counted .accepted; before = before; after = after; late = late }
+
+    told : (answer : Polished) → counts-of answer ≡ counts → reply-of answer route′ ≡ reply-so-far counted route′ → PairsTried (problem T) A route answer route′
+    told answer c f =
+        record {
+          loop = f ∙ e;
+          before = ap (λ (k : Counts). k .before) c ∙ b ∙ length-alone T route;
+          after = ap (λ (k : Counts). k .after) c ∙ a ∙ length-alone T route′;
+          late = ap (λ (k : Counts). k .late) c ∙ l;
+          promise = rw (f ∙ e) (loop-promise (problem T) A route);
+        }
+
+    pub finished : counted .finished ≡ true → PairsTried (problem T) A route (Polished.Finished counts) route′
+    finished f = told (Polished.Finished counts) refl (ap (λ (x : Bool). record { finished = x; examined = counted .examined; accepted = counted .accepted; route = route′ }) (sym f))
+
+    pub spent : counted .finished ≡ false → PairsTried (problem T) A route (Polished.Spent counts) route′
+    spent f = told (Polished.Spent counts) refl (ap (λ (x : Bool). record { finished = x; examined = counted .examined; accepted = counted .accepted; route = route′ }) (sym f))
