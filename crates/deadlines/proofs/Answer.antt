@@ -1,4 +1,4 @@
--- What the check's answer says of the test `timely` and of the lowest late position, for callers that take the answer apart.
+-- What the check's answer says of the test `timely`, for callers that take the answer apart.
 use mathlib.Core.Path.{_≡_, refl, sym}
 use mathlib.Core.Bool.{Bool, true, false}
 use mathlib.Core.List.{List}
@@ -28,9 +28,9 @@ kept-told B depot r a told = sym (kept-timely B depot r (rw a at told))
 pub late-told : (B : Timetable) (depot : ℕ) (r : List ℕ) {answer : Deadline} {p : ℕ} → answer ≡ Check.Late p → Checked B depot r answer → false ≡ timely B depot r
 late-told B depot r a told = sym (late-untimely B depot r (rw a at told))
 
--- The same of the lowest late position.
-pub kept-nowhere : (B : Timetable) (depot : ℕ) (r : List ℕ) {answer : Deadline} → answer ≡ Check.Kept → Checked B depot r answer → length r ≡ late-position B depot r
-kept-nowhere B depot r a told = sym (late-position-none B depot r .1 (rw a at told))
+-- Where every deadline is kept, the number of stops is the answer.
+pub none-told : (B : Timetable) (depot : ℕ) (r : List ℕ) → timely B depot r ≡ true → length r ≡ late-position B depot r
+none-told B depot r e = sym (late-position-none B depot r .1 (timely-iff B depot r .0 e))
 
-pub late-there : (B : Timetable) (depot : ℕ) (r : List ℕ) {answer : Deadline} {p : ℕ} → answer ≡ Check.Late p → Checked B depot r answer → p ≡ late-position B depot r
-late-there B depot r a told = (rw a at told) .1
+pub position-told : (B : Timetable) (depot : ℕ) (r : List ℕ) {answer : Deadline} {p : ℕ} → answer ≡ Check.Late p → Checked B depot r answer → p ≡ late-position B depot r
+position-told B depot r a told = (rw a at told) .1

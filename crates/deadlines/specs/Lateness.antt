@@ -1,13 +1,19 @@
 -- What a late route leaves to its candidates: how long a head, and how much sooner a tail must be reached.
 use mathlib.Core.Path.{_≡_}
+use mathlib.Core.Bool.{Bool, true}
 use mathlib.Core.List.{List}
 use Prim.Native.Nat.{ℕ, zero, suc, max, _+_, _-_, _*_, _≤_, _<_}
 use lib.ListN.{length, getD, take}
-use Rattle.theory.specs.Route.{Clock, path, left}
+use Rattle.theory.specs.Route.{Clock, path, left, timely}
 use Rattle.theory.specs.Costs.{forward}
-use Rattle.theory.specs.Tables.{Measurable, Timed, Trip}
+use Rattle.theory.specs.Tables.{timetable-by, Measurable, Timed, Trip}
 use Rattle.costs.specs.RouteCosts.{leg, Sums}
 use Rattle.deadlines.specs.Stays.{Stays}
+
+-- A route, and whether it is known to keep every deadline.
+pub record LateAsked (T : Trip) (route : List ℕ) (kept : Bool) : Type 0 where
+  pub timed : Timed T route
+  pub known : kept ≡ true → timely (timetable-by (T .tables)) (T .depot) route ≡ true
 
 -- The seconds by which the stop at position i is left too late, which are those by which it is reached after its latest; 0 where it is on time.
 unfoldable pub late-by : Clock → (depot : ℕ) → List ℕ → ℕ → ℕ

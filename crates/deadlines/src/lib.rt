@@ -8,9 +8,9 @@ ghost use Rattle.theory.specs.Route.{late-position};
 ghost use Rattle.theory.specs.Tables.{timetable-by, clock-by, Timed, trip, tables};
 ghost use Rattle.theory.specs.Answers.{Checked};
 ghost use Rattle.deadlines.specs.Stays.{ServiceOf, ServiceIs, Stays, StaysFillable};
-ghost use Rattle.deadlines.specs.Lateness.{LeftAsked, LeftAt, UntilAsked, UntilAt, LaterFits, LatenessFillable, LatenessFilled};
+ghost use Rattle.deadlines.specs.Lateness.{LateAsked, LeftAsked, LeftAt, UntilAsked, UntilAt, LaterFits, LatenessFillable, LatenessFilled};
 
-// Kept exactly where no stop is late, else the first late position.
+// Kept exactly where no stop is late, else the lowest late position.
 pub fn check_deadlines(
     locations: usize,
     legs: &[u32],
@@ -40,8 +40,9 @@ pub fn check_deadlines(
     Deadline::Kept
 }
 
-// The lowest late position of a route, or the number of its stops.
+// The lowest late position of a route, or the number of its stops; a route that is known to keep every deadline is not walked.
 pub fn late_position(
+    kept: bool,
     locations: usize,
     legs: &[u32],
     latest: &[u32],
@@ -49,14 +50,17 @@ pub fn late_position(
     depot: u32,
     route: &[u32],
 ) -> u64
-    requires { ⌜ Timed (trip locations (now legs) (now latest) (now service) depot) (now route) ⌝ }
+    requires { ⌜ LateAsked (trip locations (now legs) (now latest) (now service) depot) (now route) kept ⌝ }
     ensures { λ r. ⌜ r ≡ late-position (timetable-by (tables locations (now (legs .entry)) (now (latest .entry)) (now (service .entry)))) depot (now (route .entry)) ⌝ }
 {
-    let judged = check_deadlines(locations, legs, latest, service, depot, route);
-    match judged {
-        Deadline::Kept => route.len() as u64,
-        Deadline::Late(position) => position as u64,
+    if kept {
+        return route.len() as u64;
     }
+    let judged = check_deadlines(locations, legs, latest, service, depot, route);
+    if let Deadline::Late(position) = judged {
+        return position as u64;
+    }
+    route.len() as u64
 }
 
 // The service of a stop.

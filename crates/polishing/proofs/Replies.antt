@@ -1,23 +1,25 @@
 -- What polishing answers, from what the scan counted. Assumes nothing.
 use mathlib.Core.Path.{_≡_, refl, sym, ap, _∙_}
-use mathlib.Core.Bool.{true, false}
+use mathlib.Core.Bool.{Bool, true, false, false≢true}
 use mathlib.Core.List.{List}
 use Prim.Native.Nat.{ℕ, _+_, _≤_, _<_}
 use native.Mathlib.Omega.{arith}
 use lib.ListN.{length}
-use Rattle.theory.specs.Moves.{total}
-use Rattle.theory.specs.Route.{tour-length}
-use Rattle.theory.specs.Polish.{polish-with, ForCuts}
-use Rattle.theory.specs.Tables.{problem, legs-only, Measurable, pattern-rows, Trip}
+use Rattle.theory.specs.Moves.{Pattern, total}
+use Rattle.theory.specs.Route.{Problem, tour-length, late-position}
+use Rattle.theory.specs.Polish.{ForCuts}
+use Rattle.theory.specs.Tables.{problem, timetable-by, legs-only, Measurable, pattern-rows, Trip}
 use Rattle.theory.specs.Answers.{Polishes, reply-of, counts-of}
+use Rattle.theory.specs.declared.Counts.{Counts}
 use Rattle.theory.specs.declared.Polished.{Polished}
 use Rattle.theory.proofs.ForK.{rows-for-cuts}
 use Rattle.theory.proofs.Polish.{polish-with-demand3, same-total}
 use Rattle.theory.proofs.Steps.{nowhere}
 use Rattle.theory.proofs.Stops.{stops-rearranged}
+use Rattle.deadlines.specs.Lateness.{LateAsked}
 use Rattle.scan_loop.specs.Loop.{Scannable, Scans}
 use Rattle.scan_loop.specs.declared.Scanned.{Scanned}
-use Rattle.polishing.specs.Loop.{PolishableRows}
+use Rattle.polishing.specs.Loop.{PolishableRows, ScannedWith, answer-of}
 use Rattle.scan_joints.specs.States.{StateRows}
 
 -- Deadlines play no part in a length.
@@ -32,38 +34,52 @@ module _ (k : ℕ) (T : Trip) (orders masks route : List ℕ) (A : ℕ) (ok : Po
   pub scannable : (rows : List ℕ) → k ≤ length route + 1 → StateRows k orders masks (length masks) rows → Scannable k T orders masks rows route
   scannable rows h s = record { least = ok .least; most = ok .most; enough = h; timed = ok .timed; patterns = ok .patterns; not-empty = ok .not-empty; state-rows = s }
 
-  -- An answer that is the scan's, with the lengths, has demand 3.
-  replies : (answer : Polished) (route′ : List ℕ) → reply-of answer route′ ≡ polish-with (problem T) (pattern-rows k orders masks) k A route →
-      counts-of answer .before ≡ tour-length (legs-only (T .tables .locations) (T .tables .legs) (T .depot)) route → counts-of answer .after ≡ tour-length (legs-only (T .tables .locations) (T .tables .legs) (T .depot)) route′ →
-      Polishes (problem T) (pattern-rows k orders masks) k A route answer route′
-  replies answer route′ e b a =
-      record {
-        scan = e;
-        before = b ∙ length-without-deadlines T route;
-        after = a ∙ length-without-deadlines T route′;
-        demand3 = rw e (polish-with-demand3 (problem T) (pattern-rows k orders masks) k for-cuts A route);
-      }
+  abbrev P : Problem
+  P = problem T
 
-  pub no-cut-set : length route + 1 < k → (seconds : ℕ) → seconds ≡ tour-length (legs-only (T .tables .locations) (T .tables .legs) (T .depot)) route →
-      Polishes (problem T) (pattern-rows k orders masks) k A route (Polished.Finished (record { examined = 0; accepted = 0; before = seconds; after = seconds })) route
-  no-cut-set h seconds e = replies _ route (sym (nowhere (problem T) (pattern-rows k orders masks) k A route h)) e e
+  abbrev ps : List Pattern
+  ps = pattern-rows k orders masks
 
-  module _ (scanned : Scanned) (route′ : List ℕ) (s : Scans (problem T) (pattern-rows k orders masks) k A route scanned route′) where
+  pub no-cut-set : length route + 1 < k → ScannedWith P ps k A route (record { finished = true; examined = 0; accepted = 0; kept = false }) route
+  no-cut-set h = record { scan = sym (nowhere P ps k A route h); kept = λ e. absurd (false≢true e) }
+
+  pub scanned-so : {scanned : Scanned} {route′ : List ℕ} → Scans P ps k A route scanned route′ → ScannedWith P ps k A route scanned route′
+  scanned-so s = record { scan = s .scan; kept = λ e. sym (s .kept-is) ∙ e }
+
+  module _ (scanned : Scanned) (route′ : List ℕ) (s : ScannedWith P ps k A route scanned route′) where
     rearranged : (g : ℕ → ℕ) → total g route′ ≡ total g route
-    rearranged g = ap (λ q. total g (q .route)) (s .scan) ∙ same-total (problem T) (pattern-rows k orders masks) k for-cuts g A route
+    rearranged g = ap (λ q. total g (q .route)) (s .scan) ∙ same-total P ps k for-cuts g A route
 
     pub measurable-after : Measurable (T .tables .locations) (T .tables .legs) (T .depot) route′
     measurable-after =
         let m = ok .timed .measurable in
         record { table = m .table; depot-known = m .depot-known; stops = stops-rearranged route route′ rearranged (T .tables .locations) (m .stops) }
 
-    module _ (before after : ℕ) (b : before ≡ tour-length (legs-only (T .tables .locations) (T .tables .legs) (T .depot)) route) (a : after ≡ tour-length (legs-only (T .tables .locations) (T .tables .legs) (T .depot)) route′) where
-      pub finished : scanned .finished ≡ true →
-          Polishes (problem T) (pattern-rows k orders masks) k A route
-          (Polished.Finished (record { examined = scanned .examined; accepted = scanned .accepted; before = before; after = after })) route′
-      finished f = replies _ route′ (ap (λ t. record { finished = t; examined = scanned .examined; accepted = scanned .accepted; route = route′ }) (sym f) ∙ s .scan) b a
+    pub late-asked : LateAsked T route′ (scanned .kept)
+    late-asked = record { timed = record { measurable = measurable-after; times = ok .timed .times }; known = s .kept }
 
-      pub spent : scanned .finished ≡ false →
-          Polishes (problem T) (pattern-rows k orders masks) k A route
-          (Polished.Spent (record { examined = scanned .examined; accepted = scanned .accepted; before = before; after = after })) route′
-      spent f = replies _ route′ (ap (λ t. record { finished = t; examined = scanned .examined; accepted = scanned .accepted; route = route′ }) (sym f) ∙ s .scan) b a
+    abbrev counts : (before after late : ℕ) → Counts
+    counts before after late = record { examined = scanned .examined; accepted = scanned .accepted; before = before; after = after; late = late }
+
+    same-reply : (b : Bool) (c : Counts) → reply-of (answer-of b c) route′ ≡ record { finished = b; examined = c .examined; accepted = c .accepted; route = route′ }
+    same-reply true c = refl
+    same-reply false c = refl
+
+    same-counts : (b : Bool) (c : Counts) → counts-of (answer-of b c) ≡ c
+    same-counts true c = refl
+    same-counts false c = refl
+
+    -- An answer that is the scan's, with the lengths and the lowest late position, has demand 3.
+    pub replies : (before after late : ℕ) → before ≡ tour-length (legs-only (T .tables .locations) (T .tables .legs) (T .depot)) route →
+        after ≡ tour-length (legs-only (T .tables .locations) (T .tables .legs) (T .depot)) route′ → late ≡ late-position (timetable-by (T .tables)) (T .depot) route′ →
+        (answer : Polished) → answer ≡ answer-of (scanned .finished) (counts before after late) → Polishes P ps k A route answer route′
+    replies before after late b a l answer e =
+        let c = ap counts-of e ∙ same-counts (scanned .finished) (counts before after late) in
+        let r = ap (λ x. reply-of x route′) e ∙ same-reply (scanned .finished) (counts before after late) ∙ s .scan in
+        record {
+          scan = r;
+          before = ap (λ n. n .before) c ∙ b ∙ length-without-deadlines T route;
+          after = ap (λ n. n .after) c ∙ a ∙ length-without-deadlines T route′;
+          late = ap (λ n. n .late) c ∙ l;
+          demand3 = rw r (polish-with-demand3 P ps k for-cuts A route);
+        }

@@ -1,6 +1,7 @@
-// Polishing a route by the scan of document 01, with every pattern for k or with lent rows of patterns, and its five numbers into a lent result. No entry: crates
+// Polishing a route by the scan of document 01, with every pattern for k or with lent rows of patterns, and its six numbers into a lent result. No entry: crates
 // mittenschist, run and text call it.
 use scan_joints::ROW_BYTES;
+use scan_loop::Scanned;
 use theory::Counts;
 use theory::ORDER_BYTES;
 use theory::PATTERNS;
@@ -12,7 +13,58 @@ ghost use lib.ListN.{length, drop};
 ghost use Rattle.theory.specs.Moves.{patterns};
 ghost use Rattle.theory.specs.Tables.{problem, pattern-rows, trip};
 ghost use Rattle.theory.specs.Answers.{Polishes, polish-values};
-ghost use Rattle.polishing.specs.Loop.{PolishableRows, Polishable};
+ghost use Rattle.polishing.specs.Loop.{PolishableRows, Polishable, ScannedWith, answer-of};
+
+// What was counted, as the answer.
+fn counted(finished: bool, counts: Counts) -> Polished
+    ensures { λ r. ⌜ r ≡ answer-of finished counts ⌝ }
+{
+    if finished {
+        return Polished::Finished(counts);
+    }
+    Polished::Spent(counts)
+}
+
+// The scan with lent rows of patterns for k cuts; where the route has no cut set it is over at once.
+fn scanned_with(
+    k: usize,
+    allowance: u64,
+    locations: usize,
+    legs: &[u32],
+    latest: &[u32],
+    service: &[u32],
+    depot: u32,
+    orders: &[u8],
+    masks: &[u8],
+    route: &mut [u32],
+) -> Scanned
+    requires { ⌜ PolishableRows k (trip locations (now legs) (now latest) (now service) depot) (now orders) (now masks) (now route) ⌝ }
+    ensures { λ r. ⌜ ScannedWith (problem (trip locations (now (legs .entry)) (now (latest .entry)) (now (service .entry)) depot)) (pattern-rows k (now (orders .entry)) (now (masks .entry))) k allowance (now (route .entry)) r (now (route .exit)) ⌝ }
+{
+    if route.len() + 1 < k {
+        return Scanned {
+            finished: true,
+            examined: 0,
+            accepted: 0,
+            kept: false,
+        };
+    }
+    let mut rows = [0u8; ROW_BYTES];
+    scan_rows::fill_rows(k, orders, masks, &mut rows);
+    scan_loop::scan_cut_sets(
+        k,
+        allowance,
+        locations,
+        legs,
+        latest,
+        service,
+        depot,
+        orders,
+        masks,
+        &rows,
+        route,
+    )
+}
 
 // Polishing with lent rows of patterns for k cuts.
 pub fn polish_rows(
@@ -31,17 +83,7 @@ pub fn polish_rows(
     ensures { λ r. ⌜ Polishes (problem (trip locations (now (legs .entry)) (now (latest .entry)) (now (service .entry)) depot)) (pattern-rows k (now (orders .entry)) (now (masks .entry))) k allowance (now (route .entry)) r (now (route .exit)) ⌝ }
 {
     let before = costs::route_length(locations, legs, depot, &route[..]);
-    if route.len() + 1 < k {
-        return Polished::Finished(Counts {
-            examined: 0,
-            accepted: 0,
-            before,
-            after: before,
-        });
-    }
-    let mut rows = [0u8; ROW_BYTES];
-    scan_rows::fill_rows(k, orders, masks, &mut rows);
-    let scanned = scan_loop::scan_cut_sets(
+    let scanned = scanned_with(
         k,
         allowance,
         locations,
@@ -51,26 +93,28 @@ pub fn polish_rows(
         depot,
         orders,
         masks,
-        &rows,
         route,
     );
     let after = costs::route_length(locations, legs, depot, &route[..]);
-    let examined = scanned.examined;
-    let accepted = scanned.accepted;
-    if scanned.finished {
-        return Polished::Finished(Counts {
-            examined,
-            accepted,
+    let late = deadlines::late_position(
+        scanned.kept,
+        locations,
+        legs,
+        latest,
+        service,
+        depot,
+        &route[..],
+    );
+    counted(
+        scanned.finished,
+        Counts {
+            examined: scanned.examined,
+            accepted: scanned.accepted,
             before,
             after,
-        });
-    }
-    Polished::Spent(Counts {
-        examined,
-        accepted,
-        before,
-        after,
-    })
+            late,
+        },
+    )
 }
 
 // Polishing with every pattern for k cuts.
@@ -105,24 +149,25 @@ pub fn polish_route(
     )
 }
 
-fn put_five(state: u64, counts: Counts, result: &mut [u64])
-    requires { ⌜ 5 ≤ length (now result) ⌝ }
-    ensures { λ _. ⌜ now (result .exit) ≡ state ∷ counts .examined ∷ counts .accepted ∷ counts .before ∷ counts .after ∷ drop 5 (now (result .entry)) ⌝ }
+fn put_six(state: u64, counts: Counts, result: &mut [u64])
+    requires { ⌜ 6 ≤ length (now result) ⌝ }
+    ensures { λ _. ⌜ now (result .exit) ≡ state ∷ counts .examined ∷ counts .accepted ∷ counts .before ∷ counts .after ∷ counts .late ∷ drop 6 (now (result .entry)) ⌝ }
 {
     result[0] = state;
     result[1] = counts.examined;
     result[2] = counts.accepted;
     result[3] = counts.before;
     result[4] = counts.after;
+    result[5] = counts.late;
 }
 
-// The five numbers of the answer into the first places of the result.
+// The six numbers of the answer into the first places of the result.
 pub fn put_polished(answer: Polished, result: &mut [u64])
-    requires { ⌜ 5 ≤ length (now result) ⌝ }
-    ensures { λ _. ⌜ now (result .exit) ≡ polish-values answer ++ drop 5 (now (result .entry)) ⌝ }
+    requires { ⌜ 6 ≤ length (now result) ⌝ }
+    ensures { λ _. ⌜ now (result .exit) ≡ polish-values answer ++ drop 6 (now (result .entry)) ⌝ }
 {
     match answer {
-        Polished::Finished(counts) => put_five(0, counts, result),
-        Polished::Spent(counts) => put_five(1, counts, result),
+        Polished::Finished(counts) => put_six(0, counts, result),
+        Polished::Spent(counts) => put_six(1, counts, result),
     }
 }

@@ -28,7 +28,7 @@ delta-rules k pattern cuts locations legs depot route =
     route-length-rules locations legs depot route ++ (cut-count k ∷ pattern-index k pattern ∷ cut-positions k (length route) cuts ∷ [])
 
 abbrev pub polish-rules : Question → ℕ → List Rule
-polish-rules q lent = with-room (question-rules q) 5 lent
+polish-rules q lent = with-room (question-rules q) 6 lent
 
 abbrev pub rounds-rules : ℕ → Fleet → List Rule
 rounds-rules locations F = known-rounds locations (F .depots) (F .stops) ∷ round-lists (F .lengths) (F .depots) (F .pins) (length (F .stops)) ∷ []

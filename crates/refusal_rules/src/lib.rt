@@ -105,10 +105,10 @@ pub fn polish_refusal(
     route: &[u32],
     lent: usize,
 ) -> u32
-    ensures { λ r. ⌜ r ≡ refusal (with-room (cut-count k ∷ problem-rules (trip locations (now (legs .entry)) (now (latest .entry)) (now (service .entry)) depot) (now (route .entry))) 5 lent) ⌝ }
+    ensures { λ r. ⌜ r ≡ refusal (with-room (cut-count k ∷ problem-rules (trip locations (now (legs .entry)) (now (latest .entry)) (now (service .entry)) depot) (now (route .entry))) 6 lent) ⌝ }
 {
     let bad_question = question_refusal(k, locations, legs, latest, service, depot, route);
-    let bad_room = refusals::check_room(5, lent);
+    let bad_room = refusals::check_room(6, lent);
     refusals::first(bad_question, bad_room)
 }
 

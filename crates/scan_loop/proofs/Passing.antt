@@ -7,11 +7,13 @@ use Prim.Native.Nat.{ℕ, zero, suc, _+_, _-_, _*_, _≤_, _<_}
 use native.Mathlib.Omega.{arith}
 use native.Mathlib.Nat.{suc-mul, mul-pos}
 use native.Mathlib.Decide.{decLt}
-use lib.ListN.{length, take}
+use lib.Dec.{leb, eqb}
+use lib.ListN.{length, take, getD}
+use borrow.Author.Tests.{le-leb, lt-leb, eq-eqb, ne-eqb}
 use Rattle.theory.specs.Scan.{improves}
 use Rattle.theory.specs.Moves.{next-cuts}
 use Rattle.theory.specs.Costs.{forward, backward}
-use Rattle.theory.specs.Route.{reconnected, feasible}
+use Rattle.theory.specs.Route.{reconnected, feasible, timely}
 use Rattle.theory.specs.Polish.{search-of, polish-with, move-at}
 use Rattle.theory.specs.Tables.{problem, timetable-by, clock-by, CutSet, pattern-rows, Trip}
 use Rattle.theory.proofs.Clock.{timely-on-time}
@@ -20,8 +22,8 @@ use Rattle.cut_step.specs.Step.{found, or-unmoved, Stepped}
 use Rattle.costs.specs.RouteCosts.{leg, Sums, first-cuts, last-cut}
 use Rattle.costs.proofs.Segments.{cut-below, cuts-parted}
 use Rattle.deadlines.specs.Stays.{Stays}
-use Rattle.deadlines.specs.Lateness.{Latenesses}
-use Rattle.deadlines.proofs.Lateness.{none-late, kept-not-late, kept-head}
+use Rattle.deadlines.specs.Lateness.{lateness, Latenesses}
+use Rattle.deadlines.proofs.Lateness.{on-time-is, none-late, kept-not-late, kept-head}
 use Rattle.scan_joints.specs.JointTable.{Padded}
 use Rattle.scan_shared.specs.Prepared.{Opened}
 use Rattle.scan_stretch.specs.declared.Stretch.{Stretch}
@@ -47,6 +49,17 @@ first-opened (suc (suc (suc (suc (suc (suc k)))))) h l = absurd (omega arith)
 both-true : (a b : Bool) → (a && b) ≡ true → a ≡ true
 both-true true b h = refl
 both-true false b h = h
+
+none-above : (x : ℕ) → leb x 0 ≡ eqb x 0
+none-above zero = le-leb 0 0 (omega arith) ∙ sym (eq-eqb 0 0 refl)
+none-above (suc x) = lt-leb (suc x) 0 (omega arith) ∙ sym (ne-eqb (suc x) 0 (λ e. absurd (omega (arith, e))))
+
+-- A measured route keeps every deadline exactly where its lateness is 0 from the start on.
+pub kept-measured : (T : Trip) (r forwards backwards stayed : List ℕ) (longest : ℕ) (late : List ℕ) → Measured T r forwards backwards stayed longest late →
+    eqb (getD late 0 0) 0 ≡ timely (timetable-by (T .tables)) (T .depot) r
+kept-measured T r forwards backwards stayed longest late m =
+    rw (m .latenesses .each 0 (omega arith))
+    (sym (timely-on-time (timetable-by (T .tables)) (T .depot) r ∙ on-time-is (clock-by (T .tables)) (T .depot) r ∙ none-above (lateness (clock-by (T .tables)) (T .depot) r 0)))
 
 module _ (k : ℕ) (T : Trip) (orders masks rows route₀ : List ℕ) (A : ℕ) (ok : Scannable k T orders masks rows route₀) where
   as-many : length (pattern-rows k orders masks) ≡ length masks

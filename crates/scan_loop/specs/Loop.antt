@@ -4,7 +4,7 @@ use mathlib.Core.List.{List}
 use Prim.Native.Nat.{ℕ, _+_, _≤_, _<_}
 use lib.ListN.{length}
 use Rattle.theory.specs.Moves.{Pattern}
-use Rattle.theory.specs.Route.{Problem}
+use Rattle.theory.specs.Route.{Problem, timetable-of, timely}
 use Rattle.theory.specs.Polish.{polish-with}
 use Rattle.theory.specs.Tables.{Timed, PatternRows, Trip}
 use Rattle.scan_joints.specs.States.{StateRows}
@@ -20,6 +20,7 @@ pub record Scannable (k : ℕ) (T : Trip) (orders masks rows route : List ℕ) :
   pub not-empty : 0 < length masks
   pub state-rows : StateRows k orders masks (length masks) rows
 
--- "Round and reply are those of document 01's scan."
+-- "Round and reply are those of document 01's scan"; and whether the round keeps every deadline.
 pub record Scans (P : Problem) (ps : List Pattern) (k allowance : ℕ) (route : List ℕ) (answer : Scanned) (route′ : List ℕ) : Type 0 where
   pub scan : record { finished = answer .finished; examined = answer .examined; accepted = answer .accepted; route = route′ } ≡ polish-with P ps k allowance route
+  pub kept-is : answer .kept ≡ timely (timetable-of P) (P .depot) route′

@@ -6,11 +6,12 @@ use theory::STOPS;
 ghost use Rattle.theory.specs.Tables.{problem, pattern-rows, trip};
 ghost use Rattle.scan_loop.specs.Loop.{Scannable, Scans};
 
-// What the scan counted when it ended.
+// What the scan counted when it ended, and whether the route then keeps every deadline.
 pub struct Scanned {
     pub finished: bool,
     pub examined: u64,
     pub accepted: u64,
+    pub kept: bool,
 }
 
 // The scan: the first improving candidate of a stretch is taken and the scan begins again, or the stretch is passed.
@@ -95,6 +96,7 @@ pub fn scan_cut_sets(
                     finished: false,
                     examined,
                     accepted,
+                    kept: lateness[0] == 0,
                 };
             }
             if !cut_step::next_cut_set(&mut cut[..k], route.len()) {
@@ -102,6 +104,7 @@ pub fn scan_cut_sets(
                     finished: true,
                     examined,
                     accepted,
+                    kept: lateness[0] == 0,
                 };
             }
         }

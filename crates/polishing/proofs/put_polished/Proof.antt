@@ -6,35 +6,35 @@ use Rattle.polishing.proofs.put_polished.Tie as tie
 enum-known-answer : tie.Need-enum-known-answer
 enum-known-answer c = search needs
 
-put-five-requires : tie.Need-put-five-requires
-put-five-requires c κs = search needs
+put-six-requires : tie.Need-put-six-requires
+put-six-requires c κs = search needs
 
 enum-known-answer-2 : tie.Need-enum-known-answer-2
 enum-known-answer-2 c = search needs
 
-put-five-requires-2 : tie.Need-put-five-requires-2
-put-five-requires-2 c κs = search needs
+put-six-requires-2 : tie.Need-put-six-requires-2
+put-six-requires-2 c κs = search needs
 
 same-length : tie.Need-same-length
 same-length c = search needs
 
 returns : tie.Need-returns
-returns c = rw (c .before .before .before .before .before .answer .given .1) (c .before .before .put-five .ensures)
+returns c = rw (c .before .before .before .before .before .answer .given .1) (c .before .before .put-six .ensures)
 
 same-length-2 : tie.Need-same-length-2
 same-length-2 c = search needs
 
 returns-2 : tie.Need-returns-2
-returns-2 c = rw (c .before .before .before .before .before .answer2 .given .1) (c .before .before .put-five2 .ensures)
+returns-2 c = rw (c .before .before .before .before .before .answer2 .given .1) (c .before .before .put-six2 .ensures)
 
 pub put-polished-spec : {M : Type 1} → statement M
 put-polished-spec =
     tie.close
     (tie.spec
     enum-known-answer
-    put-five-requires
+    put-six-requires
     enum-known-answer-2
-    put-five-requires-2
+    put-six-requires-2
     same-length
     returns
     same-length-2

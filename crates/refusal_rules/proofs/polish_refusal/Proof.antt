@@ -22,7 +22,7 @@ returns : tie.Need-returns
 unfolding early
 returns c =
     let s = c .before .before .before .before .before .before .before in
-    c .first .ensures ∙ then-room (cut-count (s .args .k) ∷ problem-rules (trip (s .args .locations) (s .args .legs .now) (s .args .latest .now) (s .args .service .now) (s .args .depot)) (s .args .route .now)) refl 5 (s .args .lent) _ _ (c .before .before .question-refusal .ensures) (c .before .check-room .ensures)
+    c .first .ensures ∙ then-room (cut-count (s .args .k) ∷ problem-rules (trip (s .args .locations) (s .args .legs .now) (s .args .latest .now) (s .args .service .now) (s .args .depot)) (s .args .route .now)) refl 6 (s .args .lent) _ _ (c .before .before .question-refusal .ensures) (c .before .check-room .ensures)
 
 pub polish-refusal-spec : {M : Type 1} → statement M
 polish-refusal-spec =

@@ -16,7 +16,7 @@ use Rattle.scan_shared.proofs.Preparing.{no-cells}
 use Rattle.scan_taking.specs.Candidate.{candidate}
 use Rattle.scan_taking.specs.Measure.{Measured}
 use Rattle.scan_loop.proofs.Scanning.{starts, below, same-size, timed}
-use Rattle.scan_loop.proofs.Passing.{first-opened, stretchable, in-allowance, room-for-it, begins-again, takeable, measured-anew, spent-now, some-examined, cuts-then, moves-on, ends-now}
+use Rattle.scan_loop.proofs.Passing.{kept-measured, first-opened, stretchable, in-allowance, room-for-it, begins-again, takeable, measured-anew, spent-now, some-examined, cuts-then, moves-on, ends-now}
 use Rattle.scan_loop.proofs.scan_cut_sets.Statement.{statement}
 use Rattle.scan_loop.proofs.scan_cut_sets.Tie as tie
 
@@ -136,6 +136,9 @@ loop-again c =
       first-opened (s .args .k) (s .pre .least) (s .pre .most),
     )
 
+array-read-t52 : tie.Need-array-read-t52 Inv-loop μ-loop
+array-read-t52 c = search needs
+
 same-length : tie.Need-same-length Inv-loop μ-loop
 same-length c =
     let s = c .before .before .before .before .before .before .before .before .before .before .before .before .before .before .before .before .before .before .before .before .before .before .before .before .before .before in
@@ -147,7 +150,7 @@ returns c =
     let s = c .before .before .before .before .before .before .before .before .before .before .before .before .before .before .before .before .before .before .before .before .before .before .before .before .before .before in
     let l = c .before .before .before .before .before .before .before .before .before .before .before .before .before .loop in
     let e = c .before .before .before .before .before .scan-stretch .ensures in
-    record { scan = spent-now (s .args .k) (lent s) (s .args .orders .now) (s .args .masks .now) (s .args .rows .now) (s .args .route .now) (s .args .allowance) (s .pre) (take (s .args .k) (l .cut)) (l .examined) (l .accepted) (l .route) (l .inv .1) e (c .before .before .if1 .left) (not-true _ (c .if2 .taken)) }
+    record { scan = spent-now (s .args .k) (lent s) (s .args .orders .now) (s .args .masks .now) (s .args .rows .now) (s .args .route .now) (s .args .allowance) (s .pre) (take (s .args .k) (l .cut)) (l .examined) (l .accepted) (l .route) (l .inv .1) e (c .before .before .if1 .left) (not-true _ (c .if2 .taken)); kept-is = kept-measured (lent s) (l .route) _ _ _ _ (l .lateness) (l .inv .2) }
 
 array-borrow-prefix-cut-2 : tie.Need-array-borrow-prefix-cut-2 Inv-loop μ-loop
 array-borrow-prefix-cut-2 c =
@@ -168,6 +171,9 @@ next-cut-set-requires c κs =
     let e = c .before .before .before .before .before .before .scan-stretch .ensures in
     rw (take-at (c .before .before .before .before .before .before .scan-stretch .last .1 .1 .1 .1 .1 .1 .1 .1 .1 .1 .1 .1 .1 .0) (drop (s .args .k) (l .cut)) (s .args .k) (c .before .before .before .before .before .before .scan-stretch .kept .1 .1 .1 .1 .1 .1 .1 .1 .1 .1 .1 .1 .1 .0 ∙ l .inv .1 .cut-set .many)) (cuts-then (s .args .k) (lent s) (s .args .orders .now) (s .args .masks .now) (s .args .rows .now) (s .args .route .now) (s .args .allowance) (s .pre) (take (s .args .k) (l .cut)) (l .examined) (l .accepted) (l .route) (l .inv .1) e (not-false _ (c .before .if2 .left)))
 
+array-read-t60 : tie.Need-array-read-t60 Inv-loop μ-loop
+array-read-t60 c = search needs
+
 same-length-2 : tie.Need-same-length-2 Inv-loop μ-loop
 same-length-2 c =
     let s = c .before .before .before .before .before .before .before .before .before .before .before .before .before .before .before .before .before .before .before .before .before .before .before .before .before .before .before .before .before .before in
@@ -180,7 +186,7 @@ returns-2 c =
     let l = c .before .before .before .before .before .before .before .before .before .before .before .before .before .before .before .before .before .loop in
     let e = c .before .before .before .before .before .before .before .before .before .scan-stretch .ensures in
     let n = c .before .before .next-cut-set in
-    record { scan = ends-now (s .args .k) (lent s) (s .args .orders .now) (s .args .masks .now) (s .args .rows .now) (s .args .route .now) (s .args .allowance) (s .pre) (take (s .args .k) (l .cut)) (l .examined) (l .accepted) (l .route) (l .inv .1) e (not-false _ (c .before .before .before .before .if2 .left)) _ (rw (not-true (n .result) (c .if3 .taken), take-at (c .before .before .before .before .before .before .before .before .before .scan-stretch .last .1 .1 .1 .1 .1 .1 .1 .1 .1 .1 .1 .1 .1 .0) (drop (s .args .k) (l .cut)) (s .args .k) (c .before .before .before .before .before .before .before .before .before .scan-stretch .kept .1 .1 .1 .1 .1 .1 .1 .1 .1 .1 .1 .1 .1 .0 ∙ l .inv .1 .cut-set .many)) at (n .ensures)) }
+    record { scan = ends-now (s .args .k) (lent s) (s .args .orders .now) (s .args .masks .now) (s .args .rows .now) (s .args .route .now) (s .args .allowance) (s .pre) (take (s .args .k) (l .cut)) (l .examined) (l .accepted) (l .route) (l .inv .1) e (not-false _ (c .before .before .before .before .if2 .left)) _ (rw (not-true (n .result) (c .if3 .taken), take-at (c .before .before .before .before .before .before .before .before .before .scan-stretch .last .1 .1 .1 .1 .1 .1 .1 .1 .1 .1 .1 .1 .1 .0) (drop (s .args .k) (l .cut)) (s .args .k) (c .before .before .before .before .before .before .before .before .before .scan-stretch .kept .1 .1 .1 .1 .1 .1 .1 .1 .1 .1 .1 .1 .1 .0 ∙ l .inv .1 .cut-set .many)) at (n .ensures)); kept-is = kept-measured (lent s) (l .route) _ _ _ _ (l .lateness) (l .inv .2) }
 
 loop-less-2 : tie.Need-loop-less-2 Inv-loop μ-loop
 loop-less-2 c =
@@ -227,11 +233,13 @@ scan-cut-sets-spec =
     add-accepted
     loop-less
     loop-again
+    array-read-t52
     same-length
     returns
     array-borrow-prefix-cut-2
     slice-aggregate-next-cut-set
     next-cut-set-requires
+    array-read-t60
     same-length-2
     returns-2
     loop-less-2
