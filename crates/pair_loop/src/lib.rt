@@ -141,7 +141,7 @@ fn try_passes(
     }
 }
 
-// The pair loop, with the lengths and the lowest late position. A spent round keeps what was accepted.
+// The pair loop, with the lengths and the lowest late position. A spent round keeps what was accepted; an accepted turn keeps every deadline.
 pub fn pair_loop(
     allowance: u64,
     locations: usize,
@@ -157,7 +157,15 @@ pub fn pair_loop(
     let before = costs::route_length(locations, legs, depot, &route[..]);
     let tried = try_passes(allowance, locations, legs, latest, service, depot, route);
     let after = costs::route_length(locations, legs, depot, &route[..]);
-    let late = deadlines::late_position(locations, legs, latest, service, depot, &route[..]);
+    let late = deadlines::late_position(
+        0 < tried.accepted,
+        locations,
+        legs,
+        latest,
+        service,
+        depot,
+        &route[..],
+    );
     let counts = Counts {
         examined: tried.examined,
         accepted: tried.accepted,

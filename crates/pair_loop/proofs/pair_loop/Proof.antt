@@ -1,7 +1,8 @@
 -- `pair_loop::pair_loop` meets its contract. Assumes nothing.
 use Rattle.theory.specs.Tables.{Trip, trip}
-use Rattle.pair_loop.proofs.Answer.{timed-after, finished, spent}
+use Rattle.pair_loop.proofs.Answer.{timed-after, late-asked, finished, spent}
 use borrow.Author.Needs.{needs}
+use borrow.Author.Tests.{ltb-true}
 use Rattle.pair_loop.proofs.pair_loop.Statement.{statement}
 use Rattle.pair_loop.proofs.pair_loop.Tie as tie
 
@@ -22,27 +23,27 @@ route-length-requires-2 c κs =
 
 late-position-requires : tie.Need-late-position-requires
 late-position-requires c κs =
-    let t = c .before .before .before .before .before in
+    let t = c .before .before .before .before .before .before in
     let s = t .before .before .before .before .before .before .before .before in
-    timed-after (lent s) (s .args .allowance) (s .args .route .now) (t .try-passes .ensures) (s .pre)
+    late-asked (lent s) (s .args .allowance) (s .args .route .now) (t .try-passes .ensures) (s .pre) (λ k. ltb-true 0 _ k)
 
 same-length : tie.Need-same-length
 same-length c = search needs
 
 returns : tie.Need-returns
 returns c =
-    let t = c .before .before .before .before .before .before .before in
+    let t = c .before .before .before .before .before .before .before .before in
     let s = t .before .before .before .before .before .before .before .before in
-    finished (lent s) (s .args .allowance) (s .args .route .now) (t .try-passes .ensures) (t .before .before .route-length .ensures .is) (c .before .before .before .route-length2 .ensures .is) (c .before .late-position .ensures) (c .if1 .taken)
+    finished (lent s) (s .args .allowance) (s .args .route .now) (t .try-passes .ensures) (t .before .before .route-length .ensures .is) (c .before .before .before .before .route-length2 .ensures .is) (c .before .late-position .ensures) (c .if1 .taken)
 
 same-length-2 : tie.Need-same-length-2
 same-length-2 c = search needs
 
 returns-2 : tie.Need-returns-2
 returns-2 c =
-    let t = c .before .before .before .before .before .before .before in
+    let t = c .before .before .before .before .before .before .before .before in
     let s = t .before .before .before .before .before .before .before .before in
-    spent (lent s) (s .args .allowance) (s .args .route .now) (t .try-passes .ensures) (t .before .before .route-length .ensures .is) (c .before .before .before .route-length2 .ensures .is) (c .before .late-position .ensures) (c .if1 .left)
+    spent (lent s) (s .args .allowance) (s .args .route .now) (t .try-passes .ensures) (t .before .before .route-length .ensures .is) (c .before .before .before .before .route-length2 .ensures .is) (c .before .late-position .ensures) (c .if1 .left)
 
 pub pair-loop-spec : {M : Type 1} → statement M
 pair-loop-spec =
