@@ -4,11 +4,11 @@ use mathlib.Core.List.{List, _++_}
 use Prim.Native.Nat.{ℕ, _≤_}
 use lib.ListN.{length, drop}
 use Rattle.theory.specs.Moves.{patterns}
-use Rattle.theory.specs.Route.{Problem, tour-length}
+use Rattle.theory.specs.Route.{Problem, tour-length, late-position, timetable-of}
 use Rattle.theory.specs.Tables.{problem}
 use Rattle.theory.specs.Refusals.{Rule, refusal}
 use Rattle.theory.specs.Question.{Question, question-rules, asked}
-use Rattle.theory.specs.Answers.{Polishes, reply-of, counts-of, polish-values, five-numbers, handed-back}
+use Rattle.theory.specs.Answers.{Polishes, reply-of, counts-of, polish-values, six-numbers, handed-back}
 use Rattle.theory.specs.declared.Polished.{Polished}
 use Rattle.theory.specs.declared.Polished.the-variants.{Finished, Spent}
 use Rattle.theory.proofs.Refusals.{Passes, known}
@@ -21,9 +21,9 @@ use Rattle.theory.proofs.Taken.{refused-kept, taken-done, taken-passes}
 
 -- The numbers of an answer are those of its reply, and the reply can be read off them again.
 values-are : (P : Problem) (route route′ : List ℕ) (answer : Polished) → counts-of answer .before ≡ tour-length P route → counts-of answer .after ≡ tour-length P route′ →
-    polish-values answer ≡ five-numbers P route (reply-of answer route′)
-values-are P route route′ (Finished c) b a = rw (b, a)
-values-are P route route′ (Spent c) b a = rw (b, a)
+    counts-of answer .late ≡ late-position (timetable-of P) (P .depot) route′ → polish-values answer ≡ six-numbers P route (reply-of answer route′)
+values-are P route route′ (Finished c) b a l = rw (b, a, l)
+values-are P route route′ (Spent c) b a l = rw (b, a, l)
 
 read-back : (answer : Polished) (more route′ : List ℕ) → handed-back (polish-values answer ++ more) route′ ≡ reply-of answer route′
 read-back (Finished c) more route′ = refl
@@ -41,7 +41,7 @@ module _ (q : Question) (result : List ℕ) (number : ℕ) (judged : number ≡ 
   P = problem (q .trip)
 
   abbrev result-done : List ℕ
-  result-done = five-numbers P (q .route) (asked q) ++ drop 5 result
+  result-done = six-numbers P (q .route) (asked q) ++ drop 6 result
 
   pub refused : (number ≡ 0 → ⊥) → PolishReply q result number (q .route) result
   refused h =
@@ -53,23 +53,23 @@ module _ (q : Question) (result : List ℕ) (number : ℕ) (judged : number ≡ 
       }
 
   module _ (h : number ≡ 0) where
-    passes : Passes (question-rules q) × (5 ≤ length result)
+    passes : Passes (question-rules q) × (6 ≤ length result)
     unfolding known
-    passes = pass-with-room (question-rules q) 5 (length result) (taken-passes rules number judged refl h)
+    passes = pass-with-room (question-rules q) 6 (length result) (taken-passes rules number judged refl h)
 
     pub fine : Polishable (q .k) (q .trip) (q .route)
     fine = polishable-fine q (passes .0)
 
-    pub space : 5 ≤ length result
+    pub space : 6 ≤ length result
     space = passes .1
 
     pub polished : (answer : Polished) (route′ result′ : List ℕ) → Polishes P (patterns (q .k)) (q .k) (q .allowance) (q .route) answer route′ →
-        result′ ≡ polish-values answer ++ drop 5 result → PolishReply q result 0 route′ result′
+        result′ ≡ polish-values answer ++ drop 6 result → PolishReply q result 0 route′ result′
     polished answer route′ result′ p e =
-        let values = values-are P (q .route) route′ answer (p .before) (p .after) ∙ ap (five-numbers P (q .route)) (p .scan) in
+        let values = values-are P (q .route) route′ answer (p .before) (p .after) (p .late) ∙ ap (six-numbers P (q .route)) (p .scan) in
         record {
           number-is = sym h ∙ judged;
           route-is = its-route answer route′ ∙ ap (λ r. r .route) (p .scan) ∙ taken-done rules number judged (asked q .route) (q .route) h;
-          result-is = e ∙ ap (λ l. l ++ drop 5 result) values ∙ taken-done rules number judged result-done result h;
-          demand3 = λ z. rw (e, read-back answer (drop 5 result) route′) (p .demand3);
+          result-is = e ∙ ap (λ l. l ++ drop 6 result) values ∙ taken-done rules number judged result-done result h;
+          demand3 = λ z. rw (e, read-back answer (drop 6 result) route′) (p .demand3);
         }

@@ -53,12 +53,3 @@ module _ {A : Type 0} (rules : List Rule) (before : early rules ≡ true) (value
 
   pub answer-written : (a : Answer A) → a ≡ reply (refusal rules) values → Handed a result n result′ → Written rules (length values) values result n result′
   answer-written a e h = by-number (refusal rules) refl (subst (λ a. Handed a result n result′) e h)
-
-  -- What was written was not refused.
-  pub not-refused : Written rules (length values) values result n result′ → n ≡ 0 → refusal rules ≡ 0
-  unfolding either
-  not-refused w z = by (refusal rules) (sym (room-last rules (length values) (length result) before) ∙ sym (w .number-is) ∙ z)
-    where
-      by : (m : ℕ) → either m (number (room (length values) (length result))) ≡ 0 → m ≡ 0
-      by zero e = refl
-      by (suc m) e = absurd (omega arith)

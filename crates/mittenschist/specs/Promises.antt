@@ -7,13 +7,13 @@ use lib.Dec.{ltb}
 use lib.Ieee.{Float}
 use lib.ListN.{length, getD, drop, replicate}
 use Rattle.theory.specs.Moves.{Pattern, patterns, next-cuts}
-use Rattle.theory.specs.Route.{tour-length, reconnected}
+use Rattle.theory.specs.Route.{tour-length, reconnected, late-position}
 use Rattle.theory.specs.Polish.{move-at, Demand3}
 use Rattle.theory.specs.Tables.{Tables, Trip, Fleet, problem, timetable-by, legs-only}
 use Rattle.theory.specs.Question.{Question, asked}
 use Rattle.theory.specs.Refusals.{Rule, refusal, if-taken, problem-rules}
 use Rattle.refusal_rules.specs.Rules.{pattern-rules, next-cut-set-rules, reconnect-rules, route-length-rules, delta-rules, polish-rules, run-rules, nearby-rules, with-room}
-use Rattle.theory.specs.Answers.{reply, step-answer, length-answer, delta-answer, feasibility-answer, listing-answer, Checked, Verdict, five-numbers, handed-back}
+use Rattle.theory.specs.Answers.{reply, step-answer, length-answer, delta-answer, feasibility-answer, listing-answer, Checked, six-numbers, handed-back}
 use Rattle.moves.specs.Moves.{length-change}
 use Rattle.cut_step.specs.Step.{found, or-unmoved}
 use Rattle.move_applying.specs.Applying.{doable}
@@ -82,16 +82,14 @@ abbrev pub Says : Trip → List ℕ → Feasibility → Type 0
 Says T route (Judged.Refused n) = Unit {0}
 Says T route (Judged.Checked d) = Checked (timetable-by (T .tables)) (T .depot) route d
 
--- The late position is loose, and nothing else is. One value alone leaves the case open, since kept is written as the number of stops; so the answer itself is held to the route.
-pub record FeasibleReply (T : Trip) (route : List ℕ) (answer : Feasibility) : Type 0 where
-  pub position : ℕ
-  pub reply-is : feasibility-answer (length route) answer ≡ reply (refusal (problem-rules T route)) (position ∷ [])
-  pub says : Says T route answer
+-- The lowest late position, or the number of stops for none.
+abbrev pub late-values : Trip → List ℕ → List ℕ
+late-values T route = late-position (timetable-by (T .tables)) (T .depot) route ∷ []
 
-pub record FeasibleWritten (T : Trip) (route result : List ℕ) (answer : ℕ) (result′ : List ℕ) : Type 0 where
-  pub position : ℕ
-  pub written : Written (problem-rules T route) 1 (position ∷ []) result answer result′
-  pub verdict : answer ≡ 0 → Verdict (timetable-by (T .tables)) (T .depot) route position
+-- The value alone leaves a case open, since kept is written as the number of stops; so the answer itself is held to the route.
+pub record FeasibleReply (T : Trip) (route : List ℕ) (answer : Feasibility) : Type 0 where
+  pub reply-is : feasibility-answer (length route) answer ≡ reply (refusal (problem-rules T route)) (late-values T route)
+  pub says : Says T route answer
 
 -- ---- polishing
 
@@ -99,7 +97,7 @@ pub record FeasibleWritten (T : Trip) (route result : List ℕ) (answer : ℕ) (
 pub record PolishReply (q : Question) (result : List ℕ) (answer : ℕ) (route′ result′ : List ℕ) : Type 0 where
   pub number-is : answer ≡ refusal (polish-rules q (length result))
   pub route-is : route′ ≡ if-taken (polish-rules q (length result)) (asked q .route) (q .route)
-  pub result-is : result′ ≡ if-taken (polish-rules q (length result)) (five-numbers (problem (q .trip)) (q .route) (asked q) ++ drop 5 result) result
+  pub result-is : result′ ≡ if-taken (polish-rules q (length result)) (six-numbers (problem (q .trip)) (q .route) (asked q) ++ drop 6 result) result
   pub demand3 : answer ≡ 0 → Demand3 (problem (q .trip)) (patterns (q .k)) (q .k) (q .allowance) (q .route) (handed-back result′ route′)
 
 -- ---- doable; apply and undo promise what they do over cut points (crate move_calls)

@@ -6,10 +6,11 @@ ghost use Rattle.theory.specs.Polish.{move-at};
 ghost use Rattle.theory.specs.Moves.{patterns};
 ghost use Rattle.theory.specs.Tables.{tables, trip, fleet, legs-only};
 ghost use Rattle.theory.specs.Question.{question};
+ghost use Rattle.theory.specs.Refusals.{problem-rules};
 ghost use Rattle.move_calls.specs.Entries.{DoMoveReply, UndoReply, doable-rules};
 ghost use Rattle.moves.specs.Moves.{length-change, pattern-values};
 ghost use Rattle.refusal_rules.specs.Rules.{route-length-rules, pattern-rules, delta-rules};
-ghost use Rattle.mittenschist.specs.Promises.{NextCutSetReply, RouteLengthReply, ReconnectionReply, ReconnectReply, DeltaReply, FeasibleReply, PolishReply, Written, NextCutSetWritten, FeasibleWritten, doable-values, RunReply, NearbyReply, NearbyWritten};
+ghost use Rattle.mittenschist.specs.Promises.{NextCutSetReply, RouteLengthReply, ReconnectionReply, ReconnectReply, DeltaReply, FeasibleReply, PolishReply, Written, NextCutSetWritten, late-values, doable-values, RunReply, NearbyReply, NearbyWritten};
 use polishing::polish_route;
 use theory::CutStep;
 use theory::Feasibility;
@@ -106,7 +107,8 @@ pub fn route_feasible(
     Feasibility::Checked(answer)
 }
 
-// Polishes a route. Refuses 1, 2, 3, 23, 4, 5, 21. The result receives 0 finished or 1 spent, examined, accepted, length before, length after.
+// Polishes a route. Refuses 1, 2, 3, 23, 4, 5, 21. The result receives 0 finished or 1 spent, examined, accepted, length before, length after,
+// and the lowest late position of the route handed back, or the number of its stops for none.
 #[no_mangle]
 pub extern "C" fn mittenschist_polish_route(
     k: usize,
@@ -219,7 +221,7 @@ pub extern "C" fn mittenschist_delta(
     entry_results::put_delta(answer, result)
 }
 
-// A late position, or the number of stops where every deadline is kept. Refuses 2, 3, 23, 4, 5, 21.
+// The lowest late position, or the number of stops where every deadline is kept. Refuses 2, 3, 23, 4, 5, 21.
 #[no_mangle]
 pub extern "C" fn mittenschist_route_feasible(
     locations: usize,
@@ -230,7 +232,7 @@ pub extern "C" fn mittenschist_route_feasible(
     route: &[u32],
     result: &mut [u64],
 ) -> u32
-    ensures { λ r. ⌜ FeasibleWritten (trip locations (now (legs .entry)) (now (latest .entry)) (now (service .entry)) depot) (now (route .entry)) (now (result .entry)) r (now (result .exit)) ⌝ }
+    ensures { λ r. ⌜ Written (problem-rules (trip locations (now (legs .entry)) (now (latest .entry)) (now (service .entry)) depot) (now (route .entry))) 1 (late-values (trip locations (now (legs .entry)) (now (latest .entry)) (now (service .entry)) depot) (now (route .entry))) (now (result .entry)) r (now (result .exit)) ⌝ }
 {
     let answer = route_feasible(locations, legs, latest, service, depot, route);
     entry_results::put_feasibility(answer, route.len(), result)

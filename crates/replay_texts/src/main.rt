@@ -77,6 +77,25 @@ fn show_service() {
     );
 }
 
+// The same example late: at both stops, at the second alone, at the first, which polishing mends; and late where it is spent or has no cut set.
+fn show_late() {
+    show_text(
+        b"k=3\nallowance=100\nlocations=3\ndepot=0\nlegs=0,5,1\nlegs=1,0,5\nlegs=5,1,0\nlatest=4294967295,0,0\nservice=0,0,0\nround=1,2\n",
+    );
+    show_text(
+        b"k=3\nallowance=100\nlocations=3\ndepot=0\nlegs=0,5,1\nlegs=1,0,5\nlegs=5,1,0\nlatest=4294967295,4294967295,0\nservice=0,0,0\nround=1,2\n",
+    );
+    show_text(
+        b"k=3\nallowance=100\nlocations=3\ndepot=0\nlegs=0,5,1\nlegs=1,0,5\nlegs=5,1,0\nlatest=4294967295,2,4294967295\nservice=0,0,0\nround=1,2\n",
+    );
+    show_text(
+        b"k=3\nallowance=3\nlocations=3\ndepot=0\nlegs=0,5,1\nlegs=1,0,5\nlegs=5,1,0\nlatest=4294967295,4294967295,0\nservice=0,0,0\nround=1,2\n",
+    );
+    show_text(
+        b"k=4\nallowance=100\nlocations=3\ndepot=0\nlegs=0,5,1\nlegs=1,0,5\nlegs=5,1,0\nlatest=4294967295,4294967295,0\nservice=0,0,0\nround=1,2\n",
+    );
+}
+
 // Service times that are too long, beside what comes before and behind them in the one order; and too few or too many of them.
 fn show_bad_service() {
     show_text(
@@ -152,6 +171,7 @@ fn main() {
     show_malformed_lists();
     show_judged();
     show_service();
+    show_late();
     show_bad_service();
     show_600_stops(b'0', b',');
     show_600_stops(b'1', b',');

@@ -1,5 +1,5 @@
 -- The text program from bytes to bytes: parse, refusals, polishing, printing.
-use mathlib.Core.Bool.{true, false, cond}
+use mathlib.Core.Bool.{Bool, true, false, cond}
 use mathlib.Core.List.{List}
 use mathlib.Core.Option.{Option, none, some}
 use mathlib.Core.Path.{_≡_}
@@ -7,20 +7,22 @@ use Prim.Native.Nat.{ℕ, _≤_}
 use lib.Dec.{eqb}
 use lib.ListN.{length, take}
 use Rattle.theory.specs.Scan.{Reply}
-use Rattle.theory.specs.Route.{Problem, tour-length}
+use Rattle.theory.specs.Route.{Problem, tour-length, late-position, timetable-of}
 use Rattle.theory.specs.Tables.{Tables, problem}
 use Rattle.theory.specs.Refusals.{refusal}
 use Rattle.theory.specs.Question.{Question, question-rules, asked}
 use Rattle.text_question.specs.Reading.{read}
 use Rattle.text_question.specs.Told.{Places}
+use Rattle.theory.specs.declared.Counts.{Counts}
 use Rattle.theory.specs.declared.Polished.{Polished}
 use Rattle.theory.specs.declared.Polished.the-variants as P
 use Rattle.text.specs.declared.Output.{Output}
 use Rattle.text_printing.specs.Answer.{answer-text, refusal-text}
 
--- The text of the scan's reply to a route.
+-- The text of the scan's reply to a route: the lowest late position is that of the route handed back.
 abbrev pub reply-text : Problem → List ℕ → Reply (List ℕ) → List ℕ
-reply-text P route r = answer-text (r .finished) (r .examined) (r .accepted) (tour-length P route) (tour-length P (r .route)) (r .route)
+reply-text P route r =
+    answer-text (r .finished) (r .examined) (r .accepted) (tour-length P route) (tour-length P (r .route)) (late-position (timetable-of P) (P .depot) (r .route)) (r .route)
 
 -- "A refusal prints only `refused=` and its number." 2 cannot apply to what a text holds.
 abbrev pub question-text : Question → List ℕ
@@ -38,9 +40,12 @@ program bytes = told (read bytes)
 -- ---- what the parts ask and give
 
 -- The text of polishing's answer with the route handed back.
+abbrev pub counts-text : (finished : Bool) → Counts → List ℕ → List ℕ
+counts-text finished c route = answer-text finished (c .examined) (c .accepted) (c .before) (c .after) (c .late) route
+
 abbrev pub polished-text : Polished → List ℕ → List ℕ
-polished-text (P.Finished c) route = answer-text true (c .examined) (c .accepted) (c .before) (c .after) route
-polished-text (P.Spent c) route = answer-text false (c .examined) (c .accepted) (c .before) (c .after) route
+polished-text (P.Finished c) route = counts-text true c route
+polished-text (P.Spent c) route = counts-text false c route
 
 -- Places for any answer.
 pub record Room (out : List ℕ) : Type 0 where

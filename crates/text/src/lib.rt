@@ -1,25 +1,27 @@
 // The text program's function from bytes to bytes: it reads a question, judges it, polishes it and prints the answer.
 use text_question::Reading;
+use theory::Counts;
 use theory::Polished;
 ghost use Rattle.theory.specs.Tables.{tables};
 ghost use Rattle.theory.specs.Question.{question};
-ghost use Rattle.text_printing.specs.Answer.{answer-text, Printed};
-ghost use Rattle.text.specs.Program.{program, question-text, polished-text, Room, Printable, Work, Shown};
+ghost use Rattle.text_printing.specs.Answer.{Printed};
+ghost use Rattle.text.specs.Program.{program, question-text, counts-text, polished-text, Room, Printable, Work, Shown};
 
 // Any answer has room.
-fn print_numbers(
-    finished: bool,
-    examined: u64,
-    accepted: u64,
-    before: u64,
-    after: u64,
-    route: &[u32],
-    out: &mut [u8],
-) -> usize
+fn print_counts(finished: bool, counts: Counts, route: &[u32], out: &mut [u8]) -> usize
     requires { ⌜ Printable (now route) (now out) ⌝ }
-    ensures { λ r. ⌜ Printed (answer-text finished examined accepted before after (now (route .entry))) (now (out .entry)) (now (out .exit)) r ⌝ }
+    ensures { λ r. ⌜ Printed (counts-text finished counts (now (route .entry))) (now (out .entry)) (now (out .exit)) r ⌝ }
 {
-    text_printing::print_answer(finished, examined, accepted, before, after, route, out)
+    text_printing::print_answer(
+        finished,
+        counts.examined,
+        counts.accepted,
+        counts.before,
+        counts.after,
+        counts.late,
+        route,
+        out,
+    )
 }
 
 fn print_polished(answer: Polished, route: &[u32], out: &mut [u8]) -> usize
@@ -27,12 +29,8 @@ fn print_polished(answer: Polished, route: &[u32], out: &mut [u8]) -> usize
     ensures { λ r. ⌜ Printed (polished-text answer (now (route .entry))) (now (out .entry)) (now (out .exit)) r ⌝ }
 {
     match answer {
-        Polished::Finished(c) => {
-            print_numbers(true, c.examined, c.accepted, c.before, c.after, route, out)
-        }
-        Polished::Spent(c) => {
-            print_numbers(false, c.examined, c.accepted, c.before, c.after, route, out)
-        }
+        Polished::Finished(counts) => print_counts(true, counts, route, out),
+        Polished::Spent(counts) => print_counts(false, counts, route, out),
     }
 }
 

@@ -1,14 +1,15 @@
 -- How long the printed texts are. Assumes nothing.
 use mathlib.Core.Path.{_≡_, ap, _∙_}
-use mathlib.Core.Bool.{Bool, true, false}
+use mathlib.Core.Bool.{Bool, true, false, cond}
 use mathlib.Core.List.{List, [], _∷_, _++_}
 use Prim.Native.Nat.{ℕ, suc, _+_, _*_, _^_, _≤_, _<_}
 use native.Mathlib.Omega.{arith}
+use lib.Dec.{eqb}
 use lib.ListN.{length, getD, length-append}
 use Rattle.text_decimal.specs.Decimal.{digits}
 use Rattle.text_decimal.specs.Text.{ascii, further, listed, line}
 use Rattle.text_decimal.proofs.Digits.{digits-length}
-use Rattle.text_printing.specs.Answer.{outcome, answer-text, refusal-text}
+use Rattle.text_printing.specs.Answer.{outcome, none-line, late-line, answer-text, refusal-text}
 
 further-length : (values : List ℕ) → ((i : ℕ) → getD values i 0 < 2 ^ 32) → length (further values) ≤ 11 * length values
 unfolding further
@@ -33,23 +34,33 @@ outcome-length : (finished : Bool) → length (outcome finished) ≤ 16
 outcome-length true = omega arith
 outcome-length false = omega arith
 
-pub answer-length : (finished : Bool) (examined accepted before after : ℕ) (route : List ℕ) →
-    examined < 2 ^ 64 → accepted < 2 ^ 64 → before < 2 ^ 64 → after < 2 ^ 64 → ((i : ℕ) → getD route i 0 < 2 ^ 32) → length route ≤ 512 →
-    length (answer-text finished examined accepted before after route) ≤ 6500
+late-length : (late : ℕ) (route : List ℕ) → late < 2 ^ 64 → length (late-line late route) ≤ 26
+unfolding late-line
+late-length late route h = by (eqb late (length route))
+  where
+    by : (none : Bool) → length (cond none none-line (line (ascii "late=") (late ∷ []))) ≤ 26
+    by true = omega arith
+    by false = omega (arith, value-length (ascii "late=") late h)
+
+pub answer-length : (finished : Bool) (examined accepted before after late : ℕ) (route : List ℕ) →
+    examined < 2 ^ 64 → accepted < 2 ^ 64 → before < 2 ^ 64 → after < 2 ^ 64 → late < 2 ^ 64 → ((i : ℕ) → getD route i 0 < 2 ^ 32) → length route ≤ 512 →
+    length (answer-text finished examined accepted before after late route) ≤ 6500
 unfolding answer-text
-answer-length finished examined accepted before after route he ha hb hf hr h =
+answer-length finished examined accepted before after late route he ha hb hf hl hr h =
     let e = line (ascii "examined=") (examined ∷ []) in
     let a = line (ascii "accepted=") (accepted ∷ []) in
     let b = line (ascii "before=") (before ∷ []) in
     let f = line (ascii "after=") (after ∷ []) in
     let r = line (ascii "round=") route in
+    let l = late-line late route in
     omega (
       arith,
-      length-append (outcome finished) (e ++ (a ++ (b ++ (f ++ r)))),
-      length-append e (a ++ (b ++ (f ++ r))),
-      length-append a (b ++ (f ++ r)),
-      length-append b (f ++ r),
-      length-append f r,
+      length-append (outcome finished) (e ++ (a ++ (b ++ (f ++ (r ++ l))))),
+      length-append e (a ++ (b ++ (f ++ (r ++ l)))),
+      length-append a (b ++ (f ++ (r ++ l))),
+      length-append b (f ++ (r ++ l)),
+      length-append f (r ++ l),
+      length-append r l,
       outcome-length finished,
       value-length (ascii "examined=") examined he,
       value-length (ascii "accepted=") accepted ha,
@@ -57,6 +68,7 @@ answer-length finished examined accepted before after route he ha hb hf hr h =
       value-length (ascii "after=") after hf,
       line-length (ascii "round=") route,
       listed-length route hr,
+      late-length late route hl,
     )
 
 pub refusal-length : (number : ℕ) → number < 2 ^ 64 → length (refusal-text number) ≤ 29

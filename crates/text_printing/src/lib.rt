@@ -3,7 +3,7 @@ use text_decimal::put_number;
 use text_decimal::put_text;
 ghost use mathlib.Core.List.{[], _∷_};
 ghost use Rattle.text_decimal.specs.Text.{further, listed, line, ascii, Room, Put};
-ghost use Rattle.text_printing.specs.Answer.{outcome, answer-text, refusal-text, Fits, Printed};
+ghost use Rattle.text_printing.specs.Answer.{outcome, late-line, answer-text, refusal-text, Fits, Printed};
 
 // Each number after a comma.
 fn put_further(values: &[u32], out: &mut [u8], at: usize) -> usize
@@ -63,6 +63,17 @@ fn put_outcome(finished: bool, out: &mut [u8], at: usize) -> usize
     put_text(b"answer=spent\n", out, at)
 }
 
+// The line of the lowest late position, for which the number of stops stands for none.
+fn put_late(late: u64, route: &[u32], out: &mut [u8], at: usize) -> usize
+    requires { ⌜ Room (late-line late (now route)) (now out) at ⌝ }
+    ensures { λ r. ⌜ Put (late-line late (now (route .entry))) (now (out .entry)) at (now (out .exit)) r ⌝ }
+{
+    if late == route.len() as u64 {
+        return put_text(b"late=none\n", out, at);
+    }
+    put_value(b"late=", late, out, at)
+}
+
 // The answer to a polished route; how many bytes it has.
 pub fn print_answer(
     finished: bool,
@@ -70,18 +81,20 @@ pub fn print_answer(
     accepted: u64,
     before: u64,
     after: u64,
+    late: u64,
     route: &[u32],
     out: &mut [u8],
 ) -> usize
-    requires { ⌜ Fits (answer-text finished examined accepted before after (now route)) (now out) ⌝ }
-    ensures { λ r. ⌜ Printed (answer-text finished examined accepted before after (now (route .entry))) (now (out .entry)) (now (out .exit)) r ⌝ }
+    requires { ⌜ Fits (answer-text finished examined accepted before after late (now route)) (now out) ⌝ }
+    ensures { λ r. ⌜ Printed (answer-text finished examined accepted before after late (now (route .entry))) (now (out .entry)) (now (out .exit)) r ⌝ }
 {
     let mut at = put_outcome(finished, out, 0);
     at = put_value(b"examined=", examined, out, at);
     at = put_value(b"accepted=", accepted, out, at);
     at = put_value(b"before=", before, out, at);
     at = put_value(b"after=", after, out, at);
-    put_route(route, out, at)
+    at = put_route(route, out, at);
+    put_late(late, route, out, at)
 }
 
 // The answer to a text that is refused; how many bytes it has.

@@ -1,6 +1,12 @@
 -- `mittenschist::mittenschist_route_feasible` meets its contract. Assumes nothing.
+use mathlib.Core.Path.{refl}
+use lib.ListN.{length}
 use Rattle.theory.specs.Tables.{Trip, trip}
-use Rattle.mittenschist.proofs.FeasibleReply.{handed-written}
+use Rattle.theory.specs.Refusals.{problem-rules}
+use Rattle.theory.specs.Answers.{feasibility-answer}
+use Rattle.theory.proofs.LastRule.{early}
+use Rattle.mittenschist.specs.Promises.{late-values}
+use Rattle.mittenschist.proofs.Written.{answer-written}
 use borrow.Author.Needs.{needs}
 use Rattle.mittenschist.proofs.mittenschist_route_feasible.Statement.{statement}
 use Rattle.mittenschist.proofs.mittenschist_route_feasible.Tie as tie
@@ -18,10 +24,11 @@ same-length : tie.Need-same-length
 same-length c = search needs
 
 returns : tie.Need-returns
+unfolding early
 returns c =
     let a = c .before .before .before .before .route-feasible in
     let s = c .before .before .before .before .before .before .before .before .before .before in
-    handed-written (trip-at s) (s .args .route .now) (s .args .result .now) (a .result) (a .ensures) _ _ (c .before .before .put-feasibility .ensures)
+    answer-written (problem-rules (trip-at s) (s .args .route .now)) refl (late-values (trip-at s) (s .args .route .now)) (s .args .result .now) _ _ (feasibility-answer (length (s .args .route .now)) (a .result)) (a .ensures .reply-is) (c .before .before .put-feasibility .ensures)
 
 pub mittenschist-route-feasible-spec : {M : Type 1} → statement M
 mittenschist-route-feasible-spec =
