@@ -52,8 +52,10 @@ enum {
  *                    the start, and each visit counts. Lengths are legs alone
  *   depot            a location
  *   route   written  the stops, at most 512, which may repeat and may be the depot; as before where nothing was accepted
- *   result  written  5 places: 0 finished or 1 spent, candidates examined, candidates accepted, length before, length after
- * Refuses 1, 2, 3, 23, 4, 5, 21 (result under 5 places). */
+ *   result  written  6 places: 0 finished or 1 spent, candidates examined, candidates accepted, length before, length after, and the lowest
+ *                    position, from 0, whose stop is late in the route handed back, or the number of stops where none is late. A late
+ *                    stop is told only where nothing was accepted
+ * Refuses 1, 2, 3, 23, 4, 5, 21 (result under 6 places). */
 uint32_t mittenschist_polish_route(size_t k, uint64_t allowance, size_t locations,
     const uint32_t *legs, size_t legs_len, const uint32_t *latest, size_t latest_len, const uint32_t *service, size_t service_len,
     uint32_t depot, uint32_t *route, size_t route_len, uint64_t *result, size_t result_len);
@@ -148,7 +150,7 @@ uint32_t mittenschist_delta(size_t k, size_t pattern, const size_t *cuts, size_t
 
 /* Whether a route keeps every deadline.
  *   legs, latest, service, depot, route  read     as for polishing
- *   result                               written  1 place: the position of a late stop (which one is free), or n where none is late
+ *   result                               written  1 place: the lowest position, from 0, whose stop is late, or n where none is late
  * Refuses 2, 3, 23, 4, 5, 21. */
 uint32_t mittenschist_route_feasible(size_t locations, const uint32_t *legs, size_t legs_len, const uint32_t *latest, size_t latest_len,
     const uint32_t *service, size_t service_len, uint32_t depot, const uint32_t *route, size_t route_len, uint64_t *result, size_t result_len);

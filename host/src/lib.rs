@@ -15,6 +15,8 @@
 //! assert_eq!(route, [2, 1]);
 //! assert_eq!((polished.before, polished.after), (15, 3));
 //! assert_eq!((polished.ending, polished.examined), (Ending::Finished, 11));
+//! // No stop is late.
+//! assert_eq!(polished.late, None);
 //! # Ok::<(), mittenschist::Refusal>(())
 //! ```
 

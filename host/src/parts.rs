@@ -1,6 +1,6 @@
 //! The parts of polishing, each by itself.
 
-use crate::unknown::{unknown, yes};
+use crate::unknown::{late_position, yes};
 use crate::{raw, Refusal, Tables};
 
 /// A pattern: how the k + 1 segments between k cuts are put together again.
@@ -119,23 +119,12 @@ pub fn delta(
 pub enum Deadline {
     /// No stop is late.
     Kept,
-    /// The stop at this position is late; which of several is free.
+    /// The stop at this position is late, and none before it.
     Late(usize),
 }
 
-impl Deadline {
-    /// The number of stops stands for kept.
-    fn of(position: u64, stops: usize) -> Self {
-        match position as usize {
-            late if late < stops => Self::Late(late),
-            kept if kept == stops => Self::Kept,
-            _ => unknown("late position", position),
-        }
-    }
-}
-
-/// Whether a route keeps every deadline: the legs up to a stop plus the service of the stops before it do not exceed its latest. A stop's own
-/// service does not count, nor the depot's at the start; each visit counts. Refuses 2, 3, 23, 4, 5.
+/// Whether a route keeps every deadline, and if not, which of its stops is the first that is late: the legs up to it plus the service of the stops
+/// before it exceed its latest. Its own service does not count, nor the depot's at the start; each visit counts. Refuses 2, 3, 23, 4, 5.
 ///
 /// ```
 /// use mittenschist::{route_feasible, Deadline, Tables};
@@ -144,6 +133,8 @@ impl Deadline {
 /// assert_eq!(route_feasible(&tables, 0, &[1])?, Deadline::Kept);
 /// // 1 second to the first visit, 10 there and 1 to the second.
 /// assert_eq!(route_feasible(&tables, 0, &[1, 1])?, Deadline::Late(1));
+/// // The third visit is late too.
+/// assert_eq!(route_feasible(&tables, 0, &[1, 1, 1])?, Deadline::Late(1));
 /// # Ok::<(), mittenschist::Refusal>(())
 /// ```
 pub fn route_feasible(tables: &Tables, depot: u32, route: &[u32]) -> Result<Deadline, Refusal> {
@@ -157,22 +148,6 @@ pub fn route_feasible(tables: &Tables, depot: u32, route: &[u32]) -> Result<Dead
         route,
         &mut result,
     ))?;
-    Ok(Deadline::of(result[0], route.len()))
-}
-
-#[cfg(test)]
-mod tests {
-    use super::Deadline;
-
-    #[test]
-    fn late_below_the_number_of_stops() {
-        let told = [0, 1, 2].map(|position| Deadline::of(position, 2));
-        assert_eq!(told, [Deadline::Late(0), Deadline::Late(1), Deadline::Kept]);
-    }
-
-    #[test]
-    #[should_panic(expected = "the archive is of another version")]
-    fn no_position() {
-        Deadline::of(3, 2);
-    }
+    let late = late_position(result[0], route.len());
+    Ok(late.map_or(Deadline::Kept, Deadline::Late))
 }

@@ -1,4 +1,4 @@
-use crate::unknown::unknown;
+use crate::unknown::{late_position, unknown};
 use crate::{raw, Refusal, Tables};
 
 /// How a search ended.
@@ -33,6 +33,9 @@ pub struct Polished {
     pub before: u64,
     /// Seconds of the route handed back.
     pub after: u64,
+    /// The position, from 0, of the first stop that is late in the route handed back. Only a route as it was handed in can have one: where
+    /// something was accepted, no stop is late.
+    pub late: Option<usize>,
 }
 
 impl Polished {
@@ -57,6 +60,11 @@ impl Polished {
 /// let polished = polish_route(3, 10, &tables, 0, &mut route)?;
 /// assert_eq!(polished.ending, Ending::Spent);
 /// assert_eq!((polished.saved(), route), (12, [2, 1]));
+/// assert_eq!(polished.late, None);
+///
+/// // Location 1, now the second stop, is reached at second 2, and no order is shorter.
+/// let hurried = Tables { latest: &[u32::MAX, 1, u32::MAX], ..tables };
+/// assert_eq!(polish_route(3, 10, &hurried, 0, &mut route)?.late, Some(1));
 ///
 /// assert_eq!(polish_route(3, 10, &tables, 3, &mut route), Err(Refusal::UnknownStop));
 /// let short = Tables { service: &[0; 2], ..tables };
@@ -70,7 +78,8 @@ pub fn polish_route(
     depot: u32,
     route: &mut [u32],
 ) -> Result<Polished, Refusal> {
-    let mut result = [0; 5];
+    // No number of stops: an archive that writes five numbers is told by it.
+    let mut result = [u64::MAX; 6];
     Refusal::check(raw::polish_route(
         k,
         allowance,
@@ -82,13 +91,14 @@ pub fn polish_route(
         route,
         &mut result,
     ))?;
-    let [ending, examined, accepted, before, after] = result;
+    let [ending, examined, accepted, before, after, late] = result;
     Ok(Polished {
         ending: Ending::of(ending),
         examined,
         accepted,
         before,
         after,
+        late: late_position(late, route.len()),
     })
 }
 

@@ -149,7 +149,7 @@ extern "C" {
 }
 
 /// Polishes `route`. The result begins with 0 finished or 1 spent, candidates examined, candidates accepted, length before, length
-/// after.
+/// after, and the lowest late position of the route handed back, or the number of its stops if none is late.
 #[must_use]
 #[allow(clippy::too_many_arguments)]
 pub fn polish_route(
@@ -422,7 +422,7 @@ pub fn delta(
     }
 }
 
-/// The result begins with a late position, or the number of stops if none is late.
+/// The result begins with the lowest late position, or the number of stops if none is late.
 #[must_use]
 pub fn route_feasible(
     locations: usize,

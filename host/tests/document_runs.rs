@@ -1,4 +1,5 @@
-//! The runs of document 01, with no service times, and runs with them, by the safe functions, with canaries around what is lent.
+//! The runs of document 01, with no service times, and runs with them and with late stops, by the safe functions, with canaries around what is
+//! lent.
 
 #![forbid(unsafe_code)]
 
@@ -31,18 +32,27 @@ fn served_text_case(
     service_of_2: u32,
 ) -> (Polished, Vec<u64>) {
     let latest = [NO_DEADLINE, latest_of_1, NO_DEADLINE];
-    let service = [0, 0, service_of_2];
+    timed_text_case(k, allowance, &latest, &[0, 0, service_of_2])
+}
+
+fn timed_text_case(
+    k: usize,
+    allowance: u64,
+    latest: &[u32],
+    service: &[u32],
+) -> (Polished, Vec<u64>) {
     let tables = Tables {
         locations: 3,
         legs: &TEXT_LEGS,
-        latest: &latest,
-        service: &service,
+        latest,
+        service,
     };
     let mut route = Lent::new("route", &[1, 2]);
     let polished = polish_route(k, allowance, &tables, 0, route.slice()).unwrap();
     (polished, written(&route))
 }
 
+/// No stop is late.
 fn polished(ending: Ending, examined: u64, accepted: u64, after: u64) -> Polished {
     Polished {
         ending,
@@ -50,17 +60,56 @@ fn polished(ending: Ending, examined: u64, accepted: u64, after: u64) -> Polishe
         accepted,
         before: 15,
         after,
+        late: None,
     }
+}
+
+/// As it was handed in, with a late stop.
+fn unchanged(ending: Ending, examined: u64, late: usize) -> (Polished, Vec<u64>) {
+    let late = Some(late);
+    let kept = polished(ending, examined, 0, 15);
+    (Polished { late, ..kept }, vec![1, 2])
 }
 
 #[test]
 fn the_text_case() {
     let changed = (polished(Ending::Finished, 11, 1, 3), vec![2, 1]);
-    let unchanged = (polished(Ending::Finished, 7, 0, 15), vec![1, 2]);
     assert_eq!(text_case(3, 100, NO_DEADLINE), changed);
     assert_eq!(text_case(3, 11, NO_DEADLINE), changed);
     assert_eq!(text_case(3, u64::MAX, 2), changed);
-    assert_eq!(text_case(3, 100, 1), unchanged);
+    // Location 1 is reached at second 5, or 2 in the better order.
+    let late = unchanged(Ending::Finished, 7, 0);
+    assert_eq!(text_case(3, 100, 1), late);
+}
+
+/// The first of the late stops is told, of the route handed back: also where no cut set is left or none was examined.
+#[test]
+fn the_text_case_with_late_stops() {
+    let late = |k, allowance, latest_of_1, latest_of_2| {
+        let latest = [NO_DEADLINE, latest_of_1, latest_of_2];
+        timed_text_case(k, allowance, &latest, &[0; 3])
+    };
+    let finished = |examined, late| unchanged(Ending::Finished, examined, late);
+    assert_eq!(late(3, 100, 0, 0), finished(7, 0));
+    assert_eq!(late(3, 100, NO_DEADLINE, 0), finished(7, 1));
+    assert_eq!(late(4, 100, NO_DEADLINE, 0), finished(0, 1));
+    assert_eq!(late(3, 0, 0, 0), unchanged(Ending::Spent, 0, 0));
+    assert_eq!(late(3, 3, 4, 9), unchanged(Ending::Spent, 3, 0));
+    // What is accepted mends it.
+    let mended = (polished(Ending::Spent, 4, 1, 3), vec![2, 1]);
+    assert_eq!(late(3, 4, 4, 9), mended);
+}
+
+/// An empty route has no late stop, and a number of stops of 0.
+#[test]
+fn nothing_late_of_nothing() {
+    let tables = Tables::without_service(1, &[7], &[0]);
+    for k in 2..=5 {
+        let polished = polish_route(k, 9, &tables, 0, &mut []).unwrap();
+        assert_eq!((polished.late, polished.before), (None, 7));
+        let polished = polish_route(k, 9, &tables, 0, &mut [0, 0]).unwrap();
+        assert_eq!((polished.late, polished.before), (Some(0), 21));
+    }
 }
 
 /// The better order reaches location 1 after 2 seconds of legs and what is spent at location 2.
@@ -68,6 +117,7 @@ fn the_text_case() {
 fn the_text_case_with_service() {
     let changed = (polished(Ending::Finished, 11, 1, 3), vec![2, 1]);
     let unchanged = (polished(Ending::Finished, 7, 0, 15), vec![1, 2]);
+    // In time as it was handed in: location 1 is reached at second 5.
     assert_eq!(served_text_case(3, 100, 11, 10), unchanged);
     assert_eq!(served_text_case(3, 100, 12, 10), changed);
     assert_eq!(served_text_case(3, 100, NO_DEADLINE, 1_000_000), changed);
@@ -89,6 +139,8 @@ fn which_service_counts() {
     assert_eq!(check(1, &[1]), Deadline::Kept);
     assert_eq!(check(0, &[1]), Deadline::Late(0));
     assert_eq!(check(11, &[1, 1]), Deadline::Late(1));
+    assert_eq!(check(11, &[1, 1, 1]), Deadline::Late(1));
+    assert_eq!(check(0, &[0, 1, 1]), Deadline::Late(1));
     assert_eq!(check(12, &[1, 1]), Deadline::Kept);
     assert_eq!(check(6, &[0, 1]), Deadline::Late(1));
     assert_eq!(check(7, &[0, 1]), Deadline::Kept);

@@ -1,5 +1,6 @@
 // Replays the stored answers of the unchanged Rust on polishing, the run and nearby cuts: the file stdout beside src/ is written from them by
 // tools/store-answers, and this program prints what the library answers for the same questions, which both draw by the rule of crate replay_drawing.
+// Of polishing's late position the Rust knows only yes or no: it is stored by the definition.
 
 fn write(line: &[u8]) {
     let _ = io::write_all(1, line);
@@ -111,7 +112,7 @@ fn show_nearby(seed: u16) {
 fn show_nine(seed: u16) {
     let k = replay_drawing::cuts_of(seed);
     let stay = service_of(seed) as u32;
-    show_polish(seed, k, 10, 0, stay, 0, &mut [0u32; 9], &mut [9u64; 6]);
+    show_polish(seed, k, 10, 0, stay, 0, &mut [0u32; 9], &mut [9u64; 7]);
 }
 
 fn show_five(seed: u16, k: usize, locations: usize, leg: u32, stay: u32, depot: u32) {
@@ -123,12 +124,12 @@ fn show_five(seed: u16, k: usize, locations: usize, leg: u32, stay: u32, depot: 
         stay,
         depot,
         &mut [0u32; 5],
-        &mut [9u64; 6],
+        &mut [9u64; 7],
     );
 }
 
 fn show_short_result() {
-    show_polish(1, 3, 10, 0, 0, 0, &mut [0u32; 5], &mut [9u64; 4]);
+    show_polish(1, 3, 10, 0, 0, 0, &mut [0u32; 5], &mut [9u64; 5]);
 }
 
 fn show(seed: u16) {

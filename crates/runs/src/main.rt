@@ -9,7 +9,7 @@ fn put_byte(n: u8, line: &mut [u8], at: usize) -> usize {
     replay_lines::put_number(b"", n as u64, line, at)
 }
 
-// A line of a polishing: its refusal number, its result with the places lent beyond the five, and the stops that it left.
+// A line of a polishing: its refusal number, its result with the place lent beyond the six, and the stops that it left.
 fn show_polished(refused: u32, result: &[u64], stops: &[u32]) {
     let mut line = [0u8; 1024];
     let number = replay_lines::put_number(b"polish ", refused as u64, &mut line, 0);
@@ -61,10 +61,10 @@ fn show_cut_sets(k: usize, cuts: &mut [usize]) {
     write(&line[..end]);
 }
 
-// The text case T with another k, allowance, longest leg, deadline of location 1 or service of location 2.
-fn show_t(k: usize, allowance: u64, leg: u32, latest: u32, service: u32) {
+// The text case T with another k, allowance, longest leg, deadlines of locations 1 and 2, or service of location 2.
+fn show_timed(k: usize, allowance: u64, leg: u32, first: u32, second: u32, service: u32) {
     let legs = [0u32, leg, 1, 1, 0, 5, 5, 1, 0];
-    let deadlines = [4294967295u32, latest, 4294967295];
+    let deadlines = [4294967295u32, first, second];
     let services = [0u32, 0, service];
     let mut route = [1u32, 2];
     let mut result = [9u64; 7];
@@ -80,6 +80,16 @@ fn show_t(k: usize, allowance: u64, leg: u32, latest: u32, service: u32) {
         &mut result,
     );
     show_polished(refused, &result, &route);
+}
+
+// With no deadline of location 2.
+fn show_t(k: usize, allowance: u64, leg: u32, latest: u32, service: u32) {
+    show_timed(k, allowance, leg, latest, 4294967295, service);
+}
+
+// T with late stops.
+fn show_late(k: usize, allowance: u64, first: u32, second: u32) {
+    show_timed(k, allowance, 5, first, second, 0);
 }
 
 // A route of one location, as long as the slice.
@@ -140,6 +150,17 @@ fn show_service() {
     show_t(3, 100, 5, 12, 10);
 }
 
+// with stops that are late when they are handed in: both, the second one, also where there is no cut set or nothing was examined, and the first
+// one until it is mended,
+fn show_late_stops() {
+    show_late(3, 100, 0, 0);
+    show_late(3, 100, 4294967295, 0);
+    show_late(4, 100, 4294967295, 0);
+    show_late(3, 0, 0, 0);
+    show_late(3, 3, 4, 4294967295);
+    show_late(3, 4, 4, 4294967295);
+}
+
 // and at other bounds.
 fn show_bounds() {
     show_t(4, 0, 5, 4294967295, 0);
@@ -158,5 +179,6 @@ fn main() {
     show_cut_set_counts();
     show_starred();
     show_service();
+    show_late_stops();
     show_bounds();
 }

@@ -173,7 +173,8 @@ static uint64_t mixed(uint64_t sum, uint64_t value) {
     return (sum ^ value) * 1099511628211u;
 }
 
-/* One number for the reply: what is written of the result in every version, then the stops or sets. */
+/* One number for the reply: what is written of the result in every version, of polishing the five numbers before the late position; then
+ * the stops or sets. */
 static uint64_t reply(size_t places) {
     uint64_t sum = 14695981039346656037u;
     for (size_t i = 0; i < places; i++) sum = mixed(sum, result[i]);

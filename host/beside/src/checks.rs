@@ -1,8 +1,8 @@
-//! The oracle itself, on the runs of document 01 whose numbers it gives, and on the text case with a time spent at a stop.
+//! The oracle itself, on the runs of document 01 whose numbers it gives, and on the text case with a time spent at a stop and with late stops.
 
 use crate::cases::polish::Case;
 use crate::nearby::document_case as nearby_case;
-use crate::polish::bounds::{served_text_case, text_case};
+use crate::polish::bounds::{late_text_case, served_text_case, text_case};
 use crate::run::document_case as pair_case;
 use crate::trial::Trial;
 use crate::{oracle, trial::Reply};
@@ -12,7 +12,7 @@ pub fn fault() -> Option<String> {
     let checks = [
         (
             "the text case",
-            text(text_case(100)) == ([0, 11, 1, 15, 3], vec![2, 1]),
+            text(text_case(100)) == ([0, 11, 1, 15, 3, 2], vec![2, 1]),
         ),
         (
             "the text case, allowance 10",
@@ -20,11 +20,19 @@ pub fn fault() -> Option<String> {
         ),
         (
             "the text case, 10 seconds at 2 and 1 due at 11",
-            text(served_text_case(11, 10)) == ([0, 7, 0, 15, 15], vec![1, 2]),
+            text(served_text_case(11, 10)) == ([0, 7, 0, 15, 15, 2], vec![1, 2]),
         ),
         (
             "the text case, 10 seconds at 2 and 1 due at 12",
-            text(served_text_case(12, 10)) == ([0, 11, 1, 15, 3], vec![2, 1]),
+            text(served_text_case(12, 10)) == ([0, 11, 1, 15, 3, 2], vec![2, 1]),
+        ),
+        (
+            "the text case, 1 and 2 due at 0",
+            text(late_text_case(0, 0)) == ([0, 7, 0, 15, 15, 0], vec![1, 2]),
+        ),
+        (
+            "the text case, 2 due at 0",
+            text(late_text_case(u32::MAX, 0)) == ([0, 7, 0, 15, 15, 1], vec![1, 2]),
         ),
         ("the pair loop", pair_loop()),
         ("nearby, one nearer", nearby(true) == [1, 3, 4, 2, 3, 4]),
@@ -45,9 +53,9 @@ pub fn fault() -> Option<String> {
     wrong.map(|check| String::from(check.0))
 }
 
-fn text(case: Case) -> ([u64; 5], Vec<u64>) {
+fn text(case: Case) -> ([u64; 6], Vec<u64>) {
     let Reply { lent, .. } = case.expected();
-    let mut numbers = [0; 5];
+    let mut numbers = [0; 6];
     numbers.copy_from_slice(&lent[1].1);
     (numbers, lent[0].1.clone())
 }

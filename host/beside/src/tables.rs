@@ -58,10 +58,16 @@ impl Tables {
     }
 
     /// For each position of a route, whether its stop is late: it is reached after its latest.
-    pub fn late(&self, depot: u32, route: &[u32]) -> Vec<bool> {
+    fn late(&self, depot: u32, route: &[u32]) -> Vec<bool> {
         let arrivals = self.arrivals(depot, route);
         let late = |(seconds, &stop): (u64, &u32)| seconds > u64::from(self.latest[stop as usize]);
         arrivals.into_iter().zip(route).map(late).collect()
+    }
+
+    /// The lowest position whose stop is late, or the number of stops. The Rust knows only whether there is one.
+    pub fn late_position(&self, depot: u32, route: &[u32]) -> u64 {
+        let late = self.late(depot, route);
+        late.iter().position(|&late| late).unwrap_or(late.len()) as u64
     }
 
     /// 2, of the legs alone: locations outside 1 to 1,024, or a table of another size.

@@ -43,10 +43,6 @@ pub trait Trial: Display + Sync {
     /// The library's reply; an error if it wrote where it must not.
     fn given(&self) -> Result<Reply, String>;
 
-    fn agree(&self, expected: &Reply, given: &Reply) -> bool {
-        expected == given
-    }
-
     /// Under what an answer is counted.
     fn kind(&self, _expected: &Reply) -> &'static str {
         "answered"
@@ -105,7 +101,7 @@ pub fn judge(trial: &dyn Trial, small_stack: bool) -> (Reply, Option<String>) {
     };
     let difference = match given {
         Err(fault) => Some(fault),
-        Ok(given) if trial.agree(&expected, &given) => None,
+        Ok(given) if given == expected => None,
         Ok(given) => Some(told(&expected, &given)),
     };
     (expected, difference)

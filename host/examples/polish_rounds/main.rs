@@ -1,6 +1,7 @@
-//! cargo run --release --example polish_rounds [--jobs N] FILE: polishes each round of a file and says what was saved, a line for each round
-//! as it is done. The file has the form of the text program, with any number of lines `round=` at its end; see rounds.txt beside this
-//! file. Each round has the whole allowance. Exit 1 if the file is not of the form or a round is refused, 2 if the words are not understood.
+//! cargo run --release --example polish_rounds [--jobs N] FILE: polishes each round of a file and says what was saved, and which stop is late
+//! if one is, a line for each round as it is done. The file has the form of the text program, with any number of lines `round=` at its
+//! end; see rounds.txt beside this file. Each round has the whole allowance. Exit 1 if the file is not of the form or a round is refused,
+//! 2 if the words are not understood.
 
 #![forbid(unsafe_code)]
 
@@ -49,17 +50,29 @@ fn tell_all(question: &Question, jobs: usize, tell: &mut dyn FnMut(String)) -> b
     let mut total = Total::default();
     polish_all(question, jobs, |outcome| {
         total.add(&outcome);
-        tell(format!("round {}: {}", total.rounds, told(outcome)));
+        let line = told(question, outcome);
+        tell(format!("round {}: {line}", total.rounds));
     });
     tell(total.told());
     total.refused > 0
 }
 
-fn told(outcome: Outcome) -> String {
+fn told(question: &Question, outcome: Outcome) -> String {
     match outcome {
-        Ok((polished, route)) => told_polished(&polished, &route),
+        Ok((polished, route)) => {
+            let late = polished.late.map(|at| told_late(question, &route, at));
+            told_polished(&polished, &route) + &late.unwrap_or_default()
+        }
         Err(refusal) => format!("refused ({}): {refusal}", refusal.number()),
     }
+}
+
+/// Whom to ring: the first stop that is late, counted from 1 as a person counts, when it is reached and when it was due.
+fn told_late(question: &Question, route: &[u32], at: usize) -> String {
+    let (number, stop) = (at + 1, route[at]);
+    let reached = question.reached(&route[..=at]);
+    let due = question.latest[stop as usize];
+    format!("; stop {number}, location {stop}, is the first that is late: reached at second {reached}, due by second {due}")
 }
 
 fn told_polished(polished: &Polished, route: &[u32]) -> String {
@@ -127,7 +140,8 @@ mod tests {
     fn the_file_beside_this_one() {
         let wanted = [
             "round 1: 23 s before, 5 s after, 18 s saved; finished after 74 candidates; order 2,1,3,4",
-            "round 2: 5 s before, 5 s after, 0 s saved; finished after 70 candidates; order 4,3,1,2",
+            "round 2: 5 s before, 5 s after, 0 s saved; finished after 70 candidates; order 4,3,1,2; \
+             stop 2, location 3, is the first that is late: reached at second 32, due by second 20",
             "round 3: 7 s before, 7 s after, 0 s saved; finished after 7 candidates; order 3,4",
             "3 rounds: 35 s before, 17 s after, 18 s saved in all",
         ];
@@ -147,6 +161,24 @@ mod tests {
         ];
         let (told, refused) = lines(text, 1);
         assert_eq!((&told[..], refused), (&wanted.map(String::from)[..], true));
+    }
+
+    /// The first round is late as it is written and is mended. What is spent at a stop delays the next one, not itself; the depot's time counts
+    /// where it is a stop. The last stop of the second round is late too.
+    #[test]
+    fn the_first_late_stop_and_when_it_is_reached() {
+        let text = "k=3\nallowance=9\nlocations=3\ndepot=0\nlegs=0,5,1\nlegs=1,0,5\nlegs=5,1,0\nlatest=9,5,9\nservice=7,20,0\nround=1,2\nround=1,2,1\nround=0,1\n";
+        let (told, _) = lines(text, 1);
+        let late = |line: &String| line.split_once("; stop ").map(|parts| parts.1.to_string());
+        let late: Vec<_> = told.iter().map(late).collect();
+        let first = "is the first that is late: reached at second";
+        let wanted = [
+            None,
+            Some(format!("2, location 2, {first} 30, due by second 9")),
+            Some(format!("2, location 1, {first} 12, due by second 5")),
+            None,
+        ];
+        assert_eq!(late, wanted);
     }
 
     /// Rounds of very different lengths, so that later ones are done first.

@@ -3,7 +3,7 @@
 /// What is printed for `--help`, and after a word that is not understood.
 pub const USAGE: &str = "\
 usage: polish_rounds [--jobs N] FILE
-Polishes each round of a file and says what was saved, a line for each round in the file's order.
+Polishes each round of a file and says what was saved and which stop is the first that is late, a line for each round in the file's order.
 FILE has the lines k=, allowance=, locations=, depot=, a line legs= for each location, latest=, service=, and then any number of lines round=.
 Each round has the whole allowance. With --jobs N, N rounds are polished at a time.";
 

@@ -85,6 +85,20 @@ impl Question {
             rounds: rounds(&mut reader)?,
         })
     }
+
+    /// When the last of these stops is reached, by the legs up to it and the service at the stops before it. For stops that the library
+    /// has taken.
+    pub fn reached(&self, stops: &[u32]) -> u64 {
+        let from = [self.depot].into_iter().chain(stops.iter().copied());
+        let legs = from.zip(stops).map(|(from, &to)| self.leg(from, to));
+        let before = stops.iter().rev().skip(1);
+        let service = before.map(|&stop| self.service[stop as usize]);
+        legs.chain(service).map(u64::from).sum()
+    }
+
+    fn leg(&self, from: u32, to: u32) -> u32 {
+        self.legs[from as usize * self.locations + to as usize]
+    }
 }
 
 fn rounds(reader: &mut Reader) -> Result<Vec<Vec<u32>>, String> {

@@ -11,7 +11,7 @@ const SERVICE: [u32; 1] = [3];
 
 #[test]
 fn polish_an_empty_route() {
-    let mut result = [9; 5];
+    let mut result = [9; 6];
     // SAFETY: as said above.
     let returned = unsafe {
         mittenschist_polish_route(
@@ -28,10 +28,10 @@ fn polish_an_empty_route() {
             null_mut(),
             0,
             result.as_mut_ptr(),
-            5,
+            6,
         )
     };
-    assert_eq!((returned, result), (0, [0, 0, 0, 7, 7]));
+    assert_eq!((returned, result), (0, [0, 0, 0, 7, 7, 0]));
 }
 
 #[test]
@@ -61,7 +61,7 @@ fn polish_nothing() {
 
 #[test]
 fn no_service() {
-    let mut result = [9; 5];
+    let mut result = [9; 6];
     // SAFETY: as said above.
     let returned = unsafe {
         mittenschist_polish_route(
@@ -78,10 +78,10 @@ fn no_service() {
             null_mut(),
             0,
             result.as_mut_ptr(),
-            5,
+            6,
         )
     };
-    assert_eq!((returned, result), (23, [9; 5]));
+    assert_eq!((returned, result), (23, [9; 6]));
 }
 
 #[test]

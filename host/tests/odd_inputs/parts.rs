@@ -1,8 +1,8 @@
 use crate::pools::{self, Tables};
 use crate::support::lent::{filled, filled_u32, Lent};
 use crate::support::rules::{bad_cuts, bad_k, bad_pattern, first_refusal, too_many_stops};
-use crate::support::{kept, kept_beyond, number, on_small_stack};
-use mittenschist::raw;
+use crate::support::{kept, kept_beyond, number, on_small_stack, written};
+use mittenschist::{raw, Deadline};
 
 fn every_pattern() {
     for k in pools::CUT_COUNTS {
@@ -174,9 +174,19 @@ fn check_deadlines(tables: &Tables, depot: u32, stops: &[u32]) {
         kept(&service);
         kept(&route);
         kept_beyond(&result, &before, usize::from(returned == 0));
+        if returned == 0 {
+            assert_eq!(written(&result)[0], tables.late_position(depot, stops));
+        }
     }
     let answer = mittenschist::route_feasible(&tables.lent(), depot, stops);
     assert_eq!(number(answer), first_refusal(&rules));
+    if let Ok(told) = answer {
+        let position = match told {
+            Deadline::Late(position) => position,
+            Deadline::Kept => stops.len(),
+        };
+        assert_eq!(position as u64, tables.late_position(depot, stops));
+    }
 }
 
 fn check_deltas(tables: &Tables, depot: u32, route: &[u32]) {

@@ -4,6 +4,9 @@ use crate::support::rules::{bad_k, first_refusal, too_many_stops};
 use crate::support::{kept, kept_beyond, number, on_small_stack, written};
 use mittenschist::raw;
 
+/// What the result receives.
+const PLACES: usize = 6;
+
 struct Case<'c> {
     k: usize,
     allowance: u64,
@@ -22,7 +25,7 @@ impl Case<'_> {
             (23, self.tables.bad_service()),
             (4, self.tables.unknown(&[self.depot], self.route)),
             (5, too_many_stops(self.route.len())),
-            (21, room < 5),
+            (21, room < PLACES),
         ])
     }
 
@@ -52,17 +55,19 @@ impl Case<'_> {
             kept(&route);
             return kept(&result);
         }
-        kept_beyond(&result, &before, 5);
-        self.check_reply(&written(&result), &written(&route));
+        kept_beyond(&result, &before, PLACES);
+        written(&route);
+        self.check_reply(&written(&result), route.slice());
     }
 
-    fn check_reply(&self, result: &[u64], route: &[u64]) {
+    fn check_reply(&self, result: &[u64], route: &[u32]) {
         assert!(result[0] < 2 && result[1] <= self.allowance && result[2] <= result[1]);
         assert!(result[0] == 0 || result[1] == self.allowance);
         assert_eq!(result[2] == 0, result[3] == result[4]);
         assert!(result[4] <= result[3]);
-        let mut stops = route.to_vec();
-        let mut handed_in: Vec<u64> = self.route.iter().map(|&stop| u64::from(stop)).collect();
+        assert_eq!(result[5], self.tables.late_position(self.depot, route));
+        assert!(result[2] == 0 || result[5] == route.len() as u64);
+        let (mut stops, mut handed_in) = (route.to_vec(), self.route.to_vec());
         assert!(result[2] > 0 || stops == handed_in);
         stops.sort_unstable();
         handed_in.sort_unstable();
@@ -74,9 +79,13 @@ impl Case<'_> {
         let (tables, depot) = (self.tables.lent(), self.depot);
         let answer =
             mittenschist::polish_route(self.k, self.allowance, &tables, depot, route.slice());
-        assert_eq!(number(answer), self.refusal(5));
+        assert_eq!(number(answer), self.refusal(PLACES));
         match answer {
-            Ok(polished) => assert_eq!(polished.accepted == 0, polished.saved() == 0),
+            Ok(polished) => {
+                assert_eq!(polished.accepted == 0, polished.saved() == 0);
+                let late = self.tables.late_position(depot, route.slice());
+                assert_eq!(polished.late.unwrap_or(self.route.len()) as u64, late);
+            }
             Err(_) => kept(&route),
         }
     }
@@ -86,7 +95,7 @@ fn every_route(k: usize, tables: &Tables) {
     for route in &pools::routes() {
         let allowance = if route.len() < 3 { u64::MAX } else { 9 };
         for depot in pools::PLACES {
-            for (allowance, room) in [(allowance, 0), (0, 4), (0, 5), (1, 5), (allowance, 7)] {
+            for (allowance, room) in [(allowance, 0), (0, 5), (0, 6), (1, 6), (allowance, 8)] {
                 let case = Case {
                     k,
                     allowance,

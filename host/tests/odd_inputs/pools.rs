@@ -64,6 +64,20 @@ impl Tables {
         self.service.len() != self.locations || self.service.iter().any(long)
     }
 
+    /// The lowest position whose stop is late, or the number of stops; of a route that is not refused.
+    pub fn late_position(&self, depot: u32, route: &[u32]) -> u64 {
+        let (mut place, mut seconds) = (depot as usize, 0);
+        let late = route.iter().position(|&stop| {
+            let stop = stop as usize;
+            seconds += u64::from(self.legs[place * self.locations + stop]);
+            let late = seconds > u64::from(self.latest[stop]);
+            seconds += u64::from(self.service[stop]);
+            place = stop;
+            late
+        });
+        late.unwrap_or(route.len()) as u64
+    }
+
     /// 4.
     pub fn unknown(&self, depots: &[u32], stops: &[u32]) -> bool {
         let unknown = |&place: &u32| place as usize >= self.locations;

@@ -1,6 +1,6 @@
 //! Prints the Rust's answers to the questions of crates/replay_answers, or with the argument `moves` of crates/replay_moves, in that program's
 //! words: its file stdout. The questions are drawn by the same rule on both sides (`next`, `draw`, `filled`; crates/replay_drawing), and the
-//! library is not called.
+//! library is not called. Polishing's late position, of which the Rust knows only yes or no, is the harness's own.
 
 #![forbid(unsafe_code)]
 
@@ -63,7 +63,7 @@ fn refused_searches() {
     service.tables.service[0] = 1_000_001;
     service.depot = 10;
     depot.depot = 10;
-    room.room = 4;
+    room.room = 5;
     for case in [k, locations, leg, service, depot, room] {
         say_polished(&case);
     }
@@ -149,13 +149,13 @@ fn polishing(seed: u16, stops: usize) -> polish::Case {
         tables,
         depot: 0,
         route: filled(seed, 9, stops),
-        room: 6,
+        room: polish::RESULT_PLACES + 1,
     }
 }
 
 fn say_polished(case: &polish::Case) {
     let reply = case.expected();
-    let result = seen(&reply, 1, 5, case.room, RESULT);
+    let result = seen(&reply, 1, polish::RESULT_PLACES, case.room, RESULT);
     say("polish", &reply, &result, "route", &reply.lent[0].1);
 }
 

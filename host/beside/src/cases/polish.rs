@@ -4,7 +4,7 @@ use crate::rules::{bad_k, first_refusal, too_many_stops};
 use crate::tables::{listed, Tables};
 use std::fmt::{Display, Formatter, Result as Written};
 
-pub const RESULT_PLACES: usize = 5;
+pub const RESULT_PLACES: usize = 6;
 
 #[derive(Clone, Debug)]
 pub struct Case {

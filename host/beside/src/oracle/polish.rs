@@ -1,9 +1,10 @@
 //! The unchanged `polish_route`.
 
 use super::fleet::{stops, Access, Fleet, Quiet, Yard};
-use super::list_k_opt::polish_route;
+use super::list_k_opt::{polish_route, ListKOptAccess};
 use crate::cases::polish::Case;
 use crate::scope::{SolverScope, StepControlPolicy};
+use crate::tables::Tables;
 use std::cell::Cell;
 
 /// What polishing answers besides the route.
@@ -24,16 +25,24 @@ pub fn polish(case: &Case, allowance: u64, route: &mut [u32]) -> Counts {
     counts
 }
 
+/// Whether the Rust holds a route to be on time.
+pub fn feasible(tables: &Tables, depot: u32, route: &[u32]) -> bool {
+    Access.route_feasible(&fleet(tables, &[depot]), 0, &stops(route))
+}
+
+fn fleet<'c>(tables: &'c Tables, depots: &'c [u32]) -> Fleet<'c> {
+    Fleet {
+        tables,
+        depots,
+        rounds: Vec::new(),
+    }
+}
+
 /// As above, on the numbers that the Rust takes.
 pub fn polish_stops(case: &Case, allowance: u64, route: &mut Vec<usize>) -> Counts {
     let depots = [case.depot];
-    let fleet = Fleet {
-        tables: &case.tables,
-        depots: &depots,
-        rounds: Vec::new(),
-    };
     let yard = Yard {
-        fleet,
+        fleet: fleet(&case.tables, &depots),
         pins: &[],
         reached: Cell::new(0),
     };

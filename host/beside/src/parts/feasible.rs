@@ -1,13 +1,13 @@
-//! The deadline check, by the documents' own words. Any late position is right.
+//! The deadline check: the lowest late position by the documents' own words, and whether there is one by the Rust's rule too.
 
 use super::route::{damage_route, of_stops, random_route, Route};
 use crate::damage::{service, sizes};
-use crate::ffi;
 use crate::lent::{filled, Lent};
 use crate::random::Random;
 use crate::rules::{first_refusal, LONGEST_LEG, LONGEST_SERVICE, MOST_STOPS};
 use crate::tables::Tables;
-use crate::trial::{damaged, put, Drawn, Reply, Trial, Visit};
+use crate::trial::{damaged, put, Drawn, Reply, Trial, Visit, NO_ANSWER};
+use crate::{ffi, oracle};
 use std::fmt::{Display, Formatter, Result as Written};
 
 struct Feasible {
@@ -27,20 +27,24 @@ impl Feasible {
             (21, self.room < 1),
         ])
     }
-
-    fn late(&self) -> Vec<bool> {
-        self.route.tables.late(self.route.depot, &self.route.stops)
-    }
 }
 
 impl Trial for Feasible {
     fn expected(&self) -> Reply {
-        let code = self.refusal();
+        let mut code = self.refusal();
         let mut result = filled(self.room);
         if code == 0 {
-            let late = self.late();
-            let first = late.iter().position(|&late| late);
-            put(&mut result, &[first.unwrap_or(late.len()) as u64]);
+            let Route {
+                tables,
+                depot,
+                stops,
+            } = &self.route;
+            let late = tables.late_position(*depot, stops);
+            put(&mut result, &[late]);
+            let kept = late == stops.len() as u64;
+            if kept != oracle::polish::feasible(tables, *depot, stops) {
+                code = NO_ANSWER;
+            }
         }
         Reply::new(code, [("result", result)])
     }
@@ -66,18 +70,6 @@ impl Trial for Feasible {
         service.kept()?;
         stops.kept()?;
         Ok(Reply::new(code, [result.written()?]))
-    }
-
-    /// Where the first late position is expected, another late one is as good.
-    fn agree(&self, expected: &Reply, given: &Reply) -> bool {
-        if expected == given {
-            return true;
-        }
-        let kept = |reply: &Reply| reply.lent[0].1.get(1..).map(<[u64]>::to_vec);
-        expected.code == 0
-            && given.code == 0
-            && kept(expected) == kept(given)
-            && self.late().get(given.number(0, 0) as usize) == Some(&true)
     }
 
     fn kind(&self, expected: &Reply) -> &'static str {

@@ -1,7 +1,7 @@
 //! Cases at the bounds, and the text case of document 01.
 
-use crate::cases::polish::Case;
-use crate::draw::{capped, leg_table};
+use crate::cases::polish::{Case, RESULT_PLACES};
+use crate::draw::{capped, leg_table, lists};
 use crate::random::Random;
 use crate::rules::{LONGEST_LEG, LONGEST_SERVICE, MOST_LOCATIONS, MOST_STOPS};
 use crate::tables::Tables;
@@ -21,7 +21,7 @@ pub fn text_case(allowance: u64) -> Case {
         tables: Tables::of_legs(3, vec![0, 5, 1, 1, 0, 5, 5, 1, 0]),
         depot: 0,
         route: vec![1, 2],
-        room: 5,
+        room: RESULT_PLACES,
     }
 }
 
@@ -34,8 +34,19 @@ pub fn served_text_case(latest: u32, service: u32) -> Case {
     case
 }
 
+/// The text case with locations 1 and 2 due at these seconds. They are reached at 5 and 10, or at 2 and 1 in the better order.
+pub fn late_text_case(latest_of_1: u32, latest_of_2: u32) -> Case {
+    let mut case = text_case(100);
+    case.tables.latest[1] = latest_of_1;
+    case.tables.latest[2] = latest_of_2;
+    case
+}
+
 fn cases(random: &mut Random) -> Vec<Case> {
     let mut cases: Vec<Case> = (0..13).map(text_case).collect();
+    for due in lists(&[0, 1, 2, 4, 5, 9, 10, u32::MAX], 2) {
+        cases.push(late_text_case(due[0], due[1]));
+    }
     for service in [10, LONGEST_SERVICE, LONGEST_SERVICE + 1] {
         for latest in service..service + 4 {
             cases.push(served_text_case(latest, service));
@@ -70,7 +81,7 @@ fn full(k: usize, allowance: u64, legs: Vec<u32>, service: u32) -> Case {
         tables: Tables::of_legs(MOST_LOCATIONS, legs),
         depot: MOST_LOCATIONS as u32 - 1,
         route: (0..MOST_STOPS as u32).collect(),
-        room: 5,
+        room: RESULT_PLACES,
     };
     case.tables.service = vec![service; MOST_LOCATIONS];
     for (stop, seconds) in case.arrivals().into_iter().enumerate() {
@@ -87,7 +98,7 @@ fn one_location(k: usize, stops: usize) -> Case {
         tables: Tables::of_legs(1, vec![7]),
         depot: 0,
         route: vec![0; stops],
-        room: 6,
+        room: RESULT_PLACES + 1,
     }
 }
 
@@ -99,7 +110,7 @@ fn served_visits(k: usize) -> Vec<Case> {
         tables: Tables::of_legs(2, vec![0, 5, 1, 0]),
         depot: 0,
         route: vec![1, 0, 1, 0, 1, 1],
-        room: 5,
+        room: RESULT_PLACES,
     };
     case.tables.service = vec![3, 10];
     let whole = case.tables.whole(case.depot, &case.route) as u32;

@@ -3,7 +3,7 @@
 //! improve never.
 
 use super::measured;
-use crate::cases::polish::Case;
+use crate::cases::polish::{Case, RESULT_PLACES};
 use crate::draw::plane;
 use crate::ffi;
 use crate::random::Random;
@@ -61,7 +61,7 @@ fn good(random: &mut Random, k: usize, stops: usize, legs: Vec<u32>) -> Case {
         tables: Tables::of_legs(locations, legs),
         depot: random.index(locations) as u32,
         route: Vec::new(),
-        room: 5,
+        room: RESULT_PLACES,
     };
     case.route = (0..locations as u32)
         .filter(|&place| place != case.depot)
@@ -76,7 +76,7 @@ fn good(random: &mut Random, k: usize, stops: usize, legs: Vec<u32>) -> Case {
         &case.tables.service,
         case.depot,
         &mut case.route,
-        &mut [0; 5],
+        &mut [0; RESULT_PLACES],
     );
     assert_eq!(refused, 0);
     if random.one_in(2) {

@@ -1,6 +1,6 @@
 //! Random cases that are not refused.
 
-use crate::cases::polish::Case;
+use crate::cases::polish::{Case, RESULT_PLACES};
 use crate::draw::{leg_table, order, set_times, some_depot};
 use crate::oracle::polish::polish;
 use crate::random::Random;
@@ -19,9 +19,9 @@ pub fn random_case(random: &mut Random) -> Case {
     let mut tables = Tables::of_legs(locations, leg_table(random, locations));
     let depot = some_depot(random, locations);
     let room = if random.one_in(4) {
-        random.within(5, 12)
+        random.within(RESULT_PLACES, 12)
     } else {
-        5
+        RESULT_PLACES
     };
     let route = order(random, locations, depot, stops);
     set_times(random, &mut tables, depot, &route);

@@ -1,6 +1,6 @@
 //! The cases that the bench measures polishing on: each is some two million candidates, or fewer where it finishes.
 
-use crate::cases::polish::Case;
+use crate::cases::polish::{Case, RESULT_PLACES};
 use crate::draw::{capped, plane};
 use crate::random::Random;
 use crate::tables::Tables;
@@ -45,7 +45,7 @@ pub fn case(kind: &str, k: usize, stops: usize) -> Case {
         tables: Tables::of_legs(locations, legs),
         depot: 0,
         route: (1..locations as u32).collect(),
-        room: 5,
+        room: RESULT_PLACES,
     };
     if kind == "service" {
         set_service(&mut random, &mut case);

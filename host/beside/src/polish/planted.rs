@@ -2,7 +2,7 @@
 //! all others more, and each stop is due when it is reached, after some service times or none. The count of candidates then shows where the
 //! scan found it, which random cases seldom show of the later patterns.
 
-use crate::cases::polish::Case;
+use crate::cases::polish::{Case, RESULT_PLACES};
 use crate::draw::capped;
 use crate::heuristic::r#move::k_opt_reconnection::{enumerate_reconnections, KOptReconnection};
 use crate::random::Random;
@@ -82,6 +82,6 @@ fn on_time_only(random: &mut Random, k: usize, route: Vec<u32>, target: &[u32]) 
         tables,
         depot: 0,
         route,
-        room: 5,
+        room: RESULT_PLACES,
     }
 }

@@ -1,6 +1,6 @@
 //! Every case of a few small kinds: two locations and up to four stops, three locations and up to three stops.
 
-use crate::cases::polish::Case;
+use crate::cases::polish::{Case, RESULT_PLACES};
 use crate::draw::{lists, with_times};
 use crate::random::Random;
 use crate::tables::Tables;
@@ -62,7 +62,7 @@ fn each_call(tables: &Tables, depot: u32, route: &[u32], allowances: &[u64], vis
                 tables: tables.clone(),
                 depot,
                 route: route.to_vec(),
-                room: 5,
+                room: RESULT_PLACES,
             }));
         }
     }

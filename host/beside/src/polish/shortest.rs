@@ -3,7 +3,7 @@
 //! them one by one, is not asked: these scans leave the first cut 0 where it would take it minutes.
 
 use super::deep::candidates_at_first_cut_0;
-use crate::cases::polish::Case;
+use crate::cases::polish::{Case, RESULT_PLACES};
 use crate::lent::{bits, filled};
 use crate::random::Random;
 use crate::tables::Tables;
@@ -45,11 +45,11 @@ fn shortest(random: &mut Random, k: usize, stops: usize, allowance: u64) -> Case
         tables,
         depot: 0,
         route: (1..locations as u32).collect(),
-        room: 5,
+        room: RESULT_PLACES,
     }
 }
 
-/// A call that is spent at its allowance and accepts nothing.
+/// A call that is spent at its allowance and accepts nothing; no deadline is in force.
 struct Shortest(Case);
 
 impl Trial for Shortest {
@@ -62,7 +62,8 @@ impl Trial for Shortest {
         } = self.0;
         let length = self.0.length();
         let mut result = filled(room);
-        put(&mut result, &[1, allowance, 0, length, length]);
+        let none_late = route.len() as u64;
+        put(&mut result, &[1, allowance, 0, length, length, none_late]);
         Reply::new(0, [("route", bits(route)), ("result", result)])
     }
 

@@ -1,7 +1,7 @@
 //! Allowances around the end of each cut set, which are the ends that a stretch of cut sets passed over can have: a scan that counts
 //! a stretch at once must be spent inside it at exactly the allowance.
 
-use crate::cases::polish::Case;
+use crate::cases::polish::{Case, RESULT_PLACES};
 use crate::draw::{leg_table, order, set_times};
 use crate::oracle::polish::polish;
 use crate::random::Random;
@@ -36,7 +36,7 @@ pub fn route_of(random: &mut Random, k: usize, stops: usize) -> Case {
         tables,
         depot: 0,
         route,
-        room: 5,
+        room: RESULT_PLACES,
     }
 }
 

@@ -29,7 +29,11 @@ impl Trial for Text {
             (b"answer=spent", "spent"),
         ];
         let found = kinds.iter().find(|kind| bytes.starts_with(kind.0));
-        found.map_or("finished", |kind| kind.1)
+        match found {
+            Some(kind) => kind.1,
+            None if bytes.ends_with(b"late=none\n") => "finished",
+            None => "finished and late",
+        }
     }
 }
 

@@ -1,9 +1,9 @@
 //! Texts of the form, and those at its bounds.
 
 use super::case::Text;
-use crate::cases::polish::Case;
+use crate::cases::polish::{Case, RESULT_PLACES};
 use crate::damage::a_service_time;
-use crate::polish::bounds::{served_text_case, text_case};
+use crate::polish::bounds::{late_text_case, served_text_case, text_case};
 use crate::polish::damage::damage;
 use crate::polish::generate::random_case;
 use crate::random::Random;
@@ -69,6 +69,9 @@ pub fn each_bound(random: &mut Random, visit: Visit) {
     for (latest, service) in [(11, 10), (12, 10), (9, 1_000_000), (9, 1_000_001)] {
         visit(&served_text_case(latest, service));
     }
+    for (latest_of_1, latest_of_2) in [(0, 0), (u32::MAX, 0), (5, 9), (2, 1), (1, 1)] {
+        visit(&late_text_case(latest_of_1, latest_of_2));
+    }
     for entries in [0, 1, 2, 4] {
         let mut case = text_case(100);
         case.tables.service = vec![1_000_001; entries];
@@ -76,6 +79,10 @@ pub fn each_bound(random: &mut Random, visit: Visit) {
     }
     for stops in [0, 1, 511, 512, 513, 29_000] {
         visit(&stops_of_one_place(stops));
+        // The last is the first late one.
+        let mut late = stops_of_one_place(stops);
+        late.tables.latest[0] = (7 * stops).saturating_sub(1) as u32;
+        visit(&late);
     }
     for locations in [1, 95, 96, 97, 1000] {
         visit(&some_locations(random, locations));
@@ -94,7 +101,7 @@ fn stops_of_one_place(stops: usize) -> Case {
         tables: Tables::of_legs(1, vec![7]),
         depot: 0,
         route: vec![0; stops],
-        room: 5,
+        room: RESULT_PLACES,
     }
 }
 
@@ -118,6 +125,6 @@ fn some_locations(random: &mut Random, locations: usize) -> Case {
         tables: Tables::of_legs(locations, legs),
         depot: 0,
         route: (0..locations as u32).collect(),
-        room: 5,
+        room: RESULT_PLACES,
     }
 }

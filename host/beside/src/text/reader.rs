@@ -1,4 +1,5 @@
-//! A text's meaning, written from document 01's "Text program" and the line that document 02 adds: a reader that takes the lines apart, over the unchanged Rust.
+//! A text's meaning, written from document 01's "Text program" and the lines that document 02 adds: a reader that takes the lines apart, over the
+//! unchanged Rust.
 
 use crate::cases::polish::{Case, RESULT_PLACES};
 use crate::oracle::polish::{polish, Counts};
@@ -31,8 +32,17 @@ fn answered(case: &Case) -> String {
     } = polish(case, case.allowance, &mut route);
     let answer = if spent { "spent" } else { "finished" };
     let (before, after) = (case.length(), case.tables.length(case.depot, &route));
-    let round = listed(&route);
-    format!("answer={answer}\nexamined={examined}\naccepted={accepted}\nbefore={before}\nafter={after}\nround={round}\n")
+    let (round, late) = (listed(&route), late(case, &route));
+    format!("answer={answer}\nexamined={examined}\naccepted={accepted}\nbefore={before}\nafter={after}\nround={round}\nlate={late}\n")
+}
+
+/// The position, from 0, of the first late stop in the round that is printed.
+fn late(case: &Case, round: &[u32]) -> String {
+    let position = case.tables.late_position(case.depot, round);
+    if position == round.len() as u64 {
+        return String::from("none");
+    }
+    position.to_string()
 }
 
 /// None where a text is not of the form.
