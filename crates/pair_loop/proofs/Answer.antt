@@ -16,11 +16,6 @@ use Rattle.pair_loop.specs.declared.PairLoop.{PairLoop}
 use Rattle.pair_loop.specs.PairLoop.{PairsTried, reply-so-far, pair-loop}
 use Rattle.pair_loop.proofs.Progress.{loop-onward, loop-promise}
 
--- Deadlines play no part in a length.
-length-alone : (T : Trip) (r : List ℕ) → tour-length (legs-only (T .tables .locations) (T .tables .legs) (T .depot)) r ≡ tour-length (problem T) r
-unfolding tour-length
-length-alone T r = refl
-
 module _ (T : Trip) (A : ℕ) (route : List ℕ) {counted : PairLoop} {route′ : List ℕ} (e : reply-so-far counted route′ ≡ pair-loop (problem T) A route) where
   pub timed-after : Timed T route → Timed T route′
   timed-after timed = timed-rearranged (λ g. ap (λ q. total g (q .route)) e ∙ loop-onward (problem T) A route .same g) timed .0
@@ -39,12 +34,14 @@ module _ (T : Trip) (A : ℕ) (route : List ℕ) {counted : PairLoop} {route′ 
     abbrev counts : Counts
     counts = record { examined = counted .examined; accepted = counted .accepted; before = before; after = after; late = late }
 
+    -- Deadlines play no part in a length.
     told : (answer : Polished) → counts-of answer ≡ counts → reply-of answer route′ ≡ reply-so-far counted route′ → PairsTried (problem T) A route answer route′
+    unfolding tour-length
     told answer c f =
         record {
           loop = f ∙ e;
-          before = ap (λ (k : Counts). k .before) c ∙ b ∙ length-alone T route;
-          after = ap (λ (k : Counts). k .after) c ∙ a ∙ length-alone T route′;
+          before = ap (λ (k : Counts). k .before) c ∙ b;
+          after = ap (λ (k : Counts). k .after) c ∙ a;
           late = ap (λ (k : Counts). k .late) c ∙ l;
           promise = rw (f ∙ e) (loop-promise (problem T) A route);
         }
