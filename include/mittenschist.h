@@ -60,9 +60,8 @@ uint32_t mittenschist_polish_route(size_t k, uint64_t allowance, size_t location
     const uint32_t *legs, size_t legs_len, const uint32_t *latest, size_t latest_len, const uint32_t *service, size_t service_len,
     uint32_t depot, uint32_t *route, size_t route_len, uint64_t *result, size_t result_len);
 
-/* Polishes rounds one after the other under one allowance; for k = 2 by the pair loop, which only the allowance is promised to end and
- * which can end longer than it began. So there is no largest allowance for k = 2: hand in a few dozen passes of n (n - 1) / 2 pairs for
- * all rounds. For k from 3 to 5 a round costs what polishing it costs. A spent round is put back as handed in, and the run stops.
+/* Polishes rounds one after the other under one allowance, whichever k. A round costs what polishing it costs, and a finished one is a route that
+ * no choice of k cuts and no pattern makes shorter with every deadline kept. A spent round is put back as handed in, and the run stops.
  *   legs, latest, service  as above
  *   stops   written  the stops of all rounds, end to end; as before but for the rounds that changed
  *   lengths read     for each round the number of its stops
@@ -94,6 +93,19 @@ uint32_t mittenschist_k_opt_do_move(size_t k, size_t pattern, size_t round,
 uint32_t mittenschist_k_opt_undo_move(uint32_t *route, size_t route_len, const uint32_t *journal, size_t journal_len);
 
 /* ---- The others ---- */
+
+/* The pair loop, which a run took for k = 2 in former versions; for boards that rely on its orders. For i from 0 to n - 2 and j from i + 1 to
+ * n - 1 it reverses the stops i to j where that shortens the two legs at their ends and keeps every deadline; passes over all pairs repeat until one
+ * accepts nothing (finished) or `allowance` pairs have been examined (spent). A spent route keeps what was accepted. The stop at i is read
+ * once for all j, and the legs inside are not looked at: so the route can end longer than it began, it need not be one that no two cuts
+ * improve, and only the allowance is promised to end it. Hand in a few dozen passes of n (n - 1) / 2 pairs, never the largest number.
+ *   legs, latest, service  read     as for polishing
+ *   depot, route                    as for polishing
+ *   result                 written  6 places, as for polishing, with pairs for candidates; the length after may be above the length before
+ * Refuses 2, 3, 23, 4, 5, 21 (result under 6 places). */
+uint32_t mittenschist_pair_loop(uint64_t allowance, size_t locations,
+    const uint32_t *legs, size_t legs_len, const uint32_t *latest, size_t latest_len, const uint32_t *service, size_t service_len,
+    uint32_t depot, uint32_t *route, size_t route_len, uint64_t *result, size_t result_len);
 
 /* Whether the cuts suit a round of n stops: k of them, none above n, rising. It passes unordered cuts if one names another round.
  *   cut_rounds, cut_positions  read     as for do_move; lists that are not equally long are answered with no

@@ -4,14 +4,15 @@ use crate::{raw, Refusal, Tables};
 /// How a search ended.
 #[derive(Clone, Copy, Debug, PartialEq, Eq)]
 pub enum Ending {
-    /// No choice of k cuts and no pattern gives a shorter route that keeps every deadline.
+    /// Of polishing: no choice of k cuts and no pattern gives a shorter route that keeps every deadline. Of the pair loop: a whole pass
+    /// accepted nothing.
     Finished,
     /// The allowance was reached; the route keeps what was accepted.
     Spent,
 }
 
 impl Ending {
-    fn of(number: u64) -> Self {
+    pub(crate) fn of(number: u64) -> Self {
         match number {
             0 => Self::Finished,
             1 => Self::Spent,

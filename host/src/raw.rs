@@ -20,6 +20,21 @@ extern "C" {
         result: *mut u64,
         result_len: usize,
     ) -> u32;
+    fn mittenschist_pair_loop(
+        allowance: u64,
+        locations: usize,
+        legs: *const u32,
+        legs_len: usize,
+        latest: *const u32,
+        latest_len: usize,
+        service: *const u32,
+        service_len: usize,
+        depot: u32,
+        route: *mut u32,
+        route_len: usize,
+        result: *mut u64,
+        result_len: usize,
+    ) -> u32;
     fn mittenschist_run_list_k_opt(
         k: usize,
         allowance: u64,
@@ -167,6 +182,40 @@ pub fn polish_route(
     unsafe {
         mittenschist_polish_route(
             k,
+            allowance,
+            locations,
+            legs.as_ptr(),
+            legs.len(),
+            latest.as_ptr(),
+            latest.len(),
+            service.as_ptr(),
+            service.len(),
+            depot,
+            route.as_mut_ptr(),
+            route.len(),
+            result.as_mut_ptr(),
+            result.len(),
+        )
+    }
+}
+
+/// The pair loop over `route`. The result begins with 0 finished or 1 spent, pairs examined, pairs accepted, length before, length
+/// after, which may be above it, and the lowest late position of the route handed back, or the number of its stops if none is late.
+#[must_use]
+#[allow(clippy::too_many_arguments)]
+pub fn pair_loop(
+    allowance: u64,
+    locations: usize,
+    legs: &[u32],
+    latest: &[u32],
+    service: &[u32],
+    depot: u32,
+    route: &mut [u32],
+    result: &mut [u64],
+) -> u32 {
+    // SAFETY: as said above.
+    unsafe {
+        mittenschist_pair_loop(
             allowance,
             locations,
             legs.as_ptr(),

@@ -68,9 +68,9 @@ impl RoundReply {
     }
 }
 
-/// Polishes round after round under one allowance; with k = 2 by the pair loop, which only the allowance is promised to end: there is no
-/// largest allowance to hand in, but a few dozen passes of n(n − 1)/2 pairs for all rounds. With k from 3 to 5 each round costs what
-/// [`polish_route`](crate::polish_route) says. Refuses 1, 2, 3, 23, 4, 5.
+/// Polishes round after round under one allowance, whichever k. Each round costs what [`polish_route`](crate::polish_route) says, and of a
+/// finished one the same is proved. For the orders that a run with k = 2 gave in former versions there is
+/// [`pair_loop`](crate::pair_loop()). Refuses 1, 2, 3, 23, 4, 5.
 ///
 /// ```
 /// use mittenschist::{run_list_k_opt, RoundState, Rounds, Tables};

@@ -6,9 +6,9 @@
 mod support;
 
 use mittenschist::{
-    k_opt_do_move, k_opt_is_doable, k_opt_undo_move, nearby_cuts, next_cut_set, polish_route,
-    reconnection_at, route_feasible, route_length, run_list_k_opt, Deadline, Ending, Polished,
-    Refusal, RoundReply, RoundState, Rounds, Tables,
+    k_opt_do_move, k_opt_is_doable, k_opt_undo_move, nearby_cuts, next_cut_set, pair_loop,
+    polish_route, reconnection_at, route_feasible, route_length, run_list_k_opt, Deadline, Ending,
+    PairLooped, Polished, Refusal, RoundReply, RoundState, Rounds, Tables,
 };
 use support::lent::Lent;
 use support::{kept, written};
@@ -210,8 +210,76 @@ fn the_most_locations() {
     assert_eq!(polish(1025), Err(Refusal::TableSize));
 }
 
-/// The pair case: what the run answers, and the stops.
-fn pair_case(allowance: u64) -> (Vec<RoundReply>, Vec<u64>) {
+/// The pair case: what the pair loop answers, and the stops.
+fn pair_case(allowance: u64, latest_of_a: u32) -> (PairLooped, Vec<u64>) {
+    let mut latest = [NO_DEADLINE; 5];
+    latest[1] = latest_of_a;
+    let tables = Tables::without_service(5, &PAIR_LEGS, &latest);
+    let mut route = Lent::new("route", &[1, 2, 3, 4]);
+    let paired = pair_loop(allowance, &tables, 0, route.slice()).unwrap();
+    (paired, written(&route))
+}
+
+/// Lengths on the way: 23, 5, 18, 5. A spent route keeps what was accepted.
+#[test]
+fn the_pair_loop() {
+    let paired = |ending, examined, accepted, after| PairLooped {
+        ending,
+        examined,
+        accepted,
+        before: 23,
+        after,
+        late: None,
+    };
+    let finished = (paired(Ending::Finished, 18, 3, 5), vec![2, 1, 3, 4]);
+    assert_eq!(pair_case(100, NO_DEADLINE), finished);
+    assert_eq!(pair_case(18, NO_DEADLINE), finished);
+    let spent = |examined, accepted, after| paired(Ending::Spent, examined, accepted, after);
+    let way = [
+        (0, spent(0, 0, 23), vec![1, 2, 3, 4]),
+        (1, spent(1, 1, 5), vec![2, 1, 3, 4]),
+        (2, spent(2, 2, 18), vec![3, 1, 2, 4]),
+        (8, spent(8, 3, 5), vec![2, 1, 3, 4]),
+        (17, spent(17, 3, 5), vec![2, 1, 3, 4]),
+    ];
+    for (allowance, answer, route) in way {
+        assert_eq!(pair_case(allowance, NO_DEADLINE), (answer, route));
+    }
+    // A is reached at second 10, or 2 in the first shorter order.
+    let late = PairLooped {
+        late: Some(0),
+        ..paired(Ending::Finished, 6, 0, 23)
+    };
+    assert_eq!(pair_case(100, 1), (late, vec![1, 2, 3, 4]));
+}
+
+/// No pair below two stops, also with no allowance; and a route that ends longer.
+#[test]
+fn the_pair_loop_at_its_bounds() {
+    let pairs = |legs: &[u32], allowance, route: &mut [u32]| {
+        let latest = [NO_DEADLINE; 3];
+        let tables = Tables::without_service(3, legs, &latest);
+        pair_loop(allowance, &tables, 0, route)
+    };
+    for route in [&mut [][..], &mut [1]] {
+        let none = pairs(&TEXT_LEGS, 0, route).unwrap();
+        assert_eq!((none.ending, none.examined), (Ending::Finished, 0));
+        assert_eq!(none.saved(), 0);
+    }
+    let spent = pairs(&TEXT_LEGS, 0, &mut [1, 2]).unwrap();
+    assert_eq!((spent.ending, spent.examined), (Ending::Spent, 0));
+    let longer = pairs(&[0, 9, 1, 7, 0, 2, 4, 9, 0], 100, &mut [1, 2]).unwrap();
+    assert_eq!((longer.ending, longer.accepted), (Ending::Finished, 1));
+    assert_eq!(longer.saved(), -2);
+    assert!(pairs(&TEXT_LEGS, 300_000, &mut [0; 512]).is_ok());
+    let long = pairs(&TEXT_LEGS, 9, &mut [0; 513]);
+    assert_eq!(long, Err(Refusal::RoundSize));
+    let unknown = pairs(&TEXT_LEGS, 9, &mut [3; 513]);
+    assert_eq!(unknown, Err(Refusal::UnknownStop));
+}
+
+/// The pair case by a run with k = 2: what it answers, and the stops.
+fn pair_case_by_run(allowance: u64) -> (Vec<RoundReply>, Vec<u64>) {
     let latest = [NO_DEADLINE; 5];
     let tables = Tables::without_service(5, &PAIR_LEGS, &latest);
     let mut stops = Lent::new("stops", &[1, 2, 3, 4]);
@@ -226,19 +294,22 @@ fn pair_case(allowance: u64) -> (Vec<RoundReply>, Vec<u64>) {
 }
 
 #[test]
-fn the_pair_loop() {
+fn the_run_with_two_cuts() {
     let reply = |state, examined, accepted, applied| RoundReply {
         state,
         examined,
         accepted,
         applied,
     };
-    let changed = reply(RoundState::Changed, 18, 3, 3);
-    assert_eq!(pair_case(100), (vec![changed], vec![2, 1, 3, 4]));
-    let spent = reply(RoundState::Spent, 17, 3, 0);
-    assert_eq!(pair_case(17), (vec![spent], vec![1, 2, 3, 4]));
+    let changed = reply(RoundState::Changed, 12, 1, 1);
+    for allowance in [12, u64::MAX] {
+        let answer = pair_case_by_run(allowance);
+        assert_eq!(answer, (vec![changed], vec![2, 1, 3, 4]));
+    }
+    let spent = reply(RoundState::Spent, 11, 1, 0);
+    assert_eq!(pair_case_by_run(11), (vec![spent], vec![1, 2, 3, 4]));
     let not_reached = reply(RoundState::NotReached, 0, 0, 0);
-    assert_eq!(pair_case(0), (vec![not_reached], vec![1, 2, 3, 4]));
+    assert_eq!(pair_case_by_run(0), (vec![not_reached], vec![1, 2, 3, 4]));
 }
 
 #[test]

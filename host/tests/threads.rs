@@ -29,6 +29,7 @@ struct Tables<'t> {
 fn calls(tables: &Tables, number: u32) -> Vec<Vec<u64>> {
     vec![
         polished(tables, number),
+        paired(tables, number),
         ran(tables, number),
         listed(tables, number),
         moved(number),
@@ -51,6 +52,22 @@ fn polished(tables: &Tables, number: u32) -> Vec<u64> {
     let code = raw::polish_route(
         cuts(number),
         20_000 + u64::from(number),
+        LOCATIONS,
+        tables.legs,
+        tables.latest,
+        tables.service,
+        0,
+        route.slice(),
+        result.slice(),
+    );
+    [vec![u64::from(code)], written(&route), written(&result)].concat()
+}
+
+fn paired(tables: &Tables, number: u32) -> Vec<u64> {
+    let (before, room) = (stops(number, 12), filled(7));
+    let (mut route, mut result) = (Lent::new("route", &before), Lent::new("result", &room));
+    let code = raw::pair_loop(
+        2_000 + u64::from(number),
         LOCATIONS,
         tables.legs,
         tables.latest,

@@ -5,6 +5,7 @@ pub mod ReconnectReply
 pub mod DeltaReply
 pub mod FeasibleReply
 pub mod PolishReply
+pub mod PairLoopReply
 pub mod Written
 pub mod RunReply
 pub mod NearbyReply

@@ -20,16 +20,16 @@ use Rattle.mittenschist.specs.Promises.{PolishReply}
 use Rattle.theory.proofs.Taken.{refused-kept, taken-done, taken-passes}
 
 -- The numbers of an answer are those of its reply, and the reply can be read off them again.
-values-are : (P : Problem) (route route′ : List ℕ) (answer : Polished) → counts-of answer .before ≡ tour-length P route → counts-of answer .after ≡ tour-length P route′ →
+pub values-are : (P : Problem) (route route′ : List ℕ) (answer : Polished) → counts-of answer .before ≡ tour-length P route → counts-of answer .after ≡ tour-length P route′ →
     counts-of answer .late ≡ late-position (timetable-of P) (P .depot) route′ → polish-values answer ≡ six-numbers P route (reply-of answer route′)
 values-are P route route′ (Finished c) b a l = rw (b, a, l)
 values-are P route route′ (Spent c) b a l = rw (b, a, l)
 
-read-back : (answer : Polished) (more route′ : List ℕ) → handed-back (polish-values answer ++ more) route′ ≡ reply-of answer route′
+pub read-back : (answer : Polished) (more route′ : List ℕ) → handed-back (polish-values answer ++ more) route′ ≡ reply-of answer route′
 read-back (Finished c) more route′ = refl
 read-back (Spent c) more route′ = refl
 
-its-route : (answer : Polished) (route′ : List ℕ) → route′ ≡ reply-of answer route′ .route
+pub its-route : (answer : Polished) (route′ : List ℕ) → route′ ≡ reply-of answer route′ .route
 its-route (Finished c) route′ = refl
 its-route (Spent c) route′ = refl
 

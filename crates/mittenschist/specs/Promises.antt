@@ -12,13 +12,14 @@ use Rattle.theory.specs.Polish.{move-at, Demand3}
 use Rattle.theory.specs.Tables.{Tables, Trip, Fleet, problem, timetable-by, legs-only}
 use Rattle.theory.specs.Question.{Question, asked}
 use Rattle.theory.specs.Refusals.{Rule, refusal, if-taken, problem-rules}
-use Rattle.refusal_rules.specs.Rules.{pattern-rules, next-cut-set-rules, reconnect-rules, route-length-rules, delta-rules, polish-rules, run-rules, nearby-rules, with-room}
+use Rattle.refusal_rules.specs.Rules.{pattern-rules, next-cut-set-rules, reconnect-rules, route-length-rules, delta-rules, polish-rules, pair-loop-rules, run-rules, nearby-rules, with-room}
 use Rattle.theory.specs.Answers.{reply, step-answer, length-answer, delta-answer, feasibility-answer, listing-answer, Checked, six-numbers, handed-back}
 use Rattle.moves.specs.Moves.{length-change}
 use Rattle.cut_step.specs.Step.{found, or-unmoved}
 use Rattle.move_applying.specs.Applying.{doable}
 use Rattle.nearby.specs.Walk.{nearby-sets}
 use Rattle.nearby.specs.Listing.{written}
+use Rattle.pair_loop.specs.PairLoop.{pair-loop, PairPromise}
 use Rattle.run.specs.Run.{run, rounds, routes, numbers, Ran}
 use Rattle.theory.specs.declared.CutStep.{CutStep}
 use Rattle.theory.specs.declared.RouteLength.{RouteLength}
@@ -100,6 +101,15 @@ pub record PolishReply (q : Question) (result : List ℕ) (answer : ℕ) (route�
   pub result-is : result′ ≡ if-taken (polish-rules q (length result)) (six-numbers (problem (q .trip)) (q .route) (asked q) ++ drop 6 result) result
   pub demand3 : answer ≡ 0 → Demand3 (problem (q .trip)) (patterns (q .k)) (q .k) (q .allowance) (q .route) (handed-back result′ route′)
 
+-- ---- the pair loop
+
+-- Of the slices as they are handed in and as they are handed back: route and result are those of the pair loop; and what it keeps whenever it returns 0.
+pub record PairLoopReply (allowance : ℕ) (T : Trip) (route result : List ℕ) (answer : ℕ) (route′ result′ : List ℕ) : Type 0 where
+  pub number-is : answer ≡ refusal (pair-loop-rules T route (length result))
+  pub route-is : route′ ≡ if-taken (pair-loop-rules T route (length result)) (pair-loop (problem T) allowance route .route) route
+  pub result-is : result′ ≡ if-taken (pair-loop-rules T route (length result)) (six-numbers (problem T) route (pair-loop (problem T) allowance route) ++ drop 6 result) result
+  pub promise : answer ≡ 0 → PairPromise (problem T) allowance route (handed-back result′ route′)
+
 -- ---- doable; apply and undo promise what they do over cut points (crate move_calls)
 
 -- 1 yes or 0 no.
@@ -108,8 +118,8 @@ doable-values k round n rounds positions = cond (doable k round n rounds positio
 
 -- ---- the run
 
--- Stops and result are those of document 01's run; and whenever it returns 0 each round holds the same stops, none is reached after a spent one, and with k
--- from 3 to 5 each that finished is k-optimal (`Ran`).
+-- Stops and result are those of document 01's run; and whenever it returns 0 each round holds the same stops, none is reached after a spent one, and each that
+-- finished is k-optimal (`Ran`).
 pub record RunReply (k allowance : ℕ) (T : Tables) (F : Fleet) (result : List ℕ) (answer : ℕ) (stops′ result′ : List ℕ) : Type 0 where
   pub number-is : answer ≡ refusal (run-rules k T F (length result))
   pub stops-are : stops′ ≡ if-taken (run-rules k T F (length result)) (routes (run k allowance (rounds T F))) (F .stops)

@@ -10,7 +10,7 @@ ghost use Rattle.theory.specs.Refusals.{problem-rules};
 ghost use Rattle.move_calls.specs.Entries.{DoMoveReply, UndoReply, doable-rules};
 ghost use Rattle.moves.specs.Moves.{length-change, pattern-values};
 ghost use Rattle.refusal_rules.specs.Rules.{route-length-rules, pattern-rules, delta-rules};
-ghost use Rattle.mittenschist.specs.Promises.{NextCutSetReply, RouteLengthReply, ReconnectionReply, ReconnectReply, DeltaReply, FeasibleReply, PolishReply, Written, NextCutSetWritten, late-values, doable-values, RunReply, NearbyReply, NearbyWritten};
+ghost use Rattle.mittenschist.specs.Promises.{NextCutSetReply, RouteLengthReply, ReconnectionReply, ReconnectReply, DeltaReply, FeasibleReply, PolishReply, PairLoopReply, Written, NextCutSetWritten, late-values, doable-values, RunReply, NearbyReply, NearbyWritten};
 use polishing::polish_route;
 use theory::CutStep;
 use theory::Feasibility;
@@ -137,6 +137,37 @@ pub extern "C" fn mittenschist_polish_route(
         return refused;
     }
     let answer = polish_route(k, allowance, locations, legs, latest, service, depot, route);
+    polishing::put_polished(answer, result);
+    0
+}
+
+// The pair loop over a route. Refuses 2, 3, 23, 4, 5, 21. The result receives the six numbers of polishing; the length after may be above the length before.
+#[no_mangle]
+pub extern "C" fn mittenschist_pair_loop(
+    allowance: u64,
+    locations: usize,
+    legs: &[u32],
+    latest: &[u32],
+    service: &[u32],
+    depot: u32,
+    route: &mut [u32],
+    result: &mut [u64],
+) -> u32
+    ensures { λ r. ⌜ PairLoopReply allowance (trip locations (now (legs .entry)) (now (latest .entry)) (now (service .entry)) depot) (now (route .entry)) (now (result .entry)) r (now (route .exit)) (now (result .exit)) ⌝ }
+{
+    let refused = refusal_rules::pair_loop_refusal(
+        locations,
+        legs,
+        latest,
+        service,
+        depot,
+        &route[..],
+        result.len(),
+    );
+    if refused != 0 {
+        return refused;
+    }
+    let answer = pair_loop::pair_loop(allowance, locations, legs, latest, service, depot, route);
     polishing::put_polished(answer, result);
     0
 }

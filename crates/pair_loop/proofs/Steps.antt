@@ -12,10 +12,10 @@ use Rattle.theory.specs.Route.{Problem}
 use Rattle.theory.specs.Scan.{Reply}
 use Rattle.pair_loop.specs.declared.PairLoop.{PairLoop}
 use Rattle.pair_reversal.specs.Reversal.{turned, accepts, Tried}
-use Rattle.pair_loop.specs.PairLoop.{reply-of, stop-before, so-far, spent, examine, pair, sweep, pass}
+use Rattle.pair_loop.specs.PairLoop.{reply-so-far, stop-before, so-far, spent, examine, pair, sweep, pass}
 
 -- An answer while the allowance lasts.
-pub going-is : (counted : PairLoop) (r : List ℕ) → counted .finished ≡ true → reply-of counted r ≡ so-far (counted .examined) (counted .accepted) r
+pub going-is : (counted : PairLoop) (r : List ℕ) → counted .finished ≡ true → reply-so-far counted r ≡ so-far (counted .examined) (counted .accepted) r
 going-is counted r e = ap (λ (f : Bool). record { finished = f; examined = counted .examined; accepted = counted .accepted; route = r }) e
 
 -- The count after a pair, as the code leaves it.

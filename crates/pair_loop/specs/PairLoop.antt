@@ -3,12 +3,14 @@
 use mathlib.Core.Path.{_≡_}
 use mathlib.Core.Bool.{Bool, true, false, _&&_, not, cond}
 use mathlib.Core.List.{List, _∷_, foldl}
-use Prim.Native.Nat.{ℕ, zero, suc, _-_, _≤_}
+use Prim.Native.Nat.{ℕ, zero, suc, _-_, _≤_, _<_}
 use lib.Dec.{ltb, eqb}
 use lib.ListN.{length, getD}
 use Rattle.theory.specs.Moves.{upfrom}
-use Rattle.theory.specs.Route.{Problem, count}
+use Rattle.theory.specs.Route.{Problem, count, tour-length, timetable-of, late-position, Feasible}
 use Rattle.theory.specs.Scan.{Reply}
+use Rattle.theory.specs.Answers.{reply-of, counts-of}
+use Rattle.theory.specs.declared.Polished.{Polished}
 use Rattle.pair_reversal.specs.Reversal.{turned, accepts}
 use Rattle.pair_loop.specs.declared.PairLoop.{PairLoop}
 
@@ -65,14 +67,24 @@ unfoldable pub pair-loop : Problem → (allowance : ℕ) → List ℕ → Reply 
 unfolding passes
 pair-loop P allowance r = passes P allowance (length r) allowance (so-far 0 0 r)
 
--- An answer of the code, with the route that it hands back, as a reply.
-abbrev pub reply-of : PairLoop → List ℕ → Reply (List ℕ)
-reply-of answer route = record { finished = answer .finished; examined = answer .examined; accepted = answer .accepted; route = route }
+-- What the code has counted, with the route that it has come to, as a reply.
+abbrev pub reply-so-far : PairLoop → List ℕ → Reply (List ℕ)
+reply-so-far answer route = record { finished = answer .finished; examined = answer .examined; accepted = answer .accepted; route = route }
 
--- What the pair loop promises, of the route handed in, the answer and the route handed back.
-pub record PairsTried (P : Problem) (allowance : ℕ) (route : List ℕ) (answer : PairLoop) (route′ : List ℕ) : Type 0 where
+-- What the loop keeps, of the reply q to the route r: the same stops, each as often; the route handed in where nothing was accepted, and every deadline
+-- where something was; no more pairs than the allowance, and spent only with all of them. No word on the lengths: the route can grow.
+pub record PairPromise (P : Problem) (allowance : ℕ) (r : List ℕ) (q : Reply (List ℕ)) : Type 0 where
+  pub same-stops : (x : ℕ) → count x (q .route) ≡ count x r
+  pub unchanged : q .accepted ≡ 0 → q .route ≡ r
+  pub changed : 0 < q .accepted → Feasible P (q .route)
+  pub within : q .examined ≤ allowance
+  pub spent : q .finished ≡ false → q .examined ≡ allowance
+
+-- What the pair loop promises, of the route handed in, the answer and the route handed back: it "answers .. like polishing", with the loop's route and numbers,
+-- and "leaves a spent round with what it accepted".
+pub record PairsTried (P : Problem) (allowance : ℕ) (route : List ℕ) (answer : Polished) (route′ : List ℕ) : Type 0 where
   pub loop : reply-of answer route′ ≡ pair-loop P allowance route
-  pub same-stops : (x : ℕ) → count x route′ ≡ count x route
-  pub unchanged : answer .accepted ≡ 0 → route′ ≡ route
-  pub within : answer .examined ≤ allowance
-  pub spent : answer .finished ≡ false → answer .examined ≡ allowance
+  pub before : counts-of answer .before ≡ tour-length P route
+  pub after : counts-of answer .after ≡ tour-length P route′
+  pub late : counts-of answer .late ≡ late-position (timetable-of P) (P .depot) route′
+  pub promise : PairPromise P allowance route (reply-of answer route′)

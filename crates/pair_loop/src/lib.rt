@@ -1,16 +1,18 @@
-// The pair loop: the exact 2-opt of the Rust's list k-opt kernel. No entry: crate run and the program replay_entries call it.
+// The pair loop: the exact 2-opt of the Rust's list k-opt kernel, over one round. No entry: crate mittenschist calls it.
+use theory::Counts;
+use theory::Polished;
 ghost use mathlib.Core.Path.{_≡_};
 ghost use Prim.Native.Nat.{_<_};
 ghost use lib.ListN.{length};
 ghost use Rattle.theory.specs.Tables.{problem, Timed, trip};
-ghost use Rattle.pair_loop.specs.PairLoop.{stop-before, sweep, pass, reply-of, PairsTried};
+ghost use Rattle.pair_loop.specs.PairLoop.{stop-before, sweep, pass, pair-loop, reply-so-far, PairsTried};
 ghost use Rattle.pair_loop.specs.Parts.{Going, Sweep};
 
-// What the pair loop counted when it ended.
-pub struct PairLoop {
-    pub finished: bool,
-    pub examined: u64,
-    pub accepted: u64,
+// What the loop has counted.
+struct PairLoop {
+    finished: bool,
+    examined: u64,
+    accepted: u64,
 }
 
 fn stop_before(depot: u32, route: &[u32], i: usize) -> u32
@@ -36,7 +38,7 @@ fn try_sweep(
     route: &mut [u32],
 ) -> PairLoop
     requires { ⌜ Sweep allowance (trip locations (now legs) (now latest) (now service) depot) i «so_far» (now route) ⌝ }
-    ensures { λ r. ⌜ reply-of r (now (route .exit)) ≡ sweep (problem (trip locations (now (legs .entry)) (now (latest .entry)) (now (service .entry)) depot)) allowance (length (now (route .entry))) (reply-of «so_far» (now (route .entry))) i ⌝ }
+    ensures { λ r. ⌜ reply-so-far r (now (route .exit)) ≡ sweep (problem (trip locations (now (legs .entry)) (now (latest .entry)) (now (service .entry)) depot)) allowance (length (now (route .entry))) (reply-so-far «so_far» (now (route .entry))) i ⌝ }
 {
     let mut examined = so_far.examined;
     let mut accepted = so_far.accepted;
@@ -76,7 +78,7 @@ fn try_pass(
     route: &mut [u32],
 ) -> PairLoop
     requires { ⌜ Going allowance (trip locations (now legs) (now latest) (now service) depot) «so_far» (now route) ⌝ }
-    ensures { λ r. ⌜ reply-of r (now (route .exit)) ≡ pass (problem (trip locations (now (legs .entry)) (now (latest .entry)) (now (service .entry)) depot)) allowance (length (now (route .entry))) (reply-of «so_far» (now (route .entry))) ⌝ }
+    ensures { λ r. ⌜ reply-so-far r (now (route .exit)) ≡ pass (problem (trip locations (now (legs .entry)) (now (latest .entry)) (now (service .entry)) depot)) allowance (length (now (route .entry))) (reply-so-far «so_far» (now (route .entry))) ⌝ }
 {
     let mut passed = so_far;
     let mut i = 0;
@@ -101,7 +103,7 @@ fn try_pass(
 }
 
 // Passes until one accepts nothing, or the allowance is reached.
-pub fn pair_loop(
+fn try_passes(
     allowance: u64,
     locations: usize,
     legs: &[u32],
@@ -111,7 +113,7 @@ pub fn pair_loop(
     route: &mut [u32],
 ) -> PairLoop
     requires { ⌜ Timed (trip locations (now legs) (now latest) (now service) depot) (now route) ⌝ }
-    ensures { λ r. ⌜ PairsTried (problem (trip locations (now (legs .entry)) (now (latest .entry)) (now (service .entry)) depot)) allowance (now (route .entry)) r (now (route .exit)) ⌝ }
+    ensures { λ r. ⌜ reply-so-far r (now (route .exit)) ≡ pair-loop (problem (trip locations (now (legs .entry)) (now (latest .entry)) (now (service .entry)) depot)) allowance (now (route .entry)) ⌝ }
 {
     let mut so_far = PairLoop {
         finished: true,
@@ -137,4 +139,42 @@ pub fn pair_loop(
         }
         so_far = passed;
     }
+}
+
+// The pair loop, with the lengths and the lowest late position. A spent round keeps what was accepted; an accepted turn keeps every deadline.
+pub fn pair_loop(
+    allowance: u64,
+    locations: usize,
+    legs: &[u32],
+    latest: &[u32],
+    service: &[u32],
+    depot: u32,
+    route: &mut [u32],
+) -> Polished
+    requires { ⌜ Timed (trip locations (now legs) (now latest) (now service) depot) (now route) ⌝ }
+    ensures { λ r. ⌜ PairsTried (problem (trip locations (now (legs .entry)) (now (latest .entry)) (now (service .entry)) depot)) allowance (now (route .entry)) r (now (route .exit)) ⌝ }
+{
+    let before = costs::route_length(locations, legs, depot, &route[..]);
+    let tried = try_passes(allowance, locations, legs, latest, service, depot, route);
+    let after = costs::route_length(locations, legs, depot, &route[..]);
+    let late = deadlines::late_position(
+        0 < tried.accepted,
+        locations,
+        legs,
+        latest,
+        service,
+        depot,
+        &route[..],
+    );
+    let counts = Counts {
+        examined: tried.examined,
+        accepted: tried.accepted,
+        before,
+        after,
+        late,
+    };
+    if tried.finished {
+        return Polished::Finished(counts);
+    }
+    Polished::Spent(counts)
 }

@@ -1,11 +1,11 @@
 -- The three ends of a tried pair: the legs are not shorter, the turn stays, or it is late and turned back. Assumes nothing.
 use mathlib.Core.Path.{_≡_, refl, sym, ap, _∙_}
-use mathlib.Core.Bool.{Bool, true, false, cond, _&&_}
+use mathlib.Core.Bool.{Bool, true, false, cond, _&&_, and-eq-true-iff}
 use mathlib.Core.List.{List}
 use Prim.Native.Nat.{ℕ, _≤_}
 use lib.ListN.{length, getD}
 use Rattle.theory.specs.Moves.{total}
-use Rattle.theory.specs.Route.{Problem, timetable-of, timely}
+use Rattle.theory.specs.Route.{Problem, timetable-of, timely, feasible}
 use Rattle.theory.specs.Tables.{Timed, Trip}
 use Rattle.theory.proofs.Stops.{as-many, stops-rearranged}
 use Rattle.pair_reversal.specs.Reversal.{stop-after, turned, shortens, accepts, Tried}
@@ -27,6 +27,11 @@ module _ (P : Problem) (a b i j : ℕ) (r : List ℕ) where
   of : (x y : Bool) → shortens (P .leg) a b (getD r j 0) (stop-after (P .depot) r j) ≡ x → timely (timetable-of P) (P .depot) (turned i j r) ≡ y → accepts P a b i r j ≡ (x && y)
   unfolding accepts
   of x y s f = rw (s, f)
+
+  -- What is accepted keeps every deadline.
+  pub accepted-kept : accepts P a b i r j ≡ true → feasible P (turned i j r) ≡ true
+  unfolding accepts
+  accepted-kept e = and-eq-true-iff (shortens (P .leg) a b (getD r j 0) (stop-after (P .depot) r j)) (timely (timetable-of P) (P .depot) (turned i j r)) .0 e .1
 
   -- As the code found the stop e after j, and whether the legs are shorter.
   module _ {e : ℕ} {shorter : Bool} (after : e ≡ stop-after (P .depot) r j) (found : shorter ≡ shortens (P .leg) a b (getD r j 0) e) where

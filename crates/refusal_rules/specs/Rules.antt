@@ -3,9 +3,9 @@ use mathlib.Core.List.{List, [], _∷_, _++_}
 use Prim.Native.Nat.{ℕ, _*_}
 use lib.Ieee.{Float}
 use lib.ListN.{length}
-use Rattle.theory.specs.Tables.{Tables, Fleet}
+use Rattle.theory.specs.Tables.{Tables, Trip, Fleet}
 use Rattle.theory.specs.Question.{Question, question-rules}
-use Rattle.theory.specs.Refusals.{Rule, cut-count, leg-table, leg-sizes, known-stops, stop-count, pattern-index, cut-positions, known-rounds, round-lists, nearby-input, room, table-rules}
+use Rattle.theory.specs.Refusals.{Rule, cut-count, leg-table, leg-sizes, known-stops, stop-count, pattern-index, cut-positions, known-rounds, round-lists, nearby-input, room, table-rules, problem-rules}
 
 -- The rules of a call that writes its values into a lent result: 21 where that has fewer places than are needed.
 abbrev pub with-room : List Rule → ℕ → ℕ → List Rule
@@ -29,6 +29,10 @@ delta-rules k pattern cuts locations legs depot route =
 
 abbrev pub polish-rules : Question → ℕ → List Rule
 polish-rules q lent = with-room (question-rules q) 6 lent
+
+-- The pair loop "takes no k, answers and refuses like polishing".
+abbrev pub pair-loop-rules : Trip → List ℕ → ℕ → List Rule
+pair-loop-rules T route lent = with-room (problem-rules T route) 6 lent
 
 abbrev pub rounds-rules : ℕ → Fleet → List Rule
 rounds-rules locations F = known-rounds locations (F .depots) (F .stops) ∷ round-lists (F .lengths) (F .depots) (F .pins) (length (F .stops)) ∷ []

@@ -6,7 +6,7 @@ ghost use Prim.Native.Nat.{_+_, _*_};
 ghost use lib.ListN.{length};
 ghost use Rattle.theory.specs.Tables.{tables, trip, fleet};
 ghost use Rattle.theory.specs.Refusals.{refusal, cut-count, problem-rules};
-ghost use Rattle.refusal_rules.specs.Rules.{pattern-rules, next-cut-set-rules, reconnect-rules, route-length-rules, delta-rules, rounds-rules, run-rules, nearby-rules, with-room};
+ghost use Rattle.refusal_rules.specs.Rules.{pattern-rules, next-cut-set-rules, reconnect-rules, route-length-rules, delta-rules, pair-loop-rules, rounds-rules, run-rules, nearby-rules, with-room};
 
 pub fn pattern_refusal(k: usize, pattern: usize) -> u32
     ensures { λ r. ⌜ r ≡ refusal (pattern-rules k pattern) ⌝ }
@@ -110,6 +110,22 @@ pub fn polish_refusal(
     let bad_question = question_refusal(k, locations, legs, latest, service, depot, route);
     let bad_room = refusals::check_room(6, lent);
     refusals::first(bad_question, bad_room)
+}
+
+pub fn pair_loop_refusal(
+    locations: usize,
+    legs: &[u32],
+    latest: &[u32],
+    service: &[u32],
+    depot: u32,
+    route: &[u32],
+    lent: usize,
+) -> u32
+    ensures { λ r. ⌜ r ≡ refusal (pair-loop-rules (trip locations (now (legs .entry)) (now (latest .entry)) (now (service .entry)) depot) (now (route .entry)) lent) ⌝ }
+{
+    let bad_round = refusals::check_problem(locations, legs, latest, service, depot, route);
+    let bad_result = refusals::check_room(6, lent);
+    refusals::first(bad_round, bad_result)
 }
 
 fn rounds_refusal(

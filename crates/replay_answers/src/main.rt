@@ -1,4 +1,4 @@
-// Replays the stored answers of the unchanged Rust on polishing, the run and nearby cuts: the file stdout beside src/ is written from them by
+// Replays the stored answers of the unchanged Rust on polishing, the pair loop, the run and nearby cuts: the file stdout beside src/ is written from them by
 // tools/store-answers, and this program prints what the library answers for the same questions, which both draw by the rule of crate replay_drawing.
 // Of polishing's late position the Rust knows only yes or no: it is stored by the definition.
 
@@ -55,6 +55,29 @@ fn show_polish(
         result,
     );
     show_line(b"polish ", refused, &result[..], b" route", &route[..]);
+}
+
+// One round of eight stops.
+fn show_pairs(seed: u16, result: &mut [u64]) {
+    let mut legs = [0u32; 100];
+    let mut latest = [0u32; 10];
+    let mut service = [0u32; 10];
+    let mut route = [0u32; 8];
+    replay_drawing::fill(seed, 99, &mut legs);
+    replay_drawing::fill(seed, 799, &mut latest);
+    replay_drawing::fill(seed, service_of(seed), &mut service);
+    replay_drawing::fill(seed, 9, &mut route);
+    let refused = mittenschist::mittenschist_pair_loop(
+        replay_drawing::allowance_of(seed),
+        10,
+        &legs,
+        &latest,
+        &service,
+        0,
+        &mut route,
+        result,
+    );
+    show_line(b"pairs ", refused, &result[..], b" route", &route);
 }
 
 // Three rounds; the middle one is short, and pinned for every other four seeds. The last one is longer than its stops where the run is refused.
@@ -136,6 +159,7 @@ fn show(seed: u16) {
     show_nine(seed);
     let stay = service_of(seed) as u32;
     show_five(seed, replay_drawing::cuts_of(seed), 10, 0, stay, 0);
+    show_pairs(seed, &mut [9u64; 7]);
     show_run(seed, 7);
     show_nearby(seed);
 }
@@ -149,6 +173,7 @@ fn show_refused() {
     show_five(1, 3, 10, 0, 1000001, 10);
     show_five(1, 3, 10, 0, 0, 10);
     show_short_result();
+    show_pairs(1, &mut [9u64; 5]);
     show_run(1, 8);
     show_nearby(29);
 }

@@ -1,72 +1,8 @@
-// Runs what, beside the entries over cut points, only a Rattle program can call, a line each: the pair loop by itself, on document 01's pair case, with the length of the route
-// that it has come to; and the listing of nearby cuts with its answer as an enum.
+// Runs what, beside the entries over cut points, only a Rattle program can call, a line each: the listing of nearby cuts with its answer as an enum.
 use theory::Listing;
-use theory::RouteLength;
 
 fn write(line: &[u8]) {
     let _ = io::write_all(1, line);
-}
-
-// The pairs accepted, and the route's length.
-fn show_length(accepted: u64, length: RouteLength) {
-    let RouteLength::Seconds(seconds) = length else {
-        return;
-    };
-    let mut line = [0u8; 1024];
-    let count = replay_lines::put_number(b"pairs accepted ", accepted, &mut line, 0);
-    let told = replay_lines::put_number(b" length ", seconds, &mut line, count);
-    let end = replay_lines::put(b"\n", &mut line, told);
-    write(&line[..end]);
-}
-
-// The pair loop up to an allowance.
-fn show_pairs_of(allowance: u64, legs: &[u32], latest: &[u32], service: &[u32], route: &mut [u32]) {
-    if refusals::check_problem(5, legs, latest, service, 0, &route[..]) != 0 {
-        return;
-    }
-    let tried = pair_loop::pair_loop(allowance, 5, legs, latest, service, 0, route);
-    show_length(
-        tried.accepted,
-        mittenschist::route_length(5, legs, 0, &route[..]),
-    );
-}
-
-// The pair case: D, A, B, C, E are 0 to 4.
-fn show_pairs(allowance: u64) {
-    let legs = [
-        0u32,
-        10,
-        1,
-        5,
-        1,
-        10,
-        0,
-        1,
-        1,
-        1,
-        1,
-        1,
-        0,
-        10,
-        10,
-        5,
-        1,
-        10,
-        0,
-        1,
-        1,
-        1,
-        10,
-        1,
-        0,
-    ];
-    show_pairs_of(
-        allowance,
-        &legs,
-        &[4294967295u32; 5],
-        &[0u32; 5],
-        &mut [1u32, 2, 3, 4],
-    );
 }
 
 // A listing's word and number, and the buffer.
@@ -95,23 +31,9 @@ fn show_nearby(d: f64, sets: &mut [usize]) {
     show_listing(answer, &sets[..]);
 }
 
-// Up to each acceptance, and to the end.
-fn show_way() {
-    show_pairs(0);
-    show_pairs(1);
-    show_pairs(2);
-    show_pairs(8);
-    show_pairs(18);
-}
-
-fn show_listings() {
+fn main() {
     show_nearby(1.0, &mut [99usize; 7]);
     show_nearby(2.0, &mut [99usize; 7]);
     show_nearby(2.0, &mut [99usize; 2]);
     show_nearby(0.0 / 0.0, &mut [99usize; 3]);
-}
-
-fn main() {
-    show_way();
-    show_listings();
 }

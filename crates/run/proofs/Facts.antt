@@ -7,19 +7,17 @@ use Prim.Native.Nat.{ℕ, zero, suc, _≤_}
 use native.Mathlib.Omega.{arith}
 use lib.Dec.{eqb, ltb}
 use lib.ListN.{length}
-use borrow.Author.Tests.{ne-eqb}
 use Rattle.theory.specs.Scan.{Reply}
 use Rattle.theory.specs.Moves.{patterns, total}
 use Rattle.theory.specs.Route.{Problem, count}
-use Rattle.theory.specs.Polish.{KOptimal}
+use Rattle.theory.specs.Polish.{polish, KOptimal}
 use Rattle.theory.proofs.Moves.{rearranges}
 use Rattle.theory.proofs.Polish.{polish-demand3, same-total}
 use Rattle.theory.proofs.Stops.{as-many}
 use Rattle.theory.specs.declared.RoundState.{RoundState}
 use Rattle.theory.specs.declared.RoundState.the-variants as State
-use Rattle.pair_loop.proofs.Progress.{loop-onward, loop-bounded}
 use Rattle.run_numbers.specs.States.{number-of, examined-of, Finished}
-use Rattle.run.specs.Round.{Outcome, polish-round, outcome, run-round, RoundRan}
+use Rattle.run.specs.Round.{Outcome, outcome, run-round, RoundRan}
 
 module _ (P : Problem) (k left : ℕ) (r : List ℕ) where
   -- Of a reply to the route.
@@ -28,7 +26,7 @@ module _ (P : Problem) (k left : ℕ) (r : List ℕ) where
     within : q .examined ≤ left
     spent : q .finished ≡ false → q .examined ≡ left
     unchanged : q .accepted ≡ 0 → q .route ≡ r
-    optimal : 3 ≤ k → q .finished ≡ true → KOptimal P (patterns k) k (q .route)
+    optimal : q .finished ≡ true → KOptimal P (patterns k) k (q .route)
 
   -- Of an outcome.
   pub record Fine (o : Outcome) : Type 0 where
@@ -36,44 +34,34 @@ module _ (P : Problem) (k left : ℕ) (r : List ℕ) where
     pub unchanged : ¬ (number-of (o .state) ≡ 4) → o .route ≡ r
     pub within : examined-of (o .state) ≤ left
     pub spent : number-of (o .state) ≡ 5 → examined-of (o .state) ≡ left
-    pub optimal : 3 ≤ k → Finished (number-of (o .state)) → KOptimal P (patterns k) k (o .route)
+    pub optimal : Finished (number-of (o .state)) → KOptimal P (patterns k) k (o .route)
 
   outcome-fine : (f : Bool) (e a : ℕ) (r′ : List ℕ) → Sound (record { finished = f; examined = e; accepted = a; route = r′ }) →
       Fine (outcome r (record { finished = f; examined = e; accepted = a; route = r′ }))
   outcome-fine true e zero r′ s =
-      record { same = s .same; unchanged = λ n. s .unchanged refl; within = s .within; spent = λ h. absurd (omega arith); optimal = λ h d. s .optimal h refl }
+      record { same = s .same; unchanged = λ n. s .unchanged refl; within = s .within; spent = λ h. absurd (omega arith); optimal = λ d. s .optimal refl }
   outcome-fine true e (suc a) r′ s =
-      record { same = s .same; unchanged = λ n. absurd (n refl); within = s .within; spent = λ h. absurd (omega arith); optimal = λ h d. s .optimal h refl }
+      record { same = s .same; unchanged = λ n. absurd (n refl); within = s .within; spent = λ h. absurd (omega arith); optimal = λ d. s .optimal refl }
   outcome-fine false e a r′ s =
       record {
         same = λ g. refl;
         unchanged = λ n. refl;
         within = s .within;
         spent = λ h. s .spent refl;
-        optimal = λ h d. absurd (⊎-elim (λ n. omega arith) (λ n. omega arith) d);
+        optimal = λ d. absurd (⊎-elim (λ n. omega arith) (λ n. omega arith) d);
       }
 
-reply-sound : (P : Problem) (k left : ℕ) (r : List ℕ) → 2 ≤ k → Sound P k left r (polish-round P k left r)
+reply-sound : (P : Problem) (k left : ℕ) (r : List ℕ) → 2 ≤ k → Sound P k left r (polish P k left r)
 reply-sound P zero left r h = absurd (omega arith)
-reply-sound P (suc zero) left r h = absurd (omega arith)
-reply-sound P (suc (suc zero)) left r h =
+reply-sound P (suc k) left r h =
+    let d = polish-demand3 P k left r in
     record {
-      same = loop-onward P left r .same;
-      within = loop-bounded P left r .within;
-      spent = loop-bounded P left r .spent;
-      unchanged = loop-onward P left r .unchanged;
-      optimal = λ l f. absurd (omega arith);
-    }
-reply-sound P (suc (suc (suc k))) left r h =
-    let d = polish-demand3 P (suc (suc k)) left r in
-    rw (ne-eqb (suc (suc (suc k))) 2 (λ e. omega arith))
-    (record {
-      same = λ g. same-total P (patterns (suc (suc (suc k)))) (suc (suc (suc k))) (rearranges (suc (suc k))) g left r;
+      same = λ g. same-total P (patterns (suc k)) (suc k) (rearranges k) g left r;
       within = d .within;
       spent = d .spent;
       unchanged = d .unchanged;
-      optimal = λ l f. d .optimal f;
-    })
+      optimal = d .optimal;
+    }
 
 -- A round that is passed over.
 kept-fine : (P : Problem) (k left : ℕ) (r : List ℕ) (s : RoundState) → number-of s ≤ 2 → examined-of s ≡ 0 → Fine P k left r (record { state = s; route = r })
@@ -83,12 +71,12 @@ kept-fine P k left r s h e =
       unchanged = λ n. refl;
       within = omega (arith, e);
       spent = λ f. absurd (omega (arith, h, f));
-      optimal = λ l d. absurd (⊎-elim (λ n. omega (arith, h, n)) (λ n. omega (arith, h, n)) d);
+      optimal = λ d. absurd (⊎-elim (λ n. omega (arith, h, n)) (λ n. omega (arith, h, n)) d);
     }
 
 pub round-fine : (P : Problem) (k left pin : ℕ) (r : List ℕ) → 2 ≤ k → Fine P k left r (run-round P k left pin r)
 unfolding run-round
-round-fine P k left pin r h = by (eqb left 0) (eqb pin 0) (ltb (length r) 4) (polish-round P k left r) (reply-sound P k left r h)
+round-fine P k left pin r h = by (eqb left 0) (eqb pin 0) (ltb (length r) 4) (polish P k left r) (reply-sound P k left r h)
   where
     by : (reached free short : Bool) (q : Reply (List ℕ)) → Sound P k left r q →
         Fine P k left r

@@ -178,5 +178,5 @@ module _ (k A : ℕ) (T : Tables) (F : Fleet) (result : List ℕ) (ok : Runnable
             number j h
             ∙ after-spent k (ok .least) gs A i j l (omega (arith, how-many T F, h))
             (sym (number i (omega (arith, l, h))) ∙ e);
-        optimal = λ l i h f. rw (route i h) (fine i h .optimal l (rw (number i h) at f));
+        optimal = λ i h f. rw (route i h) (fine i h .optimal (rw (number i h) at f));
       }

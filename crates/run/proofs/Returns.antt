@@ -9,31 +9,26 @@ use lib.Seq.{take-at}
 use borrow.Author.Tests.{eq-eqb, ne-eqb, lt-ltb, le-ltb}
 use Rattle.theory.specs.Scan.{Reply}
 use Rattle.theory.specs.Moves.{patterns}
+use Rattle.theory.specs.Polish.{polish}
 use Rattle.theory.specs.Route.{Problem}
 use Rattle.theory.specs.Answers.{Polishes}
 use Rattle.theory.specs.declared.Counts.{Counts}
 use Rattle.theory.specs.declared.Polished.{Polished}
 use Rattle.theory.specs.declared.RoundState.{RoundState}
 use Rattle.theory.specs.declared.RoundState.the-variants as State
-use Rattle.pair_loop.specs.PairLoop.{PairsTried}
-use Rattle.pair_loop.specs.declared.PairLoop.{PairLoop}
 use Rattle.run_numbers.specs.States.{state-after}
-use Rattle.run.specs.Round.{polish-round, outcome, run-round, Replies, Ends, RoundRan}
+use Rattle.run.specs.Round.{outcome, run-round, Replies, Ends, RoundRan}
 use Rattle.run.specs.declared.round.Replied.{Replied}
 use Rattle.run.proofs.Facts.{round-ran}
 
 module _ (P : Problem) (k left : ℕ) (r r′ : List ℕ) where
-  pub by-pairs : (pairs : PairLoop) → k ≡ 2 → PairsTried P left r pairs r′ →
-      Replies P k left r (record { finished = pairs .finished; examined = pairs .examined; accepted = pairs .accepted }) r′
-  by-pairs pairs e t = record { reply = rw (eq-eqb k 2 e) (t .loop) }
-
-  pub by-scan-finished : (answer : Polished) (c : Counts) → ¬ (k ≡ 2) → Polishes P (patterns k) k left r answer r′ → answer ≡ Polished.Finished c →
+  pub replied-finished : (answer : Polished) (c : Counts) → Polishes P (patterns k) k left r answer r′ → answer ≡ Polished.Finished c →
       Replies P k left r (record { finished = true; examined = c .examined; accepted = c .accepted }) r′
-  by-scan-finished answer c n p e = record { reply = rw (ne-eqb k 2 n) (rw e at (p .scan)) }
+  replied-finished answer c p e = record { reply = rw e at (p .scan) }
 
-  pub by-scan-spent : (answer : Polished) (c : Counts) → ¬ (k ≡ 2) → Polishes P (patterns k) k left r answer r′ → answer ≡ Polished.Spent c →
+  pub replied-spent : (answer : Polished) (c : Counts) → Polishes P (patterns k) k left r answer r′ → answer ≡ Polished.Spent c →
       Replies P k left r (record { finished = false; examined = c .examined; accepted = c .accepted }) r′
-  by-scan-spent answer c n p e = record { reply = rw (ne-eqb k 2 n) (rw e at (p .scan)) }
+  replied-spent answer c p e = record { reply = rw e at (p .scan) }
 
 -- The copy holds the route.
 pub copied : (r old old′ : List ℕ) → old′ ≡ take 0 old ++ r ++ drop (0 + length r) old → take (length r) old′ ≡ r
@@ -71,7 +66,7 @@ module _ (P : Problem) (k left pin : ℕ) (r : List ℕ) (h : 2 ≤ k) where
           round-ran P k left pin r State.Short r h (rw (ne-eqb left 0 a, eq-eqb pin 0 b, lt-ltb (length r) 4 c))
           (rw (ne-eqb left 0 a, eq-eqb pin 0 b, lt-ltb (length r) 4 c))
 
-      pub polished : 4 ≤ length r → (state : RoundState) (r′ : List ℕ) → Ends (outcome r (polish-round P k left r)) state r′ → RoundRan P k left pin r state r′
+      pub polished : 4 ≤ length r → (state : RoundState) (r′ : List ℕ) → Ends (outcome r (polish P k left r)) state r′ → RoundRan P k left pin r state r′
       unfolding run-round
       polished c state r′ o =
           round-ran P k left pin r state r′ h (rw (ne-eqb left 0 a, eq-eqb pin 0 b, le-ltb (length r) 4 c) (o .state-is))

@@ -7,7 +7,6 @@ use Rattle.theory.specs.Moves.{total, patterns, cut-sets, candidates}
 use Rattle.theory.specs.Route.{tour-length, timely, reconnected}
 use Rattle.theory.specs.Tables.{Tables, tables, fleet}
 use Rattle.theory.specs.Scan.{scan-from}
-use Rattle.pair_loop.specs.PairLoop.{pair-loop}
 use Rattle.run.specs.Round.{run-round}
 use Rattle.run.specs.Run.{rounds, run, routes, numbers}
 
@@ -45,12 +44,13 @@ passed-over allowance = record { k = 3; allowance = allowance; legs = []; length
 
 abbrev runs : List (Ask × List ℕ)
 runs =
-    -- "18 examined, 3 accepted, end B A C E", each of the two.
-    (twice 36, 4 ∷ 18 ∷ 3 ∷ 3 ∷ 4 ∷ 18 ∷ 3 ∷ 3 ∷ 2 ∷ 1 ∷ 3 ∷ 4 ∷ 2 ∷ 1 ∷ 3 ∷ 4 ∷ [])
+    -- By the scan, 1 pattern on 10 cut sets: the second candidate is taken, B A C E, and then all ten are tried; each of the two.
+    (twice 24, 4 ∷ 12 ∷ 1 ∷ 1 ∷ 4 ∷ 12 ∷ 1 ∷ 1 ∷ 2 ∷ 1 ∷ 3 ∷ 4 ∷ 2 ∷ 1 ∷ 3 ∷ 4 ∷ [])
     -- "A spent round is put back as handed in, and the run stops."
-    ∷ (twice 19, 4 ∷ 18 ∷ 3 ∷ 3 ∷ 5 ∷ 1 ∷ 1 ∷ 0 ∷ 2 ∷ 1 ∷ 3 ∷ 4 ∷ 1 ∷ 2 ∷ 3 ∷ 4 ∷ [])
-    ∷ (twice 18, 4 ∷ 18 ∷ 3 ∷ 3 ∷ 0 ∷ 0 ∷ 0 ∷ 0 ∷ 2 ∷ 1 ∷ 3 ∷ 4 ∷ 1 ∷ 2 ∷ 3 ∷ 4 ∷ [])
-    ∷ (twice 17, 5 ∷ 17 ∷ 3 ∷ 0 ∷ 0 ∷ 0 ∷ 0 ∷ 0 ∷ 1 ∷ 2 ∷ 3 ∷ 4 ∷ 1 ∷ 2 ∷ 3 ∷ 4 ∷ [])
+    ∷ (twice 14, 4 ∷ 12 ∷ 1 ∷ 1 ∷ 5 ∷ 2 ∷ 1 ∷ 0 ∷ 2 ∷ 1 ∷ 3 ∷ 4 ∷ 1 ∷ 2 ∷ 3 ∷ 4 ∷ [])
+    ∷ (twice 13, 4 ∷ 12 ∷ 1 ∷ 1 ∷ 5 ∷ 1 ∷ 0 ∷ 0 ∷ 2 ∷ 1 ∷ 3 ∷ 4 ∷ 1 ∷ 2 ∷ 3 ∷ 4 ∷ [])
+    ∷ (twice 12, 4 ∷ 12 ∷ 1 ∷ 1 ∷ 0 ∷ 0 ∷ 0 ∷ 0 ∷ 2 ∷ 1 ∷ 3 ∷ 4 ∷ 1 ∷ 2 ∷ 3 ∷ 4 ∷ [])
+    ∷ (twice 11, 5 ∷ 11 ∷ 1 ∷ 0 ∷ 0 ∷ 0 ∷ 0 ∷ 0 ∷ 1 ∷ 2 ∷ 3 ∷ 4 ∷ 1 ∷ 2 ∷ 3 ∷ 4 ∷ [])
     -- "Allowance reached, stop; pinned, skip": in this order.
     ∷ (idle 71, 3 ∷ 70 ∷ 0 ∷ 0 ∷ 1 ∷ 0 ∷ 0 ∷ 0 ∷ 1 ∷ 2 ∷ 3 ∷ 4 ∷ 5 ∷ [])
     ∷ (idle 70, 3 ∷ 70 ∷ 0 ∷ 0 ∷ 0 ∷ 0 ∷ 0 ∷ 0 ∷ 1 ∷ 2 ∷ 3 ∷ 4 ∷ 5 ∷ [])
@@ -62,5 +62,5 @@ runs =
     ∷ []
 
 pub runs-right : map (λ q. answer (q .0)) runs ≡ map (λ q. q .1) runs
-unfolding answer run-round total pair-loop scan-from candidates patterns cut-sets tour-length timely reconnected
+unfolding answer run-round total scan-from candidates patterns cut-sets tour-length timely reconnected
 runs-right = refl

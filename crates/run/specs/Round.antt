@@ -11,7 +11,6 @@ use Rattle.theory.specs.Route.{Problem, count}
 use Rattle.theory.specs.Polish.{polish, KOptimal}
 use Rattle.theory.specs.declared.RoundState.{RoundState}
 use Rattle.theory.specs.declared.RoundState.the-variants as State
-use Rattle.pair_loop.specs.PairLoop.{pair-loop}
 use Rattle.run_numbers.specs.States.{state-after, number-of, examined-of, Finished}
 use Rattle.run.specs.declared.round.Replied.{Replied}
 
@@ -20,25 +19,22 @@ pub record Outcome : Type 0 where
   pub state : RoundState
   pub route : List ℕ
 
--- "Else polish, k = 2 by the pair loop."
-abbrev pub polish-round : Problem → ℕ → ℕ → List ℕ → Reply (List ℕ)
-polish-round P k left r = cond (eqb k 2) (pair-loop P left r) (polish P k left r)
-
 -- Of the reply q to the round r: "a spent round is put back as handed in".
 abbrev pub outcome : List ℕ → Reply (List ℕ) → Outcome
 outcome r q = record { state = state-after (q .finished) (q .examined) (q .accepted); route = cond (q .finished) (q .route) r }
 
--- "For each round: allowance reached, stop; pinned, skip; under 4 stops, skip; else polish", with the allowance that is left; a pin byte of "0 meaning free".
+-- "For each round: allowance reached, stop; pinned, skip; under 4 stops, skip; else polish", with the allowance that is left; a pin byte of "0 meaning free". "A
+-- run with k = 2 shall from now on polish as it does for 3 to 5."
 unfoldable pub run-round : Problem → (k left pin : ℕ) → List ℕ → Outcome
 run-round P k left pin r =
     cond (eqb left 0) (record { state = State.NotReached; route = r })
     (cond (eqb pin 0)
-    (cond (ltb (length r) 4) (record { state = State.Short; route = r }) (outcome r (polish-round P k left r)))
+    (cond (ltb (length r) 4) (record { state = State.Short; route = r }) (outcome r (polish P k left r)))
     (record { state = State.Pinned; route = r }))
 
 -- What the polishing of a round answers, and the route that it leaves.
 pub record Replies (P : Problem) (k left : ℕ) (r : List ℕ) (answer : Replied) (r′ : List ℕ) : Type 0 where
-  pub reply : record { finished = answer .finished; examined = answer .examined; accepted = answer .accepted; route = r′ } ≡ polish-round P k left r
+  pub reply : record { finished = answer .finished; examined = answer .examined; accepted = answer .accepted; route = r′ } ≡ polish P k left r
 
 -- A state and a route are those of an outcome.
 pub record Ends (o : Outcome) (state : RoundState) (r′ : List ℕ) : Type 0 where
@@ -46,8 +42,7 @@ pub record Ends (o : Outcome) (state : RoundState) (r′ : List ℕ) : Type 0 wh
   pub route-is : r′ ≡ o .route
 
 -- What one round of a run promises: state and route by the definition; "the same stops, each as often"; a route other than the one handed in only in
--- state 4; no more candidates than are left, and all of them where it is spent; and with k from 3 to 5 a round that finished is k-optimal ("demand 3 isn't
--- stated of" the pair loop).
+-- state 4; no more candidates than are left, and all of them where it is spent; and a round that finished is k-optimal, "whichever k".
 pub record RoundRan (P : Problem) (k left pin : ℕ) (r : List ℕ) (state : RoundState) (r′ : List ℕ) : Type 0 where
   pub state-is : state ≡ run-round P k left pin r .state
   pub route-is : r′ ≡ run-round P k left pin r .route
@@ -55,4 +50,4 @@ pub record RoundRan (P : Problem) (k left pin : ℕ) (r : List ℕ) (state : Rou
   pub unchanged : ¬ (number-of state ≡ 4) → r′ ≡ r
   pub within : examined-of state ≤ left
   pub spent : number-of state ≡ 5 → examined-of state ≡ left
-  pub optimal : 3 ≤ k → Finished (number-of state) → KOptimal P (patterns k) k r′
+  pub optimal : Finished (number-of state) → KOptimal P (patterns k) k r′

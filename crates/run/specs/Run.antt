@@ -68,7 +68,7 @@ pub record Runnable (k : ℕ) (T : Tables) (F : Fleet) (result : List ℕ) : Typ
 
 -- What a run promises: stops and result by the definition, the places of the result beyond those written kept; each round holds the same stops, each as
 -- often, and in the order handed in unless its state is 4; all rounds together examine no more than the allowance, and a round is spent only when they
--- have examined all of it, after which none is reached; and with k from 3 to 5 each round that finished is k-optimal.
+-- have examined all of it, after which none is reached; and "every finished round in a run then satisfies the rival's condition, whichever k".
 pub record Ran (k allowance : ℕ) (T : Tables) (F : Fleet) (result stops′ result′ : List ℕ) : Type 0 where
   pub stops-are : stops′ ≡ routes (run k allowance (rounds T F))
   pub result-is : result′ ≡ numbers (run k allowance (rounds T F)) ++ drop (4 * length (F .lengths)) result
@@ -77,5 +77,5 @@ pub record Ran (k allowance : ℕ) (T : Tables) (F : Fleet) (result stops′ res
   pub within : examined-in result′ (length (F .lengths)) ≤ allowance
   pub spent : (i : ℕ) → i < length (F .lengths) → getD result′ (4 * i) 0 ≡ 5 → examined-in result′ (length (F .lengths)) ≡ allowance
   pub stopped : (i j : ℕ) → i < j → j < length (F .lengths) → getD result′ (4 * i) 0 ≡ 5 → getD result′ (4 * j) 0 ≡ 0
-  pub optimal : 3 ≤ k → (i : ℕ) → i < length (F .lengths) → Finished (getD result′ (4 * i) 0) →
+  pub optimal : (i : ℕ) → i < length (F .lengths) → Finished (getD result′ (4 * i) 0) →
       KOptimal (problem (trip-of T F i)) (patterns k) k (round-at (F .lengths) stops′ i)

@@ -5,9 +5,10 @@ use theory::STOPS;
 ghost use mathlib.Core.Path.{_≡_};
 ghost use mathlib.Core.Bool.{cond};
 ghost use lib.ListN.{length};
+ghost use Rattle.theory.specs.Polish.{polish};
 ghost use Rattle.theory.specs.Tables.{problem, trip};
 ghost use Rattle.polishing.specs.Loop.{Polishable};
-ghost use Rattle.run.specs.Round.{Replies, outcome, polish-round, Ends, RoundRan};
+ghost use Rattle.run.specs.Round.{Replies, outcome, Ends, RoundRan};
 
 // What the polishing of a round counted.
 struct Replied {
@@ -16,7 +17,7 @@ struct Replied {
     accepted: u64,
 }
 
-// Two cuts by the pair loop, three to five by polishing.
+// Polishing, whichever k, and what it counted.
 fn polish_round(
     k: usize,
     left: u64,
@@ -30,14 +31,6 @@ fn polish_round(
     requires { ⌜ Polishable k (trip locations (now legs) (now latest) (now service) depot) (now route) ⌝ }
     ensures { λ r. ⌜ Replies (problem (trip locations (now (legs .entry)) (now (latest .entry)) (now (service .entry)) depot)) k left (now (route .entry)) r (now (route .exit)) ⌝ }
 {
-    if k == 2 {
-        let pairs = pair_loop::pair_loop(left, locations, legs, latest, service, depot, route);
-        return Replied {
-            finished: pairs.finished,
-            examined: pairs.examined,
-            accepted: pairs.accepted,
-        };
-    }
     match polishing::polish_route(k, left, locations, legs, latest, service, depot, route) {
         Polished::Finished(counts) => Replied {
             finished: true,
@@ -74,7 +67,7 @@ fn polish_or_put_back(
     route: &mut [u32],
 ) -> RoundState
     requires { ⌜ Polishable k (trip locations (now legs) (now latest) (now service) depot) (now route) ⌝ }
-    ensures { λ r. ⌜ Ends (outcome (now (route .entry)) (polish-round (problem (trip locations (now (legs .entry)) (now (latest .entry)) (now (service .entry)) depot)) k left (now (route .entry)))) r (now (route .exit)) ⌝ }
+    ensures { λ r. ⌜ Ends (outcome (now (route .entry)) (polish (problem (trip locations (now (legs .entry)) (now (latest .entry)) (now (service .entry)) depot)) k left (now (route .entry)))) r (now (route .exit)) ⌝ }
 {
     let n = route.len();
     let mut old = [0u32; STOPS];

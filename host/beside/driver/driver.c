@@ -1,9 +1,9 @@
 /* Times one archive. Reads a case from standard input, then turns, and answers each turn with a line.
  *
- * tools/bench compiles this once for each archive, with the header that came with it. POLISH_ROUTE, RUN_LIST_K_OPT and NEARBY_CUTS are the names of
- * the function's parameters as that header has them, so that each archive is called in its own way. A parameter is handed the variable of
+ * tools/bench compiles this once for each archive, with the header that came with it. POLISH_ROUTE, PAIR_LOOP, RUN_LIST_K_OPT and NEARBY_CUTS are the
+ * names of the function's parameters as that header has them, so that each archive is called in its own way. A parameter is handed the variable of
  * its name below: where the compiler misses one, a function has a new parameter, and it is given a variable here that leaves its meaning
- * as it was. */
+ * as it was. PAIR_LOOP is missing where the archive has no such function: its run took the loop for k = 2. */
 #include <inttypes.h>
 #include <stdio.h>
 #include <stdlib.h>
@@ -39,6 +39,9 @@ static size_t result_len = PLACES;
 /* What is handed in at each call anew. */
 static uint32_t *handed;
 static size_t handed_len;
+
+/* Whether the reply is told by its counts alone. */
+static int counts_only;
 
 static void fail(const char *what) {
     fprintf(stderr, "driver: %s\n", what);
@@ -109,6 +112,21 @@ static void read_polish(void) {
     route = room(route_len, sizeof *route);
 }
 
+static void read_pairs(void) {
+    read_polish();
+    counts_only = 1;
+#ifndef PAIR_LOOP
+    stops_len = route_len;
+    stops = room(stops_len, sizeof *stops);
+    lengths_len = depots_len = pins_len = 1;
+    lengths = room(1, sizeof *lengths);
+    depots = room(1, sizeof *depots);
+    pins = room(1, sizeof *pins);
+    lengths[0] = route_len;
+    depots[0] = depot;
+#endif
+}
+
 static void read_run(void) {
     read_tables();
     handed = words(&handed_len);
@@ -150,6 +168,21 @@ static uint64_t polish(uint64_t *time) {
     return result[1];
 }
 
+static uint64_t pairs(uint64_t *time) {
+#ifdef PAIR_LOOP
+    memcpy(route, handed, handed_len * sizeof *route);
+    uint64_t start = now();
+    uint32_t refused = mittenschist_pair_loop(PAIR_LOOP);
+#else
+    memcpy(stops, handed, handed_len * sizeof *stops);
+    uint64_t start = now();
+    uint32_t refused = mittenschist_run_list_k_opt(RUN_LIST_K_OPT);
+#endif
+    *time += now() - start;
+    taken(refused);
+    return result[1];
+}
+
 static uint64_t run(uint64_t *time) {
     memcpy(stops, handed, handed_len * sizeof *stops);
     uint64_t start = now();
@@ -174,9 +207,10 @@ static uint64_t mixed(uint64_t sum, uint64_t value) {
 }
 
 /* One number for the reply: what is written of the result in every version, of polishing the five numbers before the late position; then
- * the stops or sets. */
+ * the stops or sets. Of the pair loop the counts of pairs, which a run has in the same places. */
 static uint64_t reply(size_t places) {
     uint64_t sum = 14695981039346656037u;
+    if (counts_only) return mixed(mixed(sum, result[1]), result[2]);
     for (size_t i = 0; i < places; i++) sum = mixed(sum, result[i]);
     for (size_t i = 0; i < route_len; i++) sum = mixed(sum, route[i]);
     for (size_t i = 0; i < stops_len; i++) sum = mixed(sum, stops[i]);
@@ -205,7 +239,9 @@ int main(void) {
         legs = latest = service = route = stops = handed = depots = NULL;
         lengths = sets = NULL, pins = NULL, distances = NULL;
         route_len = stops_len = sets_len = 0;
+        counts_only = 0;
         if (!strcmp(word, "polish")) read_polish(), call = polish, places = 5;
+        else if (!strcmp(word, "pairs")) read_pairs(), call = pairs;
         else if (!strcmp(word, "run")) read_run(), call = run, places = 4 * lengths_len;
         else if (!strcmp(word, "nearby")) read_nearby(), call = nearby, places = 2;
         else fail("an unknown word");

@@ -2,8 +2,9 @@
 
 use crate::cases::polish::Case;
 use crate::nearby::document_case as nearby_case;
+use crate::pairs::document::document_case as pair_case;
 use crate::polish::bounds::{late_text_case, served_text_case, text_case};
-use crate::run::document_case as pair_case;
+use crate::run::pair_case::of_rounds as pair_case_by_run;
 use crate::trial::Trial;
 use crate::{oracle, trial::Reply};
 
@@ -35,6 +36,11 @@ pub fn fault() -> Option<String> {
             text(late_text_case(u32::MAX, 0)) == ([0, 7, 0, 15, 15, 1], vec![1, 2]),
         ),
         ("the pair loop", pair_loop()),
+        (
+            "the pair case by polishing",
+            oracle::run::run(&pair_case_by_run(1, u64::MAX), u64::MAX)
+                == (vec![2, 1, 3, 4], vec![4, 12, 1, 1]),
+        ),
         ("nearby, one nearer", nearby(true) == [1, 3, 4, 2, 3, 4]),
         (
             "nearby, all alike",
@@ -62,7 +68,7 @@ fn text(case: Case) -> ([u64; 6], Vec<u64>) {
 
 /// 18 examined, 3 accepted, end B A C E.
 fn pair_loop() -> bool {
-    let (stops, numbers) = oracle::run::run(&pair_case(u64::MAX), u64::MAX);
+    let (stops, numbers) = oracle::run::run_by_rust(&pair_case(u64::MAX).as_run(), u64::MAX);
     stops == [2, 1, 3, 4] && numbers == [4, 18, 3, 3]
 }
 

@@ -1,6 +1,6 @@
 //! An archive that is timed in a process of its own: driver/driver.c, compiled with the archive's header and linked with it.
 
-use crate::cases::{nearby, polish, run};
+use crate::cases::{nearby, pairs, polish, run};
 use crate::tables::listed;
 use std::io::{BufRead, BufReader, Write};
 use std::process::{Child, ChildStdin, ChildStdout, Command, Stdio};
@@ -78,8 +78,16 @@ fn tables(k: usize, allowance: u64, tables: &crate::tables::Tables) -> String {
 }
 
 pub fn polish(case: &polish::Case) -> String {
+    format!("polish {}", one_round(case))
+}
+
+pub fn pairs(case: &pairs::Case) -> String {
+    format!("pairs {}", one_round(case.asked()))
+}
+
+fn one_round(case: &polish::Case) -> String {
     let tables = tables(case.k, case.allowance, &case.tables);
-    format!("polish {tables}{}\n{}", case.depot, counted(&case.route))
+    format!("{tables}{}\n{}", case.depot, counted(&case.route))
 }
 
 pub fn run(case: &run::Case) -> String {

@@ -30,6 +30,7 @@ pub mod means;
 pub mod moves;
 pub mod nearby;
 pub mod oracle;
+pub mod pairs;
 pub mod parts;
 pub mod polish;
 pub mod random;

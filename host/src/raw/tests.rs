@@ -35,6 +35,37 @@ fn polish_an_empty_route() {
 }
 
 #[test]
+fn pairs_of_nothing() {
+    let mut result = [9; 6];
+    let (legs, latest, service) = (LEGS.as_ptr(), LATEST.as_ptr(), SERVICE.as_ptr());
+    // SAFETY: as said above.
+    let mut pairs = |locations, depot, lent| unsafe {
+        mittenschist_pair_loop(
+            0,
+            locations,
+            legs,
+            1,
+            latest,
+            1,
+            service,
+            1,
+            depot,
+            null_mut(),
+            0,
+            result.as_mut_ptr(),
+            lent,
+        )
+    };
+    let returned = [
+        pairs(2, 0, 6),
+        pairs(1, 1, 6),
+        pairs(1, 0, 5),
+        pairs(1, 0, 6),
+    ];
+    assert_eq!((returned, result), ([2, 4, 21, 0], [0, 0, 0, 7, 7, 0]));
+}
+
+#[test]
 fn polish_nothing() {
     // SAFETY: as said above.
     let polish = |k, locations| unsafe {

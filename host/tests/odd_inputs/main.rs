@@ -6,6 +6,7 @@
 
 mod moves;
 mod nearby;
+mod pairs;
 mod parts;
 mod polish;
 mod pools;

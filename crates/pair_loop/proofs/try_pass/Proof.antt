@@ -4,7 +4,7 @@ use Prim.Native.Nat.{_+_, _-_, _≤_, _<_}
 use lib.ListN.{length}
 use Rattle.theory.specs.Route.{Problem}
 use Rattle.theory.specs.Tables.{problem, trip}
-use Rattle.pair_loop.specs.PairLoop.{reply-of, pass}
+use Rattle.pair_loop.specs.PairLoop.{reply-so-far, pass}
 use Rattle.pair_loop.specs.Parts.{Going}
 use Rattle.pair_loop.proofs.Steps.{pass-left, pass-first, pass-ended, pass-tried, pass-stopped}
 use Rattle.pair_loop.proofs.Progress.{going-after-sweep}
@@ -19,8 +19,8 @@ Inv-loop allowance locations legs latest service depot route₀ passed₀ i₀ r
     Going allowance (trip locations legs latest service depot) passed route
     × (length route ≡ length route₀)
     × (i ≤ length route₀)
-    × (pass-left (problem (trip locations legs latest service depot)) allowance (length route₀) (reply-of passed route) i
-    ≡ pass (problem (trip locations legs latest service depot)) allowance (length route₀) (reply-of passed₀ route₀))
+    × (pass-left (problem (trip locations legs latest service depot)) allowance (length route₀) (reply-so-far passed route) i
+    ≡ pass (problem (trip locations legs latest service depot)) allowance (length route₀) (reply-so-far passed₀ route₀))
 
 abbrev μ-loop : tie.MeasureT-loop
 μ-loop allowance locations legs latest service depot route₀ passed₀ i₀ route passed i = length route₀ - i
@@ -31,7 +31,7 @@ P s = problem (trip (s .args .locations) (s .args .legs .now) (s .args .latest .
 loop-holds : tie.Need-loop-holds Inv-loop μ-loop
 loop-holds c =
     let s = c .before .before .before .before in
-    (s .pre, refl, omega arith, pass-first (P s) (s .args .allowance) (length (s .args .route .now)) (reply-of (s .args .so-far) (s .args .route .now)))
+    (s .pre, refl, omega arith, pass-first (P s) (s .args .allowance) (length (s .args .route .now)) (reply-so-far (s .args .so-far) (s .args .route .now)))
 
 add-loop : tie.Need-add-loop Inv-loop μ-loop
 add-loop c = search needs
@@ -49,7 +49,7 @@ returns c =
     let s = c .before .before .before .before .before .before .before .before .before .before .before .before in
     let l = c .before .before .before .before .before .before .before .loop in
     let h : l .i + 1 < length (s .args .route .now) = omega (arith, l .inv .1, c .before .before .before .before .before .before .loop-test .taken) in
-    pass-stopped (P s) (s .args .allowance) (length (s .args .route .now)) (reply-of (l .passed) (l .route)) _ (l .i) (l .inv .1) h (c .before .before .before .before .try-sweep .ensures) (not-true _ (c .if1 .taken)) ∙ l .inv .3
+    pass-stopped (P s) (s .args .allowance) (length (s .args .route .now)) (reply-so-far (l .passed) (l .route)) _ (l .i) (l .inv .1) h (c .before .before .before .before .try-sweep .ensures) (not-true _ (c .if1 .taken)) ∙ l .inv .3
 
 add-i : tie.Need-add-i Inv-loop μ-loop
 add-i c = search needs
@@ -64,7 +64,7 @@ loop-again c =
     let h : l .i + 1 < length (s .args .route .now) = omega (arith, l .inv .1, c .before .before .before .before .before .before .loop-test .taken) in
     let e = c .before .before .before .before .try-sweep .ensures in
     let k = going-after-sweep (P s) (s .args .allowance) (l .inv .0) (length (l .route)) (l .i) e (not-false _ (c .if1 .left)) in
-    (k .0, k .1 ∙ l .inv .1, omega (arith, h), pass-tried (P s) (s .args .allowance) (length (s .args .route .now)) (reply-of (l .passed) (l .route)) _ (l .i) (l .inv .1) h e ∙ l .inv .3)
+    (k .0, k .1 ∙ l .inv .1, omega (arith, h), pass-tried (P s) (s .args .allowance) (length (s .args .route .now)) (reply-so-far (l .passed) (l .route)) _ (l .i) (l .inv .1) h e ∙ l .inv .3)
 
 same-length-2 : tie.Need-same-length-2 Inv-loop μ-loop
 same-length-2 c = search needs
@@ -74,7 +74,7 @@ returns-2 c =
     let s = c .before .before .before .before .before .before in
     let l = c .before .loop in
     let h : length (s .args .route .now) ≤ l .i + 1 = omega (arith, l .inv .1, c .loop-test .left) in
-    sym (pass-ended (P s) (s .args .allowance) (length (s .args .route .now)) (reply-of (l .passed) (l .route)) (l .i) h) ∙ l .inv .3
+    sym (pass-ended (P s) (s .args .allowance) (length (s .args .route .now)) (reply-so-far (l .passed) (l .route)) (l .i) h) ∙ l .inv .3
 
 pub try-pass-spec : {M : Type 1} → statement M
 try-pass-spec =

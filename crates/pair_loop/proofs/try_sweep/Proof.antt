@@ -6,7 +6,7 @@ use Prim.Native.Nat.{_+_, _-_, _≤_, _<_}
 use lib.ListN.{length}
 use Rattle.theory.specs.Route.{Problem}
 use Rattle.theory.specs.Tables.{problem, Timed, trip}
-use Rattle.pair_loop.specs.PairLoop.{so-far, sweep, reply-of}
+use Rattle.pair_loop.specs.PairLoop.{so-far, sweep, reply-so-far}
 use Rattle.pair_loop.proofs.Reading.{before-known}
 use Rattle.pair_loop.proofs.Steps.{sweep-left, sweep-first, sweep-spent, sweep-ended, sweep-tried, going-is, counted-one, counted-none, at-most-one}
 use Rattle.pair_reversal.proofs.Trying.{tried-timed}
@@ -38,7 +38,7 @@ P s = problem (trip (s .args .locations) (s .args .legs .now) (s .args .latest .
 -- The row from what was handed in.
 from-start : (s : tie.Start Inv-loop μ-loop) →
     sweep (P s) (s .args .allowance) (length (s .args .route .now)) (so-far (s .args .so-far .examined) (s .args .so-far .accepted) (s .args .route .now)) (s .args .i)
-    ≡ sweep (P s) (s .args .allowance) (length (s .args .route .now)) (reply-of (s .args .so-far) (s .args .route .now)) (s .args .i)
+    ≡ sweep (P s) (s .args .allowance) (length (s .args .route .now)) (reply-so-far (s .args .so-far) (s .args .route .now)) (s .args .i)
 from-start s =
     ap (λ t. sweep (P s) (s .args .allowance) (length (s .args .route .now)) t (s .args .i)) (sym (going-is (s .args .so-far) (s .args .route .now) (s .pre .so-far .going)))
 

@@ -1,5 +1,5 @@
-//! bench NEW.. [--old OLD..]: times the library and the Rust on the same inputs, in turn, and prints a Markdown table for polishing, one for the run
-//! and one for the nearby listing: nanoseconds a candidate or a set. NEW and OLD are drivers (driver/driver.c) of an archive, which lies
+//! bench NEW.. [--old OLD..]: times the library and the Rust on the same inputs, in turn, and prints a Markdown table for polishing, one for the pair
+//! loop, one for the run and one for the nearby listing: nanoseconds a candidate or a set. NEW and OLD are drivers (driver/driver.c) of an archive, which lies
 //! in each of them at another place; with OLD the older archive is timed in the same turns.
 //! A call that ends sooner is repeated until some two million candidates have been examined, so short routes include what a
 //! call costs besides its candidates. The best of many turns counts, since other work may share the machine.
@@ -29,6 +29,9 @@ const IDLE_ROUNDS_APART: usize = 16;
 const CLEARLY: f64 = 0.995;
 const APART: f64 = 0.025;
 const LONGEST: Duration = Duration::from_secs(15);
+
+/// Stops of the pair loop's routes; as many pairs as candidates, since it need not end.
+const PAIR_SIZES: [usize; 2] = [64, 512];
 
 /// Stops in each of eight rounds, by k.
 const RUN_SIZES: [(usize, usize); 4] = [(2, 64), (3, 24), (4, 12), (5, 9)];
@@ -116,6 +119,7 @@ impl Bench {
 
     fn run(mut self) -> Result<(), String> {
         self.polishing()?;
+        self.pair_loops()?;
         self.runs()?;
         self.listings()?;
         println!("\n{}", self.means);
@@ -163,6 +167,32 @@ impl Bench {
             "| {k} | {stops} | {kind} | {accepted} | {passed:.1} % | {} |",
             best.told()
         );
+        Ok(())
+    }
+
+    /// Beside the Rust's run with k = 2 over the one round.
+    fn pair_loops(&mut self) -> Result<(), String> {
+        self.table(
+            "\nThe pair loop",
+            "stops | table | pairs a call | accepted a call",
+            "",
+        );
+        for stops in PAIR_SIZES {
+            for kind in measured::KINDS {
+                let case = cases::pairs::Case::new(measured::case(kind, 2, stops));
+                let reply = same(&case)?;
+                let (examined, accepted) = (reply.number(1, 1), reply.number(1, 2));
+                let name = format!("the pair loop, {stops} stops, {kind}");
+                let by_rust = case.as_run();
+                let best = self.timed(&name, &driver::pairs(&case), &mut || {
+                    unchanged_run(&by_rust)
+                })?;
+                println!(
+                    "| {stops} | {kind} | {examined} | {accepted} | {} |",
+                    best.told()
+                );
+            }
+        }
         Ok(())
     }
 
@@ -335,7 +365,14 @@ fn polish_by_rust(case: &Case) -> Timed {
     (start.elapsed(), counts.examined)
 }
 
+/// With two cuts each round by the Rust's `polish_route`.
 fn run_by_rust(case: &cases::run::Case) -> Timed {
+    let start = Instant::now();
+    let examined = oracle::run::examined(case, case.allowance);
+    (start.elapsed(), examined)
+}
+
+fn unchanged_run(case: &cases::run::Case) -> Timed {
     let start = Instant::now();
     let examined = oracle::run::run_quietly(case, case.allowance);
     (start.elapsed(), examined)

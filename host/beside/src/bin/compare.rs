@@ -7,7 +7,7 @@
 use beside::random::Random;
 use beside::trial::{judge, Drawn, Family, Reply, Source, Trial};
 use beside::watch::Watch;
-use beside::{checks, moves, nearby, parts, polish, run, text};
+use beside::{checks, moves, nearby, pairs, parts, polish, run, text};
 use std::collections::BTreeMap;
 use std::env;
 use std::process::ExitCode;
@@ -128,6 +128,7 @@ fn main() -> ExitCode {
 
 fn families() -> Vec<Family> {
     let mut all = Vec::from(polish::FAMILIES);
+    all.extend(pairs::FAMILIES);
     all.extend(run::FAMILIES);
     all.extend(nearby::FAMILIES);
     all.extend(moves::FAMILIES);

@@ -1,10 +1,11 @@
 //! Prints the Rust's answers to the questions of crates/replay_answers, or with the argument `moves` of crates/replay_moves, in that program's
 //! words: its file stdout. The questions are drawn by the same rule on both sides (`next`, `draw`, `filled`; crates/replay_drawing), and the
-//! library is not called. Polishing's late position, of which the Rust knows only yes or no, is the harness's own.
+//! library is not called. The late position, of which the Rust knows only yes or no, is the harness's own. The pair loop's are of the Rust's run with two
+//! cuts, the run's with two cuts of its `polish_route`.
 
 #![forbid(unsafe_code)]
 
-use beside::cases::{nearby, polish, run};
+use beside::cases::{nearby, pairs, polish, run};
 use beside::checks;
 use beside::moves::apply::Apply;
 use beside::moves::case::Cutting;
@@ -42,6 +43,7 @@ fn searches() {
     for seed in 0..SEEDS {
         say_polished(&polishing(seed, 9));
         say_polished(&polishing(seed, 5));
+        say_paired(seed, polish::RESULT_PLACES + 1);
         ran(seed, 7);
         listed(seed);
     }
@@ -67,6 +69,7 @@ fn refused_searches() {
     for case in [k, locations, leg, service, depot, room] {
         say_polished(&case);
     }
+    say_paired(1, polish::RESULT_PLACES - 1);
     ran(1, 8);
     listed(29);
 }
@@ -157,6 +160,20 @@ fn say_polished(case: &polish::Case) {
     let reply = case.expected();
     let result = seen(&reply, 1, polish::RESULT_PLACES, case.room, RESULT);
     say("polish", &reply, &result, "route", &reply.lent[0].1);
+}
+
+fn say_paired(seed: u16, room: usize) {
+    let case = pairs::Case::new(polish::Case {
+        k: 2,
+        allowance: allowance_of(seed),
+        tables: tables(seed),
+        depot: 0,
+        route: filled(seed, 9, 8),
+        room,
+    });
+    let reply = case.expected();
+    let result = seen(&reply, 1, polish::RESULT_PLACES, room, RESULT);
+    say("pairs", &reply, &result, "route", &reply.lent[0].1);
 }
 
 fn ran(seed: u16, last: usize) {

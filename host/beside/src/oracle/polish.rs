@@ -40,19 +40,29 @@ fn fleet<'c>(tables: &'c Tables, depots: &'c [u32]) -> Fleet<'c> {
 
 /// As above, on the numbers that the Rust takes.
 pub fn polish_stops(case: &Case, allowance: u64, route: &mut Vec<usize>) -> Counts {
-    let depots = [case.depot];
+    polish_with(case.k, allowance, &case.tables, case.depot, route)
+}
+
+pub(super) fn polish_with(
+    k: usize,
+    allowance: u64,
+    tables: &Tables,
+    depot: u32,
+    route: &mut Vec<usize>,
+) -> Counts {
+    let depots = [depot];
     let yard = Yard {
-        fleet: fleet(&case.tables, &depots),
+        fleet: fleet(tables, &depots),
         pins: &[],
         reached: Cell::new(0),
     };
     let mut solver_scope = SolverScope::new(yard, Quiet);
     let (spent, accepted) = polish_route(
         &Access,
-        case.k,
+        k,
         StepControlPolicy { allowance },
         &mut solver_scope,
-        case.depot as usize,
+        depot as usize,
         route,
     );
     Counts {

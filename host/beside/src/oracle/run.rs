@@ -1,8 +1,12 @@
-//! The unchanged `run_list_k_opt`, with what it tells the stand-ins counted by round.
+//! The unchanged `run_list_k_opt`, with what it tells the stand-ins counted by round; and a run whose rounds are polished by the unchanged
+//! `polish_route`, which is what two cuts are held to since document 02.
 
 use super::fleet::{stops, Access, Fleet, Quiet, Yard};
 use super::list_k_opt::run_list_k_opt;
-use crate::cases::run::{Case, CHANGED, NOT_REACHED, PINNED, SHORT, SPENT, UNCHANGED};
+use super::polish::polish_with;
+use crate::cases::run::{
+    Case, CHANGED, NOT_REACHED, NUMBERS_A_ROUND, PINNED, SHORT, SPENT, UNCHANGED,
+};
 use crate::scope::{ProgressCallback, SolverScope, StepControlPolicy};
 use std::cell::Cell;
 
@@ -36,8 +40,71 @@ impl ProgressCallback<Fleet<'_>> for Counting {
     }
 }
 
-/// The stops after the run, and four numbers a round.
-pub fn run(case: &Case, allowance: u64) -> (Vec<u32>, Vec<u64>) {
+/// The stops after a run, and four numbers a round.
+pub type Ran = (Vec<u32>, Vec<u64>);
+
+/// What the library's run is held to.
+pub fn run(case: &Case, allowance: u64) -> Ran {
+    match case.k {
+        2 => run_by_polishing(case, allowance),
+        _ => run_by_rust(case, allowance),
+    }
+}
+
+/// The candidates that it examines in all.
+pub fn examined(case: &Case, allowance: u64) -> u64 {
+    match case.k {
+        2 => run_by_polishing(case, allowance)
+            .1
+            .chunks(NUMBERS_A_ROUND)
+            .map(|round| round[1])
+            .sum(),
+        _ => run_quietly(case, allowance),
+    }
+}
+
+/// Each round polished in turn with what is left of the allowance, whichever k.
+pub fn run_by_polishing(case: &Case, allowance: u64) -> Ran {
+    let (mut left, mut after, mut numbers) = (allowance, Vec::new(), Vec::new());
+    for (index, round) in case.rounds().into_iter().enumerate() {
+        let (order, four) = round_by_polishing(case, index, left, round);
+        left -= four[1];
+        after.extend(order);
+        numbers.extend(four);
+    }
+    (after, numbers)
+}
+
+/// Allowance reached, pinned, under 4 stops, in this order; else polished, and put back where it is spent.
+fn round_by_polishing(
+    case: &Case,
+    index: usize,
+    left: u64,
+    round: &[u32],
+) -> (Vec<u32>, [u64; NUMBERS_A_ROUND]) {
+    let passed_over = |state| (round.to_vec(), [state, 0, 0, 0]);
+    if left == 0 {
+        return passed_over(NOT_REACHED);
+    }
+    if case.pins[index] != 0 {
+        return passed_over(PINNED);
+    }
+    if round.len() < 4 {
+        return passed_over(SHORT);
+    }
+    let mut order = stops(round);
+    let counts = polish_with(case.k, left, &case.tables, case.depots[index], &mut order);
+    let (examined, accepted) = (counts.examined, counts.accepted);
+    let order = order.into_iter().map(|stop| stop as u32).collect();
+    match (counts.spent, accepted) {
+        (true, _) => (round.to_vec(), [SPENT, examined, accepted, 0]),
+        (false, 0) => (order, [UNCHANGED, examined, 0, 0]),
+        (false, _) => (order, [CHANGED, examined, accepted, accepted]),
+    }
+}
+
+/// The unchanged run; with two cuts by the pair loop.
+pub fn run_by_rust(case: &Case, allowance: u64) -> Ran {
     let counting = Counting {
         rounds: vec![Round::default(); case.lengths.len()],
         present: 0,
@@ -66,7 +133,7 @@ fn four_numbers(yard: &Yard, index: usize, round: &Round) -> [u64; 4] {
     }
 }
 
-/// The run with nothing counted by round: the candidates examined in all.
+/// The unchanged run with nothing counted by round: the candidates examined in all.
 pub fn run_quietly(case: &Case, allowance: u64) -> u64 {
     let mut solver_scope = SolverScope::new(yard(case), Quiet);
     let policy = StepControlPolicy { allowance };

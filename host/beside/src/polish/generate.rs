@@ -14,6 +14,12 @@ pub fn draw(random: &mut Random, _index: u64) -> Drawn {
 
 pub fn random_case(random: &mut Random) -> Case {
     let k = random.within(2, 5);
+    let mut case = without_allowance(random, k);
+    case.allowance = allowance(random, &case);
+    case
+}
+
+pub fn without_allowance(random: &mut Random, k: usize) -> Case {
     let stops = stop_count(random, k);
     let locations = location_count(random, stops);
     let mut tables = Tables::of_legs(locations, leg_table(random, locations));
@@ -25,16 +31,14 @@ pub fn random_case(random: &mut Random) -> Case {
     };
     let route = order(random, locations, depot, stops);
     set_times(random, &mut tables, depot, &route);
-    let mut case = Case {
+    Case {
         k,
         allowance: 0,
         tables,
         depot,
         route,
         room,
-    };
-    case.allowance = allowance(random, &case);
-    case
+    }
 }
 
 /// Mostly 0 to 12 and, so that many scans finish, fewer for a large k; some 20 to 64; a few up to the bound.

@@ -102,10 +102,10 @@ fn served(mut case: Case) -> Case {
     case
 }
 
-/// Pairs of 512 stops, all examined, and a round after them.
+/// Two cuts of 512 stops, all examined, and a round after them.
 fn finished_at_the_bound() -> Case {
     let round = (0, vec![0; MOST_STOPS]);
     let mut case = Case::of_rounds(2, Tables::of_legs(1, vec![7]), &[round.clone(), round]);
-    case.allowance = (MOST_STOPS * (MOST_STOPS - 1) / 2) as u64;
+    case.allowance = (MOST_STOPS * (MOST_STOPS + 1) / 2) as u64;
     case
 }

@@ -2,7 +2,7 @@
 
 use crate::cases::run::{Case, NUMBERS_A_ROUND};
 use crate::draw::{order, set_times, some_depot, some_legs};
-use crate::oracle::run::{run, run_quietly};
+use crate::oracle::run::{examined, run};
 use crate::random::Random;
 use crate::rules::{MOST_ROUNDS, MOST_STOPS};
 use crate::tables::Tables;
@@ -91,7 +91,7 @@ fn allowance(random: &mut Random, case: &Case) -> u64 {
         _ => {}
     }
     let most = probe_size(random, case);
-    let examined = run_quietly(case, most);
+    let examined = examined(case, most);
     let ended = examined < most;
     match random.below(6) {
         0 => examined.saturating_sub(1),

@@ -1,15 +1,13 @@
-//! The run: `mittenschist_run_list_k_opt` beside `run_list_k_opt` of kernel.rs.
+//! The run: `mittenschist_run_list_k_opt` beside `run_list_k_opt` of kernel.rs, with two cuts beside rounds polished by `polish_route` of general.rs.
 
 mod allowances;
 mod bounds;
 mod damage;
 mod generate;
-mod pair_loop;
+pub mod pair_case;
 mod planted;
 mod replies;
 mod short;
-
-pub use pair_loop::document_case;
 
 use crate::polish::planted::PATTERNS;
 use crate::trial::{Family, Source};
@@ -18,7 +16,7 @@ const CALL: &str = "run_list_k_opt";
 
 pub const FAMILIES: [Family; 9] = [
     Family::new(CALL, "run/short", Source::Each(short::each)),
-    Family::new(CALL, "run/pair-loop", Source::Each(pair_loop::each)),
+    Family::new(CALL, "run/pair-case", Source::Each(pair_case::each)),
     Family::new(CALL, "run/lengths", Source::Each(bounds::each_length)).on_small_stack(),
     Family::new(CALL, "run/bounds", Source::Each(bounds::each)).on_small_stack(),
     Family::new(CALL, "run/allowances", Source::Each(allowances::each)),

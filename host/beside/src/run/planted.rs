@@ -12,6 +12,6 @@ pub fn draw(random: &mut Random, index: u64) -> Drawn {
         rounds.insert(0, rounds[0].clone());
     }
     let mut case = Case::of_rounds(planted.k, planted.tables, &rounds);
-    case.allowance = if planted.k == 2 { 100_000 } else { u64::MAX };
+    case.allowance = u64::MAX;
     (Box::new(case), None)
 }

@@ -6,8 +6,8 @@ use crate::random::Random;
 use crate::tables::Tables;
 use crate::trial::Visit;
 
-/// Legs 0 or 1, each location due at 1 or never, every k, allowance 0, 1 or plenty (the pair loop may not end: 40). With a second spent at one
-/// location or both, each is due at 1, at 2 or never, and the allowance is plenty.
+/// Legs 0 or 1, each location due at 1 or never, every k, allowance 0, 1, 40 or plenty. With a second spent at one location or both, each is due at
+/// 1, at 2 or never, and the allowance is 40 or plenty.
 pub fn each(_random: &mut Random, visit: Visit) {
     for latest in lists(&[1, u32::MAX], 2) {
         each_route(&latest, &[0; 2], &[0, 1, 40, 5000], visit);

@@ -1,0 +1,53 @@
+-- What the pair loop answers, from what its passes counted. Assumes nothing.
+use mathlib.Core.Path.{_≡_, refl, sym, ap, _∙_}
+use mathlib.Core.Bool.{Bool, true, false}
+use mathlib.Core.List.{List}
+use Prim.Native.Nat.{ℕ, _<_}
+use native.Mathlib.Omega.{arith}
+use Rattle.theory.specs.Moves.{total}
+use Rattle.theory.specs.Route.{tour-length, late-position, feasible}
+use Rattle.theory.specs.Tables.{problem, timetable-by, legs-only, Timed, Trip}
+use Rattle.theory.specs.Answers.{reply-of, counts-of}
+use Rattle.theory.specs.declared.Counts.{Counts}
+use Rattle.theory.specs.declared.Polished.{Polished}
+use Rattle.deadlines.specs.Lateness.{LateAsked}
+use Rattle.pair_reversal.proofs.Trying.{timed-rearranged}
+use Rattle.pair_loop.specs.declared.PairLoop.{PairLoop}
+use Rattle.pair_loop.specs.PairLoop.{PairsTried, reply-so-far, pair-loop}
+use Rattle.pair_loop.proofs.Progress.{loop-onward, loop-promise}
+
+module _ (T : Trip) (A : ℕ) (route : List ℕ) {counted : PairLoop} {route′ : List ℕ} (e : reply-so-far counted route′ ≡ pair-loop (problem T) A route) where
+  pub timed-after : Timed T route → Timed T route′
+  timed-after timed = timed-rearranged (λ g. ap (λ q. total g (q .route)) e ∙ loop-onward (problem T) A route .same g) timed .0
+
+  -- What was accepted keeps every deadline.
+  pub late-asked : Timed T route → {kept : Bool} → (kept ≡ true → 0 < counted .accepted) → LateAsked T route′ kept
+  late-asked timed some =
+      record {
+        timed = timed-after timed;
+        known = λ k. ap (λ q. feasible (problem T) (q .route)) e ∙ loop-onward (problem T) A route .changed (omega (arith, some k, ap (λ q. q .accepted) e));
+      }
+
+  module _ {before after late : ℕ} (b : before ≡ tour-length (legs-only (T .tables .locations) (T .tables .legs) (T .depot)) route)
+      (a : after ≡ tour-length (legs-only (T .tables .locations) (T .tables .legs) (T .depot)) route′)
+      (l : late ≡ late-position (timetable-by (T .tables)) (T .depot) route′) where
+    abbrev counts : Counts
+    counts = record { examined = counted .examined; accepted = counted .accepted; before = before; after = after; late = late }
+
+    -- Deadlines play no part in a length.
+    told : (answer : Polished) → counts-of answer ≡ counts → reply-of answer route′ ≡ reply-so-far counted route′ → PairsTried (problem T) A route answer route′
+    unfolding tour-length
+    told answer c f =
+        record {
+          loop = f ∙ e;
+          before = ap (λ (k : Counts). k .before) c ∙ b;
+          after = ap (λ (k : Counts). k .after) c ∙ a;
+          late = ap (λ (k : Counts). k .late) c ∙ l;
+          promise = rw (f ∙ e) (loop-promise (problem T) A route);
+        }
+
+    pub finished : counted .finished ≡ true → PairsTried (problem T) A route (Polished.Finished counts) route′
+    finished f = told (Polished.Finished counts) refl (ap (λ (x : Bool). record { finished = x; examined = counted .examined; accepted = counted .accepted; route = route′ }) (sym f))
+
+    pub spent : counted .finished ≡ false → PairsTried (problem T) A route (Polished.Spent counts) route′
+    spent f = told (Polished.Spent counts) refl (ap (λ (x : Bool). record { finished = x; examined = counted .examined; accepted = counted .accepted; route = route′ }) (sym f))
