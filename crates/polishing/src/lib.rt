@@ -3,8 +3,6 @@
 use scan_joints::ROW_BYTES;
 use scan_loop::Scanned;
 use theory::Counts;
-use theory::ORDER_BYTES;
-use theory::PATTERNS;
 use theory::Polished;
 ghost use mathlib.Core.Path.{_≡_};
 ghost use mathlib.Core.List.{_∷_, _++_};
@@ -117,7 +115,7 @@ pub fn polish_rows(
     )
 }
 
-// Polishing with every pattern for k cuts.
+// Polishing with every pattern for k cuts, from the table.
 pub fn polish_route(
     k: usize,
     allowance: u64,
@@ -131,10 +129,13 @@ pub fn polish_route(
     requires { ⌜ Polishable k (trip locations (now legs) (now latest) (now service) depot) (now route) ⌝ }
     ensures { λ r. ⌜ Polishes (problem (trip locations (now (legs .entry)) (now (latest .entry)) (now (service .entry)) depot)) (patterns k) k allowance (now (route .entry)) r (now (route .exit)) ⌝ }
 {
-    let mut orders = [0u8; ORDER_BYTES];
-    let mut masks = [0u8; PATTERNS];
-    let count = patterns::enumerate_reconnections(k, &mut orders, &mut masks);
-    let width = count * (k + 1);
+    let part = pattern_table::part_of(k);
+    let first_order = part.orders;
+    let end_order = part.orders_end;
+    let first_mask = part.masks;
+    let end_mask = part.masks_end;
+    let orders = pattern_table::orders();
+    let masks = pattern_table::masks();
     polish_rows(
         k,
         allowance,
@@ -143,8 +144,8 @@ pub fn polish_route(
         latest,
         service,
         depot,
-        &orders[..width],
-        &masks[..count],
+        &orders[first_order..end_order],
+        &masks[first_mask..end_mask],
         route,
     )
 }

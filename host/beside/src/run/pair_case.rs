@@ -5,7 +5,7 @@ use crate::pairs::document::document_case;
 use crate::random::Random;
 use crate::trial::Visit;
 
-/// What the scan examines of the pair case: 10 cut sets, and the first two of them once more.
+/// What the scan examines of the pair case: two cut sets, of which the second is taken, and then all ten.
 const CANDIDATES: u64 = 12;
 
 pub fn of_rounds(rounds: usize, allowance: u64) -> Case {

@@ -1,0 +1,2 @@
+-- The definitions that the contracts of `pattern_table` cite.
+pub mod Table
