@@ -9,8 +9,8 @@
  * aligned for its type and has that many initialised elements; and slices that are written overlap no other slice of the call. These
  * two things cannot be seen from inside, and so cannot be refused.
  *
- * Words: a route or round has n stops, and begins and ends at a depot. Cut p lies before position p, so that cuts are 0 to n. k cuts
- * make k + 1 segments, numbered from 0; a pattern says in which order they are put together, and which are reversed. There are 1, 7, 47,
+ * Words: a route or round has n stops, begins at a depot and ends there too, or, in the functions with `to_end` in their names, in an end
+ * harbour. Cut p lies before position p, so that cuts are 0 to n. k cuts make k + 1 segments, numbered from 0; a pattern says in which order they are put together, and which are reversed. There are 1, 7, 47,
  * 383 patterns for k = 2, 3, 4, 5, with indices from 0.
  */
 #ifndef MITTENSCHIST_H
@@ -30,6 +30,7 @@ enum {
     MITTENSCHIST_LONG_LEG = 3,       /* a leg above 1,000,000 seconds */
     MITTENSCHIST_SERVICE_LIST = 23,  /* service not as many as locations, or an entry above 1,000,000 seconds */
     MITTENSCHIST_UNKNOWN_STOP = 4,   /* a depot or stop not below the locations */
+    MITTENSCHIST_UNKNOWN_END = 24,   /* an end harbour not below the locations */
     MITTENSCHIST_ROUND_SIZE = 5,     /* more than 512 stops; more than 64 rounds; lists of rounds whose sizes disagree */
     MITTENSCHIST_PATTERN_INDEX = 6,  /* a pattern index not below the number of patterns for k */
     MITTENSCHIST_CUTS = 7,           /* not k cuts, a cut above n, or cuts that do not rise strictly */
@@ -91,6 +92,44 @@ uint32_t mittenschist_k_opt_do_move(size_t k, size_t pattern, size_t round,
  *   journal read
  * Refuses 5 (of the route alone), 22. */
 uint32_t mittenschist_k_opt_undo_move(uint32_t *route, size_t route_len, const uint32_t *journal, size_t journal_len);
+
+/* ---- To an end harbour ---- */
+
+/* mittenschist_polish_route, of a route that ends in another harbour. Its length, before and after and of every candidate, is from the depot
+ * to the first stop, from stop to stop, and from the last stop to the end harbour; of an empty route it is the one leg from depot to end.
+ * With the depot as end the replies are those of mittenschist_polish_route.
+ *   end              a location, which may be the depot or a stop; its deadline and its service play no part
+ *   all others       as for it
+ * Refuses 1, 2, 3, 23, 4, 24, 5, 21 (result under 6 places). */
+uint32_t mittenschist_polish_route_to_end(size_t k, uint64_t allowance, size_t locations,
+    const uint32_t *legs, size_t legs_len, const uint32_t *latest, size_t latest_len, const uint32_t *service, size_t service_len,
+    uint32_t depot, uint32_t end, uint32_t *route, size_t route_len, uint64_t *result, size_t result_len);
+
+/* mittenschist_run_list_k_opt, of rounds that end in other harbours.
+ *   ends    read     for each round its end harbour
+ *   all others       as for it
+ * Every end is judged, whichever round has it; another number of ends than of rounds is 5. Refuses 1, 2, 3, 23, 4, 24, 5, 21 (result under 4
+ * places a round). */
+uint32_t mittenschist_run_list_k_opt_to_ends(size_t k, uint64_t allowance, size_t locations,
+    const uint32_t *legs, size_t legs_len, const uint32_t *latest, size_t latest_len, const uint32_t *service, size_t service_len,
+    uint32_t *stops, size_t stops_len, const size_t *lengths, size_t lengths_len,
+    const uint32_t *depots, size_t depots_len, const uint32_t *ends, size_t ends_len, const uint8_t *pins, size_t pins_len,
+    uint64_t *result, size_t result_len);
+
+/* mittenschist_route_length, from the depot to an end harbour.
+ *   legs, depot, end, route  read     as for polishing
+ *   result                   written  1 place: the length
+ * Refuses 2 (of locations and legs), 3, 4, 24, 5, 21. */
+uint32_t mittenschist_route_length_to_end(size_t locations, const uint32_t *legs, size_t legs_len, uint32_t depot, uint32_t end,
+    const uint32_t *route, size_t route_len, uint64_t *result, size_t result_len);
+
+/* mittenschist_delta, to an end harbour.
+ *   cuts, legs, depot, end, route  read
+ *   result                         written  1 place: the difference
+ * Refuses 1, 2 (of locations and legs), 3, 4, 24, 5, 6, 7, 21. */
+uint32_t mittenschist_delta_to_end(size_t k, size_t pattern, const size_t *cuts, size_t cuts_len,
+    size_t locations, const uint32_t *legs, size_t legs_len, uint32_t depot, uint32_t end,
+    const uint32_t *route, size_t route_len, int64_t *result, size_t result_len);
 
 /* ---- The others ---- */
 

@@ -23,6 +23,7 @@
 #![deny(unsafe_code)]
 #![warn(missing_docs)]
 
+mod harbours;
 mod moves;
 mod nearby;
 mod pairs;
@@ -35,6 +36,7 @@ mod run;
 mod tables;
 mod unknown;
 
+pub use harbours::Harbours;
 pub use moves::{k_opt_do_move, k_opt_is_doable, k_opt_undo_move};
 pub use nearby::{nearby_cuts, Listing};
 pub use pairs::{pair_loop, PairLooped};

@@ -1,7 +1,7 @@
 //! The parts of polishing, each by itself.
 
 use crate::unknown::{late_position, yes};
-use crate::{raw, Refusal, Tables};
+use crate::{raw, Harbours, Refusal, Tables};
 
 /// A pattern: how the k + 1 segments between k cuts are put together again.
 #[derive(Clone, Debug, PartialEq, Eq)]
@@ -61,7 +61,8 @@ pub fn reconnect(
     Refusal::check(raw::reconnect(k, pattern, cuts, route, out))
 }
 
-/// The seconds of a route, from the depot back to it. Deadlines and service are neither read nor judged. Refuses 2, 3, 4, 5.
+/// The seconds of a route, from the depot back to it or to an end harbour ([`Harbours`]). Deadlines and service are neither read nor
+/// judged. Refuses 2, 3, 4, 24, 5.
 ///
 /// ```
 /// use mittenschist::{route_length, Tables};
@@ -70,19 +71,26 @@ pub fn reconnect(
 /// assert_eq!(route_length(&tables, 0, &[1])?, 12);
 /// # Ok::<(), mittenschist::Refusal>(())
 /// ```
-pub fn route_length(tables: &Tables, depot: u32, route: &[u32]) -> Result<u64, Refusal> {
+pub fn route_length(
+    tables: &Tables,
+    harbours: impl Into<Harbours>,
+    route: &[u32],
+) -> Result<u64, Refusal> {
+    let Harbours { depot, end } = harbours.into();
     let mut result = [0];
-    Refusal::check(raw::route_length(
+    Refusal::check(raw::route_length_to_end(
         tables.locations,
         tables.legs,
         depot,
+        end,
         route,
         &mut result,
     ))?;
     Ok(result[0])
 }
 
-/// The seconds of a route after a move minus those before. Deadlines and service are neither read nor judged. Refuses 1, 2, 3, 4, 5, 6, 7.
+/// The seconds of a route after a move minus those before. Deadlines and service are neither read nor judged. Refuses 1, 2, 3, 4, 24, 5,
+/// 6, 7.
 ///
 /// ```
 /// use mittenschist::{delta, Tables};
@@ -97,17 +105,19 @@ pub fn delta(
     pattern: usize,
     cuts: &[usize],
     tables: &Tables,
-    depot: u32,
+    harbours: impl Into<Harbours>,
     route: &[u32],
 ) -> Result<i64, Refusal> {
+    let Harbours { depot, end } = harbours.into();
     let mut result = [0];
-    Refusal::check(raw::delta(
+    Refusal::check(raw::delta_to_end(
         k,
         pattern,
         cuts,
         tables.locations,
         tables.legs,
         depot,
+        end,
         route,
         &mut result,
     ))?;

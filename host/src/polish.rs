@@ -1,5 +1,5 @@
 use crate::unknown::{late_position, unknown};
-use crate::{raw, Refusal, Tables};
+use crate::{raw, Harbours, Refusal, Tables};
 
 /// How a search ended.
 #[derive(Clone, Copy, Debug, PartialEq, Eq)]
@@ -46,7 +46,8 @@ impl Polished {
     }
 }
 
-/// Polishes a route, examining at most `allowance` candidates. Refuses 1, 2, 3, 23, 4, 5.
+/// Polishes a route, examining at most `allowance` candidates: a closed tour where a depot is handed in, else one to an end harbour
+/// ([`Harbours`]). Refuses 1, 2, 3, 23, 4, 24, 5.
 ///
 /// A finished route of n stops has cost at least one whole pass, patterns(k) × C(n + 1, k) candidates (1, 7, 47, 383 patterns for
 /// k = 2, 3, 4, 5), and at most (1 + seconds saved) times as many. A spent route keeps what was accepted, so a small allowance only
@@ -76,12 +77,13 @@ pub fn polish_route(
     k: usize,
     allowance: u64,
     tables: &Tables,
-    depot: u32,
+    harbours: impl Into<Harbours>,
     route: &mut [u32],
 ) -> Result<Polished, Refusal> {
+    let Harbours { depot, end } = harbours.into();
     // No number of stops: an archive that writes five numbers is told by it.
     let mut result = [u64::MAX; 6];
-    Refusal::check(raw::polish_route(
+    Refusal::check(raw::polish_route_to_end(
         k,
         allowance,
         tables.locations,
@@ -89,6 +91,7 @@ pub fn polish_route(
         tables.latest,
         tables.service,
         depot,
+        end,
         route,
         &mut result,
     ))?;

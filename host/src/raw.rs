@@ -20,6 +20,23 @@ extern "C" {
         result: *mut u64,
         result_len: usize,
     ) -> u32;
+    fn mittenschist_polish_route_to_end(
+        k: usize,
+        allowance: u64,
+        locations: usize,
+        legs: *const u32,
+        legs_len: usize,
+        latest: *const u32,
+        latest_len: usize,
+        service: *const u32,
+        service_len: usize,
+        depot: u32,
+        end: u32,
+        route: *mut u32,
+        route_len: usize,
+        result: *mut u64,
+        result_len: usize,
+    ) -> u32;
     fn mittenschist_pair_loop(
         allowance: u64,
         locations: usize,
@@ -51,6 +68,29 @@ extern "C" {
         lengths_len: usize,
         depots: *const u32,
         depots_len: usize,
+        pins: *const u8,
+        pins_len: usize,
+        result: *mut u64,
+        result_len: usize,
+    ) -> u32;
+    fn mittenschist_run_list_k_opt_to_ends(
+        k: usize,
+        allowance: u64,
+        locations: usize,
+        legs: *const u32,
+        legs_len: usize,
+        latest: *const u32,
+        latest_len: usize,
+        service: *const u32,
+        service_len: usize,
+        stops: *mut u32,
+        stops_len: usize,
+        lengths: *const usize,
+        lengths_len: usize,
+        depots: *const u32,
+        depots_len: usize,
+        ends: *const u32,
+        ends_len: usize,
         pins: *const u8,
         pins_len: usize,
         result: *mut u64,
@@ -133,6 +173,17 @@ extern "C" {
         result: *mut u64,
         result_len: usize,
     ) -> u32;
+    fn mittenschist_route_length_to_end(
+        locations: usize,
+        legs: *const u32,
+        legs_len: usize,
+        depot: u32,
+        end: u32,
+        route: *const u32,
+        route_len: usize,
+        result: *mut u64,
+        result_len: usize,
+    ) -> u32;
     fn mittenschist_delta(
         k: usize,
         pattern: usize,
@@ -142,6 +193,21 @@ extern "C" {
         legs: *const u32,
         legs_len: usize,
         depot: u32,
+        route: *const u32,
+        route_len: usize,
+        result: *mut i64,
+        result_len: usize,
+    ) -> u32;
+    fn mittenschist_delta_to_end(
+        k: usize,
+        pattern: usize,
+        cuts: *const usize,
+        cuts_len: usize,
+        locations: usize,
+        legs: *const u32,
+        legs_len: usize,
+        depot: u32,
+        end: u32,
         route: *const u32,
         route_len: usize,
         result: *mut i64,
@@ -191,6 +257,43 @@ pub fn polish_route(
             service.as_ptr(),
             service.len(),
             depot,
+            route.as_mut_ptr(),
+            route.len(),
+            result.as_mut_ptr(),
+            result.len(),
+        )
+    }
+}
+
+/// Polishes `route`, which ends in the harbour `end`. The result is as above.
+#[must_use]
+#[allow(clippy::too_many_arguments)]
+pub fn polish_route_to_end(
+    k: usize,
+    allowance: u64,
+    locations: usize,
+    legs: &[u32],
+    latest: &[u32],
+    service: &[u32],
+    depot: u32,
+    end: u32,
+    route: &mut [u32],
+    result: &mut [u64],
+) -> u32 {
+    // SAFETY: as said above.
+    unsafe {
+        mittenschist_polish_route_to_end(
+            k,
+            allowance,
+            locations,
+            legs.as_ptr(),
+            legs.len(),
+            latest.as_ptr(),
+            latest.len(),
+            service.as_ptr(),
+            service.len(),
+            depot,
+            end,
             route.as_mut_ptr(),
             route.len(),
             result.as_mut_ptr(),
@@ -267,6 +370,51 @@ pub fn run_list_k_opt(
             lengths.len(),
             depots.as_ptr(),
             depots.len(),
+            pins.as_ptr(),
+            pins.len(),
+            result.as_mut_ptr(),
+            result.len(),
+        )
+    }
+}
+
+/// Polishes rounds that end in other harbours. The result is as above.
+#[must_use]
+#[allow(clippy::too_many_arguments)]
+pub fn run_list_k_opt_to_ends(
+    k: usize,
+    allowance: u64,
+    locations: usize,
+    legs: &[u32],
+    latest: &[u32],
+    service: &[u32],
+    stops: &mut [u32],
+    lengths: &[usize],
+    depots: &[u32],
+    ends: &[u32],
+    pins: &[u8],
+    result: &mut [u64],
+) -> u32 {
+    // SAFETY: as said above.
+    unsafe {
+        mittenschist_run_list_k_opt_to_ends(
+            k,
+            allowance,
+            locations,
+            legs.as_ptr(),
+            legs.len(),
+            latest.as_ptr(),
+            latest.len(),
+            service.as_ptr(),
+            service.len(),
+            stops.as_mut_ptr(),
+            stops.len(),
+            lengths.as_ptr(),
+            lengths.len(),
+            depots.as_ptr(),
+            depots.len(),
+            ends.as_ptr(),
+            ends.len(),
             pins.as_ptr(),
             pins.len(),
             result.as_mut_ptr(),
@@ -439,6 +587,32 @@ pub fn route_length(
     }
 }
 
+/// The result begins with the length from the depot to `end`.
+#[must_use]
+pub fn route_length_to_end(
+    locations: usize,
+    legs: &[u32],
+    depot: u32,
+    end: u32,
+    route: &[u32],
+    result: &mut [u64],
+) -> u32 {
+    // SAFETY: as said above.
+    unsafe {
+        mittenschist_route_length_to_end(
+            locations,
+            legs.as_ptr(),
+            legs.len(),
+            depot,
+            end,
+            route.as_ptr(),
+            route.len(),
+            result.as_mut_ptr(),
+            result.len(),
+        )
+    }
+}
+
 /// The result begins with the length after minus the length before.
 #[must_use]
 #[allow(clippy::too_many_arguments)]
@@ -463,6 +637,40 @@ pub fn delta(
             legs.as_ptr(),
             legs.len(),
             depot,
+            route.as_ptr(),
+            route.len(),
+            result.as_mut_ptr(),
+            result.len(),
+        )
+    }
+}
+
+/// The result begins with the length after minus the length before, to `end`.
+#[must_use]
+#[allow(clippy::too_many_arguments)]
+pub fn delta_to_end(
+    k: usize,
+    pattern: usize,
+    cuts: &[usize],
+    locations: usize,
+    legs: &[u32],
+    depot: u32,
+    end: u32,
+    route: &[u32],
+    result: &mut [i64],
+) -> u32 {
+    // SAFETY: as said above.
+    unsafe {
+        mittenschist_delta_to_end(
+            k,
+            pattern,
+            cuts.as_ptr(),
+            cuts.len(),
+            locations,
+            legs.as_ptr(),
+            legs.len(),
+            depot,
+            end,
             route.as_ptr(),
             route.len(),
             result.as_mut_ptr(),

@@ -24,6 +24,8 @@ pub enum Refusal {
     ServiceList,
     /// 4: a depot or stop not below the locations.
     UnknownStop,
+    /// 24: an end harbour not below the locations.
+    UnknownEnd,
     /// 5: more than 512 stops, more than 64 rounds, or lists of rounds whose sizes disagree.
     RoundSize,
     /// 6: a pattern index not below the number of patterns for k.
@@ -51,6 +53,7 @@ impl Refusal {
             Self::LongLeg => 3,
             Self::ServiceList => 23,
             Self::UnknownStop => 4,
+            Self::UnknownEnd => 24,
             Self::RoundSize => 5,
             Self::PatternIndex => 6,
             Self::Cuts => 7,
@@ -69,6 +72,7 @@ impl Refusal {
             3 => Self::LongLeg,
             23 => Self::ServiceList,
             4 => Self::UnknownStop,
+            24 => Self::UnknownEnd,
             5 => Self::RoundSize,
             6 => Self::PatternIndex,
             7 => Self::Cuts,
@@ -101,6 +105,7 @@ impl Display for Refusal {
                 "service is not one entry for each location, or one is longer than 1,000,000 seconds"
             }
             Self::UnknownStop => "a depot or stop is not below the number of locations",
+            Self::UnknownEnd => "an end harbour is not below the number of locations",
             Self::RoundSize => {
                 "more than 512 stops or 64 rounds, or lists of rounds whose sizes disagree"
             }

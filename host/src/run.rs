@@ -13,6 +13,8 @@ pub struct Rounds<'r> {
     pub lengths: &'r [usize],
     /// The depot of each round.
     pub depots: &'r [u32],
+    /// The end harbour of each round; the depots again where each goes back to its own.
+    pub ends: &'r [u32],
     /// A byte for each round: 0 free, else pinned.
     pub pins: &'r [u8],
 }
@@ -70,7 +72,7 @@ impl RoundReply {
 
 /// Polishes round after round under one allowance, whichever k. Each round costs what [`polish_route`](crate::polish_route) says, and of a
 /// finished one the same is proved. For the orders that a run with k = 2 gave in former versions there is
-/// [`pair_loop`](crate::pair_loop()). Refuses 1, 2, 3, 23, 4, 5.
+/// [`pair_loop`](crate::pair_loop()). Refuses 1, 2, 3, 23, 4, 24, 5.
 ///
 /// ```
 /// use mittenschist::{run_list_k_opt, RoundState, Rounds, Tables};
@@ -78,7 +80,7 @@ impl RoundReply {
 /// let legs = [0, 5, 1, 1, 0, 5, 5, 1, 0];
 /// let tables = Tables { locations: 3, legs: &legs, latest: &[u32::MAX; 3], service: &[0; 3] };
 /// let mut stops = [1, 2, 1, 2, 1, 2];
-/// let rounds = Rounds { stops: &mut stops, lengths: &[2, 4], depots: &[0, 0], pins: &[0, 0] };
+/// let rounds = Rounds { stops: &mut stops, lengths: &[2, 4], depots: &[0, 0], ends: &[0, 0], pins: &[0, 0] };
 /// let replies = run_list_k_opt(3, 1000, &tables, rounds)?;
 /// assert_eq!(replies[0].state, RoundState::Short);
 /// assert_eq!(replies[1].state, RoundState::Changed);
@@ -92,7 +94,7 @@ pub fn run_list_k_opt(
     rounds: Rounds,
 ) -> Result<Vec<RoundReply>, Refusal> {
     let mut result = [[0; 4]; MOST_ROUNDS];
-    Refusal::check(raw::run_list_k_opt(
+    Refusal::check(raw::run_list_k_opt_to_ends(
         k,
         allowance,
         tables.locations,
@@ -102,6 +104,7 @@ pub fn run_list_k_opt(
         rounds.stops,
         rounds.lengths,
         rounds.depots,
+        rounds.ends,
         rounds.pins,
         result.as_flattened_mut(),
     ))?;

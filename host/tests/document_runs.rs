@@ -8,7 +8,7 @@ mod support;
 use mittenschist::{
     k_opt_do_move, k_opt_is_doable, k_opt_undo_move, nearby_cuts, next_cut_set, pair_loop,
     polish_route, reconnection_at, route_feasible, route_length, run_list_k_opt, Deadline, Ending,
-    PairLooped, Polished, Refusal, RoundReply, RoundState, Rounds, Tables,
+    Harbours, PairLooped, Polished, Refusal, RoundReply, RoundState, Rounds, Tables,
 };
 use support::lent::Lent;
 use support::{kept, written};
@@ -253,6 +253,67 @@ fn the_pair_loop() {
     assert_eq!(pair_case(100, 1), (late, vec![1, 2, 3, 4]));
 }
 
+/// "T carries 0 there"; to location 1 it is 11 seconds, and 2 when polished. The end harbour's deadline and service play no part.
+#[test]
+fn the_text_case_to_another_end() {
+    let latest = [NO_DEADLINE; 3];
+    let tables = Tables::without_service(3, &TEXT_LEGS, &latest);
+    let to = |end| Harbours { depot: 0, end };
+    let mut route = [1, 2];
+    let polished = polish_route(3, 100, &tables, to(1), &mut route).unwrap();
+    assert_eq!((polished.before, polished.after), (11, 2));
+    assert_eq!((polished.examined, route), (11, [2, 1]));
+    assert_eq!(
+        polish_route(3, 100, &tables, to(3), &mut route),
+        Err(Refusal::UnknownEnd)
+    );
+    assert_eq!(route_length(&tables, to(1), &[]), Ok(5));
+    assert_eq!(route_length(&tables, 0, &[]), Ok(0));
+    // Location 0, the end, was due at second 0, and takes nine seconds.
+    let closing = Tables {
+        latest: &[0, NO_DEADLINE, NO_DEADLINE],
+        service: &[9, 0, 0],
+        ..tables
+    };
+    let mut route = [1, 2];
+    let polished = polish_route(3, 100, &closing, to(0), &mut route).unwrap();
+    assert_eq!((polished.after, polished.late, route), (3, None, [2, 1]));
+}
+
+/// A round to each location: four stops, of which the last is nearest to its own end.
+#[test]
+fn a_run_to_ends() {
+    let latest = [NO_DEADLINE; 3];
+    let tables = Tables::without_service(3, &TEXT_LEGS, &latest);
+    let mut stops = [1, 2, 1, 2, 1, 2, 1, 2];
+    let lengths = [4, 4];
+    let depots = [0, 0];
+    let run = |stops: &mut [u32], ends: &[u32]| {
+        let rounds = Rounds {
+            stops,
+            lengths: &lengths,
+            depots: &depots,
+            ends,
+            pins: &[0, 0],
+        };
+        run_list_k_opt(3, 10_000, &tables, rounds)
+    };
+    let replies = run(&mut stops, &[1, 2]).unwrap();
+    for (round, end) in stops.chunks(4).zip([1, 2]) {
+        let mut alone = [1, 2, 1, 2];
+        let polished = polish_route(3, 10_000, &tables, Harbours { depot: 0, end }, &mut alone);
+        assert_eq!(
+            (round, polished.unwrap().ending),
+            (&alone[..], Ending::Finished)
+        );
+    }
+    assert!(replies
+        .iter()
+        .all(|reply| reply.state == RoundState::Changed));
+    assert_eq!(run(&mut stops, &[1, 3]), Err(Refusal::UnknownEnd));
+    assert_eq!(run(&mut stops, &[1]), Err(Refusal::RoundSize));
+}
+
 /// No pair below two stops, also with no allowance; and a route that ends longer.
 #[test]
 fn the_pair_loop_at_its_bounds() {
@@ -287,6 +348,7 @@ fn pair_case_by_run(allowance: u64) -> (Vec<RoundReply>, Vec<u64>) {
         stops: stops.slice(),
         lengths: &[4],
         depots: &[0],
+        ends: &[0],
         pins: &[0],
     };
     let replies = run_list_k_opt(2, allowance, &tables, rounds).unwrap();

@@ -31,6 +31,8 @@ fn calls(tables: &Tables, number: u32) -> Vec<Vec<u64>> {
         polished(tables, number),
         paired(tables, number),
         ran(tables, number),
+        ended(tables, number),
+        ran_to_ends(tables, number),
         listed(tables, number),
         moved(number),
     ]
@@ -92,6 +94,44 @@ fn ran(tables: &Tables, number: u32) -> Vec<u64> {
         all.slice(),
         &[9, 3, 8],
         &[0, 1, 2],
+        &[0, 0, 0],
+        result.slice(),
+    );
+    [vec![u64::from(code)], written(&all), written(&result)].concat()
+}
+
+fn ended(tables: &Tables, number: u32) -> Vec<u64> {
+    let (before, room) = (stops(number, 12), filled(7));
+    let (mut route, mut result) = (Lent::new("route", &before), Lent::new("result", &room));
+    let code = raw::polish_route_to_end(
+        cuts(number),
+        20_000 + u64::from(number),
+        LOCATIONS,
+        tables.legs,
+        tables.latest,
+        tables.service,
+        0,
+        number % LOCATIONS as u32,
+        route.slice(),
+        result.slice(),
+    );
+    [vec![u64::from(code)], written(&route), written(&result)].concat()
+}
+
+fn ran_to_ends(tables: &Tables, number: u32) -> Vec<u64> {
+    let (before, room) = (stops(number, 20), filled(13));
+    let (mut all, mut result) = (Lent::new("stops", &before), Lent::new("result", &room));
+    let code = raw::run_list_k_opt_to_ends(
+        cuts(number),
+        9_000,
+        LOCATIONS,
+        tables.legs,
+        tables.latest,
+        tables.service,
+        all.slice(),
+        &[9, 3, 8],
+        &[0, 1, 2],
+        &[2, 0, number % LOCATIONS as u32],
         &[0, 0, 0],
         result.slice(),
     );

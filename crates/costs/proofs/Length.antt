@@ -8,9 +8,9 @@ use lib.ListN.{length, getD, drop, drop-of-length-le}
 use lib.Seq.{drop-cons}
 use Rattle.theory.specs.Route.{Problem, path, tour-length}
 
--- From a stop along the rest of the route and back to the depot.
+-- From a stop along the rest of the route to the end harbour.
 abbrev pub to-go : Problem → ℕ → List ℕ → ℕ
-to-go P previous rest = path (P .leg) previous (rest ++ (P .depot ∷ []))
+to-go P previous rest = path (P .leg) previous (rest ++ (P .end ∷ []))
 
 pub all-to-go : (P : Problem) (route : List ℕ) → 0 + to-go P (P .depot) (drop 0 route) ≡ tour-length P route
 unfolding tour-length
@@ -21,6 +21,6 @@ pub next-to-go : (P : Problem) (previous : ℕ) (route : List ℕ) (i : ℕ) →
 unfolding path
 next-to-go P previous route i h = rw (add-one i, drop-cons route i 0 h)
 
-pub last-to-go : (P : Problem) (previous : ℕ) (route : List ℕ) (i : ℕ) → length route ≤ i → to-go P previous (drop i route) ≡ P .leg previous (P .depot)
+pub last-to-go : (P : Problem) (previous : ℕ) (route : List ℕ) (i : ℕ) → length route ≤ i → to-go P previous (drop i route) ≡ P .leg previous (P .end)
 unfolding path
 last-to-go P previous route i h = rw (drop-of-length-le route h) (omega arith)

@@ -123,7 +123,7 @@ module _ (cs r : List ℕ) (cut-set : CutSet (length cs) (length r) cs) where
   pub last-cut : getD cs (length cs - 1) 0 ≤ length r
   last-cut = cut-below (length cs - 1) (omega (arith, cut-set .least))
 
-  -- Cut n makes the depot a the tail's start.
+  -- Cut n makes the end harbour a the tail's start.
   tail-empty : (a : ℕ) → getD cs (length cs - 1) 0 ≡ length r → a ≡ first-of (getD (segments 0 cs r) (length cs) []) a
   unfolding first-of
   tail-empty a e = rw (tail-at 0 cs r (omega (arith, cut-set .least)), e, drop-of-length-le r {i = length r} (omega arith))

@@ -35,9 +35,9 @@ unfolding through placed
 last-rest P route cuts order mask previous p h = rw (h, slice-empty (length cuts) order)
 
 -- One turn of the loop: the segment at the place p is placed.
-pub place-next : (locations : ℕ) (legs : List ℕ) (depot : ℕ) (route cuts order : List ℕ) (mask previous p total whole : ℕ) {r : Placed} →
-    p < length cuts → length cuts ≤ length order → total + rest-of (legs-only locations legs depot) route cuts order mask previous p ≡ whole →
+pub place-next : (locations : ℕ) (legs : List ℕ) (depot end : ℕ) (route cuts order : List ℕ) (mask previous p total whole : ℕ) {r : Placed} →
+    p < length cuts → length cuts ≤ length order → total + rest-of (legs-only locations legs depot end) route cuts order mask previous p ≡ whole →
     PlacedAfter locations legs previous (segment-at route cuts order mask p) r →
-    total + r .seconds + rest-of (legs-only locations legs depot) route cuts order mask (r .last) (p + 1) ≡ whole
-place-next locations legs depot route cuts order mask previous p total whole h n inv after =
-    rw (after .last) (omega (arith, inv, after .seconds, next-rest (legs-only locations legs depot) route cuts order mask previous p h n))
+    total + r .seconds + rest-of (legs-only locations legs depot end) route cuts order mask (r .last) (p + 1) ≡ whole
+place-next locations legs depot end route cuts order mask previous p total whole h n inv after =
+    rw (after .last) (omega (arith, inv, after .seconds, next-rest (legs-only locations legs depot end) route cuts order mask previous p h n))

@@ -19,9 +19,10 @@ pub record PlacedAfter (locations : ℕ) (legs : List ℕ) (from : ℕ) (segment
   pub known : r .last < locations
 
 -- What the cost of an order at k cuts is read from.
-pub record Costable (locations : ℕ) (legs : List ℕ) (depot : ℕ) (route forward-sums backward-sums cuts order : List ℕ) : Type 0 where
+pub record Costable (locations : ℕ) (legs : List ℕ) (depot end : ℕ) (route forward-sums backward-sums cuts order : List ℕ) : Type 0 where
   pub costs : RouteCosts locations legs route forward-sums backward-sums
   pub depot-known : depot < locations
+  pub end-known : end < locations
   pub cut-set : CutSet (length cuts) (length route) cuts
   pub middle : Middle (length cuts) order
 
@@ -35,8 +36,8 @@ pub record Cost (P : Problem) (route cuts order : List ℕ) (mask seconds : ℕ)
   pub small : seconds ≤ 5 * 512 * 1000000
 
 -- What the delta of a pattern at k cuts is read from.
-pub record Deltable (locations : ℕ) (legs : List ℕ) (depot : ℕ) (route forward-sums backward-sums cuts order : List ℕ) (mask : ℕ) : Type 0 where
-  pub measurable : Measurable locations legs depot route
+pub record Deltable (locations : ℕ) (legs : List ℕ) (depot end : ℕ) (route forward-sums backward-sums cuts order : List ℕ) (mask : ℕ) : Type 0 where
+  pub measurable : Measurable locations legs depot end route
   pub forwards : Sums route (forward (leg locations legs) route) forward-sums
   pub backwards : Sums route (backward (leg locations legs) route) backward-sums
   pub cut-set : CutSet (length cuts) (length route) cuts

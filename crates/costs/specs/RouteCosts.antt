@@ -9,9 +9,9 @@ use Rattle.theory.specs.Route.{Problem, segments, tour-length}
 use Rattle.theory.specs.Costs.{last-of, first-of, forward, backward}
 use Rattle.theory.specs.Tables.{legs-only, LegTable, Stops}
 
--- "one lent table, a whole number of seconds for each ordered pair of locations, row = from". No depot is read.
+-- "one lent table, a whole number of seconds for each ordered pair of locations, row = from". No depot or end is read.
 abbrev pub leg : ℕ → List ℕ → ℕ → ℕ → ℕ
-leg locations legs = legs-only locations legs 0 .leg
+leg locations legs = legs-only locations legs 0 0 .leg
 
 -- Two locations of a leg table.
 pub record KnownLeg (locations : ℕ) (legs : List ℕ) (from to : ℕ) : Type 0 where
@@ -23,9 +23,9 @@ pub record Leg (locations : ℕ) (legs : List ℕ) (from to seconds : ℕ) : Typ
   pub is : seconds ≡ leg locations legs from to
   pub small : seconds ≤ 1000000
 
--- "Length means depot to first stop, each leg, last stop to depot; an empty round has the leg depot to depot."
-pub record Length (locations : ℕ) (legs : List ℕ) (depot : ℕ) (route : List ℕ) (seconds : ℕ) : Type 0 where
-  pub is : seconds ≡ tour-length (legs-only locations legs depot) route
+-- "Length becomes depot to stops to end harbour, and an empty round has the one leg."
+pub record Length (locations : ℕ) (legs : List ℕ) (depot end : ℕ) (route : List ℕ) (seconds : ℕ) : Type 0 where
+  pub is : seconds ≡ tour-length (legs-only locations legs depot end) route
   pub small : seconds ≤ 513 * 1000000
 
 -- "running sums in both directions": at place t the legs among the stops 0 to t.
@@ -78,16 +78,16 @@ pub record Middle (k : ℕ) (order : List ℕ) : Type 0 where
   pub least : (p : ℕ) → 1 ≤ p → p < k → 1 ≤ getD order p 0
   pub most : (p : ℕ) → 1 ≤ p → p < k → getD order p 0 < k
 
--- "Cut 0 makes the depot the head's end, cut n the tail's start."
+-- "Cut 0 makes the depot the head's end", cut n the end harbour the tail's start.
 abbrev pub head-end : Problem → List ℕ → List ℕ → ℕ
 head-end P route cuts = last-of (P .depot) (getD (segments 0 cuts route) 0 [])
 
 abbrev pub tail-start : Problem → List ℕ → List ℕ → ℕ
-tail-start P route cuts = first-of (getD (segments 0 cuts route) (length cuts) []) (P .depot)
+tail-start P route cuts = first-of (getD (segments 0 cuts route) (length cuts) []) (P .end)
 
--- The stop behind a cut at c, or the depot.
+-- The stop behind a cut at c, or the end harbour.
 abbrev pub stop-at : ℕ → List ℕ → ℕ → ℕ
-stop-at depot route c = cond (ltb c (length route)) (getD route c 0) depot
+stop-at end route c = cond (ltb c (length route)) (getD route c 0) end
 
 -- The first cuts of a cut set, and the last.
 abbrev pub first-cuts : List ℕ → List ℕ

@@ -33,9 +33,9 @@ pub fn route_distance(locations: usize, legs: &[u32], from: u32, to: u32) -> u64
 }
 
 // The length of a route.
-pub fn route_length(locations: usize, legs: &[u32], depot: u32, route: &[u32]) -> u64
-    requires { ⌜ Measurable locations (now legs) depot (now route) ⌝ }
-    ensures { λ r. ⌜ Length locations (now (legs .entry)) depot (now (route .entry)) r ⌝ }
+pub fn route_length(locations: usize, legs: &[u32], depot: u32, end: u32, route: &[u32]) -> u64
+    requires { ⌜ Measurable locations (now legs) depot end (now route) ⌝ }
+    ensures { λ r. ⌜ Length locations (now (legs .entry)) depot end (now (route .entry)) r ⌝ }
 {
     let mut total = 0u64;
     let mut previous = depot;
@@ -46,7 +46,7 @@ pub fn route_length(locations: usize, legs: &[u32], depot: u32, route: &[u32]) -
         previous = stop;
         i += 1;
     }
-    total + route_distance(locations, legs, previous, depot)
+    total + route_distance(locations, legs, previous, end)
 }
 
 // The leg between the stops t - 1 and t, in the direction asked for.
@@ -112,22 +112,22 @@ pub fn head_end(depot: u32, route: &[u32], cuts: &[usize]) -> u32
     route[first - 1]
 }
 
-// The stop behind a cut at c; the depot where none is.
-pub fn tail_at(depot: u32, route: &[u32], c: usize) -> u32
-    ensures { λ r. ⌜ r ≡ stop-at depot (now (route .entry)) c ⌝ }
+// The stop behind a cut at c; the end harbour where none is.
+pub fn tail_at(end: u32, route: &[u32], c: usize) -> u32
+    ensures { λ r. ⌜ r ≡ stop-at end (now (route .entry)) c ⌝ }
 {
     if c < route.len() {
         return route[c];
     }
-    depot
+    end
 }
 
-// The stop after the last cut; cut n makes the depot the tail's start.
-pub fn tail_start(depot: u32, route: &[u32], cuts: &[usize]) -> u32
+// The stop after the last cut; cut n makes the end harbour the tail's start.
+pub fn tail_start(end: u32, route: &[u32], cuts: &[usize]) -> u32
     requires { ⌜ CutSet (length (now cuts)) (length (now route)) (now cuts) ⌝ }
-    ensures { λ r. ⌜ r ≡ first-of (getD (segments 0 (now (cuts .entry)) (now (route .entry))) (length (now (cuts .entry))) []) depot ⌝ }
+    ensures { λ r. ⌜ r ≡ first-of (getD (segments 0 (now (cuts .entry)) (now (route .entry))) (length (now (cuts .entry))) []) end ⌝ }
 {
-    tail_at(depot, route, cuts[cuts.len() - 1])
+    tail_at(end, route, cuts[cuts.len() - 1])
 }
 
 // The inner legs of route[start..end], not empty, from the running sums of one direction.
@@ -216,6 +216,7 @@ fn cost(
     locations: usize,
     legs: &[u32],
     depot: u32,
+    end: u32,
     route: &[u32],
     forward: &[u64; STOPS],
     backward: &[u64; STOPS],
@@ -223,8 +224,8 @@ fn cost(
     order: &[u8],
     mask: u8,
 ) -> u64
-    requires { ⌜ Costable locations (now legs) depot (now route) (now forward) (now backward) (now cuts) (now order) ⌝ }
-    ensures { λ r. ⌜ Cost (legs-only locations (now (legs .entry)) depot) (now (route .entry)) (now (cuts .entry)) (now (order .entry)) mask r ⌝ }
+    requires { ⌜ Costable locations (now legs) depot end (now route) (now forward) (now backward) (now cuts) (now order) ⌝ }
+    ensures { λ r. ⌜ Cost (legs-only locations (now (legs .entry)) depot end) (now (route .entry)) (now (cuts .entry)) (now (order .entry)) mask r ⌝ }
 {
     let mut total = 0u64;
     let mut previous = head_end(depot, route, cuts);
@@ -246,7 +247,7 @@ fn cost(
         previous = placed.last;
         position += 1;
     }
-    let to = tail_start(depot, route, cuts);
+    let to = tail_start(end, route, cuts);
     total + route_distance(locations, legs, previous, to)
 }
 
@@ -255,6 +256,7 @@ pub fn delta(
     locations: usize,
     legs: &[u32],
     depot: u32,
+    end: u32,
     route: &[u32],
     forward: &[u64; STOPS],
     backward: &[u64; STOPS],
@@ -262,14 +264,15 @@ pub fn delta(
     order: &[u8],
     mask: u8,
 ) -> i64
-    requires { ⌜ Deltable locations (now legs) depot (now route) (now forward) (now backward) (now cuts) (now order) mask ⌝ }
-    ensures { λ r. ⌜ r ≡ delta-of (legs-only locations (now (legs .entry)) depot) (now (route .entry)) (now (cuts .entry)) (now (order .entry)) mask ⌝ }
+    requires { ⌜ Deltable locations (now legs) depot end (now route) (now forward) (now backward) (now cuts) (now order) mask ⌝ }
+    ensures { λ r. ⌜ r ≡ delta-of (legs-only locations (now (legs .entry)) depot end) (now (route .entry)) (now (cuts .entry)) (now (order .entry)) mask ⌝ }
 {
     let standing = [0u8, 1, 2, 3, 4, 5];
     let current = cost(
         locations,
         legs,
         depot,
+        end,
         route,
         forward,
         backward,
@@ -281,6 +284,7 @@ pub fn delta(
         locations,
         legs,
         depot,
+        end,
         route,
         forward,
         backward,

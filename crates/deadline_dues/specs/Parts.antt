@@ -6,7 +6,7 @@ use lib.ListN.{length, getD}
 use lib.Seq.{slice}
 use Rattle.theory.specs.Route.{path, segments, placed}
 use Rattle.theory.specs.Costs.{forward}
-use Rattle.theory.specs.Tables.{Measurable, CutSet}
+use Rattle.theory.specs.Tables.{Followable, CutSet}
 use Rattle.costs.specs.RouteCosts.{Sums, leg}
 
 abbrev pub head : List ℕ → List ℕ → List ℕ
@@ -20,7 +20,7 @@ tail route cuts = getD (segments 0 cuts route) (length cuts) []
 
 -- A route with its forward sums and its stays, and a cut set of it.
 pub record HeadTimed (locations : ℕ) (legs : List ℕ) (depot : ℕ) (route forward-sums stayed cuts : List ℕ) : Type 0 where
-  pub measurable : Measurable locations legs depot route
+  pub followable : Followable locations legs depot route
   pub forwards : Sums route (forward (leg locations legs) route) forward-sums
   pub places : length stayed ≡ 513
   pub none : getD stayed 0 0 ≡ 0

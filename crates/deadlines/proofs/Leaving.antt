@@ -24,5 +24,5 @@ module _ {locations : ℕ} {legs : List ℕ} {depot : ℕ} {r sums stayed : List
       let start : first-of (take (suc i) r) 0 ≡ getD r 0 0 = first-placed r 0 (suc i) (omega arith) (omega arith) false 0 in
       record {
         is = let e : path d depot (take (i + 1) r) ≡ v + getD sums i 0 = rw (add-one i) (omega (arith, way, given .forwards .each i h, l .is, ap (d depot) start)) in omega (arith, e);
-        early = omega (arith, l .small, given .forwards .small i h, given .measurable .stops .short, given .brief);
+        early = omega (arith, l .small, given .forwards .small i h, given .followable .stops .short, given .brief);
       }

@@ -6,14 +6,14 @@ use Prim.Native.Nat.{ℕ, zero, suc, max, _+_, _-_, _*_, _≤_, _<_}
 use lib.ListN.{length, getD, take}
 use Rattle.theory.specs.Route.{Clock, path, left, timely}
 use Rattle.theory.specs.Costs.{forward}
-use Rattle.theory.specs.Tables.{timetable-by, Measurable, Timed, Trip}
+use Rattle.theory.specs.Tables.{timetable-by, Followable, Clocked, Tables}
 use Rattle.costs.specs.RouteCosts.{leg, Sums}
 use Rattle.deadlines.specs.Stays.{Stays}
 
 -- A route, and whether it is known to keep every deadline.
-pub record LateAsked (T : Trip) (route : List ℕ) (kept : Bool) : Type 0 where
-  pub timed : Timed T route
-  pub known : kept ≡ true → timely (timetable-by (T .tables)) (T .depot) route ≡ true
+pub record LateAsked (T : Tables) (depot : ℕ) (route : List ℕ) (kept : Bool) : Type 0 where
+  pub clocked : Clocked T depot route
+  pub known : kept ≡ true → timely (timetable-by T) depot route ≡ true
 
 -- The seconds by which the stop at position i is left too late, which are those by which it is reached after its latest; 0 where it is on time.
 unfoldable pub late-by : Clock → (depot : ℕ) → List ℕ → ℕ → ℕ
@@ -48,7 +48,7 @@ pub record Latenesses (C : Clock) (depot : ℕ) (r table : List ℕ) : Type 0 wh
 
 -- A stop of a route with its forward sums, and the service up to and with it.
 pub record LeftAsked (locations : ℕ) (legs : List ℕ) (depot : ℕ) (route forward-sums stayed : List ℕ) (i : ℕ) : Type 0 where
-  pub measurable : Measurable locations legs depot route
+  pub followable : Followable locations legs depot route
   pub forwards : Sums route (forward (leg locations legs) route) forward-sums
   pub within : i < length route
   pub places : length stayed ≡ 513
@@ -81,10 +81,10 @@ pub record LaterFits (most reached deadline : ℕ) : Type 0 where
   pub small : deadline ≤ 4295967295
 
 -- A route with its forward sums and its stays, and places for the lateness.
-pub record LatenessFillable (T : Trip) (route forward-sums stayed table : List ℕ) : Type 0 where
-  pub timed : Timed T route
-  pub forwards : Sums route (forward (leg (T .tables .locations) (T .tables .legs)) route) forward-sums
-  pub stays : Stays (T .tables .service) route stayed
+pub record LatenessFillable (T : Tables) (depot : ℕ) (route forward-sums stayed table : List ℕ) : Type 0 where
+  pub clocked : Clocked T depot route
+  pub forwards : Sums route (forward (leg (T .locations) (T .legs)) route) forward-sums
+  pub stays : Stays (T .service) route stayed
   pub places : length table ≡ 513
 
 pub record LatenessFilled (C : Clock) (depot : ℕ) (route : List ℕ) (longest : ℕ) (table : List ℕ) : Type 0 where

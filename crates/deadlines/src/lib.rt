@@ -5,7 +5,7 @@ use theory::STOPS;
 ghost use mathlib.Core.Path.{_≡_};
 ghost use Prim.Native.Nat.{min, max, _-_};
 ghost use Rattle.theory.specs.Route.{late-position};
-ghost use Rattle.theory.specs.Tables.{timetable-by, clock-by, Timed, trip, tables};
+ghost use Rattle.theory.specs.Tables.{timetable-by, clock-by, Clocked, tables};
 ghost use Rattle.theory.specs.Answers.{Checked};
 ghost use Rattle.deadlines.specs.Stays.{ServiceOf, ServiceIs, Stays, StaysFillable};
 ghost use Rattle.deadlines.specs.Lateness.{LateAsked, LeftAsked, LeftAt, UntilAsked, UntilAt, LaterFits, LatenessFillable, LatenessFilled};
@@ -19,7 +19,7 @@ pub fn check_deadlines(
     depot: u32,
     route: &[u32],
 ) -> Deadline
-    requires { ⌜ Timed (trip locations (now legs) (now latest) (now service) depot) (now route) ⌝ }
+    requires { ⌜ Clocked (tables locations (now legs) (now latest) (now service)) depot (now route) ⌝ }
     ensures { λ r. ⌜ Checked (timetable-by (tables locations (now (legs .entry)) (now (latest .entry)) (now (service .entry)))) depot (now (route .entry)) r ⌝ }
 {
     let mut clock = 0u64;
@@ -50,7 +50,7 @@ pub fn late_position(
     depot: u32,
     route: &[u32],
 ) -> u64
-    requires { ⌜ LateAsked (trip locations (now legs) (now latest) (now service) depot) (now route) kept ⌝ }
+    requires { ⌜ LateAsked (tables locations (now legs) (now latest) (now service)) depot (now route) kept ⌝ }
     ensures { λ r. ⌜ r ≡ late-position (timetable-by (tables locations (now (legs .entry)) (now (latest .entry)) (now (service .entry)))) depot (now (route .entry)) ⌝ }
 {
     if kept {
@@ -135,7 +135,7 @@ pub fn fill_lateness(
     stayed: &[u64; CUT_PLACES],
     lateness: &mut [u64; CUT_PLACES],
 ) -> usize
-    requires { ⌜ LatenessFillable (trip locations (now legs) (now latest) (now service) depot) (now route) (now forward) (now stayed) (now lateness) ⌝ }
+    requires { ⌜ LatenessFillable (tables locations (now legs) (now latest) (now service)) depot (now route) (now forward) (now stayed) (now lateness) ⌝ }
     ensures { λ r. ⌜ LatenessFilled (clock-by (tables locations (now (legs .entry)) (now (latest .entry)) (now (service .entry)))) depot (now (route .entry)) r (now (lateness .exit)) ⌝ }
 {
     let mut c = route.len();

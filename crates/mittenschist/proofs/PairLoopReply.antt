@@ -5,25 +5,26 @@ use Prim.Native.Nat.{ℕ, _≤_}
 use lib.ListN.{length, drop}
 use Rattle.theory.specs.Route.{Problem}
 use Rattle.theory.specs.Scan.{Reply}
-use Rattle.theory.specs.Tables.{problem, Trip, Timed}
+use Rattle.theory.specs.Tables.{Tables, Timed}
 use Rattle.theory.specs.Refusals.{Rule, refusal, problem-rules}
 use Rattle.theory.specs.Answers.{polish-values, six-numbers}
 use Rattle.theory.specs.declared.Polished.{Polished}
 use Rattle.theory.proofs.Refusals.{Passes, known}
+use Rattle.theory.proofs.Judged.{closed}
 use Rattle.theory.proofs.Taken.{refused-kept, taken-done, taken-passes}
-use Rattle.polishing.proofs.Judged.{timed-fine}
+use Rattle.polishing.proofs.Judged.{clocked-fine}
 use Rattle.pair_loop.specs.PairLoop.{pair-loop, PairsTried}
 use Rattle.refusal_rules.specs.Rules.{pair-loop-rules}
 use Rattle.refusal_rules.proofs.Parts.{pass-with-room}
-use Rattle.mittenschist.specs.Promises.{PairLoopReply}
+use Rattle.mittenschist.specs.Promises.{closed-tour, PairLoopReply}
 use Rattle.mittenschist.proofs.PolishReply.{values-are, read-back, its-route}
 
-module _ (A : ℕ) (T : Trip) (route result : List ℕ) (number : ℕ) (judged : number ≡ refusal (pair-loop-rules T route (length result))) where
+module _ (A : ℕ) (T : Tables) (depot : ℕ) (route result : List ℕ) (number : ℕ) (judged : number ≡ refusal (pair-loop-rules T depot route (length result))) where
   abbrev rules : List Rule
-  rules = pair-loop-rules T route (length result)
+  rules = pair-loop-rules T depot route (length result)
 
   abbrev P : Problem
-  P = problem T
+  P = closed-tour T depot
 
   abbrev looped : Reply (List ℕ)
   looped = pair-loop P A route
@@ -31,7 +32,7 @@ module _ (A : ℕ) (T : Trip) (route result : List ℕ) (number : ℕ) (judged :
   abbrev result-done : List ℕ
   result-done = six-numbers P route looped ++ drop 6 result
 
-  pub refused : (number ≡ 0 → ⊥) → PairLoopReply A T route result number route result
+  pub refused : (number ≡ 0 → ⊥) → PairLoopReply A T depot route result number route result
   refused h =
       record {
         number-is = judged;
@@ -41,18 +42,18 @@ module _ (A : ℕ) (T : Trip) (route result : List ℕ) (number : ℕ) (judged :
       }
 
   module _ (h : number ≡ 0) where
-    passes : Passes (problem-rules T route) × (6 ≤ length result)
+    passes : Passes (problem-rules T depot route) × (6 ≤ length result)
     unfolding known
-    passes = pass-with-room (problem-rules T route) 6 (length result) (taken-passes rules number judged refl h)
+    passes = pass-with-room (problem-rules T depot route) 6 (length result) (taken-passes rules number judged refl h)
 
-    pub fine : Timed T route
-    fine = timed-fine T route (passes .0)
+    pub fine : Timed (record { tables = T; depot = depot; end = depot }) route
+    fine = closed (clocked-fine T depot route (passes .0))
 
     pub space : 6 ≤ length result
     space = passes .1
 
     pub tried : (answer : Polished) (route′ result′ : List ℕ) → PairsTried P A route answer route′ → result′ ≡ polish-values answer ++ drop 6 result →
-        PairLoopReply A T route result 0 route′ result′
+        PairLoopReply A T depot route result 0 route′ result′
     tried answer route′ result′ p e =
         let values = values-are P route route′ answer (p .before) (p .after) (p .late) ∙ ap (six-numbers P route) (p .loop) in
         record {

@@ -1,22 +1,25 @@
--- The replies of the entry `mittenschist_polish_route`, over plain values. Assumes nothing.
+-- The replies of the entries `mittenschist_polish_route_to_end` and `mittenschist_polish_route`, over plain values. Assumes nothing.
 use mathlib.Core.Path.{_≡_, refl, sym, ap, _∙_}
+use mathlib.Core.Bool.{cond}
 use mathlib.Core.List.{List, _++_}
 use Prim.Native.Nat.{ℕ, _≤_}
+use lib.Dec.{eqb}
 use lib.ListN.{length, drop}
 use Rattle.theory.specs.Moves.{patterns}
 use Rattle.theory.specs.Route.{Problem, tour-length, late-position, timetable-of}
-use Rattle.theory.specs.Tables.{problem}
+use Rattle.theory.specs.Tables.{Tables, problem}
 use Rattle.theory.specs.Refusals.{Rule, refusal}
-use Rattle.theory.specs.Question.{Question, question-rules, asked}
+use Rattle.theory.specs.Question.{Question, question, question-rules, asked}
 use Rattle.theory.specs.Answers.{Polishes, reply-of, counts-of, polish-values, six-numbers, handed-back}
 use Rattle.theory.specs.declared.Polished.{Polished}
 use Rattle.theory.specs.declared.Polished.the-variants.{Finished, Spent}
 use Rattle.theory.proofs.Refusals.{Passes, known}
 use Rattle.polishing.specs.Loop.{Polishable}
 use Rattle.polishing.proofs.Judged.{polishable-fine}
-use Rattle.refusal_rules.specs.Rules.{polish-rules}
+use Rattle.refusal_rules.specs.Rules.{polish-to-end-rules}
 use Rattle.refusal_rules.proofs.Parts.{pass-with-room}
-use Rattle.mittenschist.specs.Promises.{PolishReply}
+use Rattle.refusal_rules.proofs.Closed.{polish-closed}
+use Rattle.mittenschist.specs.Promises.{PolishReply, PolishToEndReply}
 use Rattle.theory.proofs.Taken.{refused-kept, taken-done, taken-passes}
 
 -- The numbers of an answer are those of its reply, and the reply can be read off them again.
@@ -33,9 +36,9 @@ pub its-route : (answer : Polished) (route′ : List ℕ) → route′ ≡ reply
 its-route (Finished c) route′ = refl
 its-route (Spent c) route′ = refl
 
-module _ (q : Question) (result : List ℕ) (number : ℕ) (judged : number ≡ refusal (polish-rules q (length result))) where
+module _ (q : Question) (result : List ℕ) (number : ℕ) (judged : number ≡ refusal (polish-to-end-rules q (length result))) where
   abbrev rules : List Rule
-  rules = polish-rules q (length result)
+  rules = polish-to-end-rules q (length result)
 
   abbrev P : Problem
   P = problem (q .trip)
@@ -43,7 +46,7 @@ module _ (q : Question) (result : List ℕ) (number : ℕ) (judged : number ≡ 
   abbrev result-done : List ℕ
   result-done = six-numbers P (q .route) (asked q) ++ drop 6 result
 
-  pub refused : (number ≡ 0 → ⊥) → PolishReply q result number (q .route) result
+  pub refused : (number ≡ 0 → ⊥) → PolishToEndReply q result number (q .route) result
   refused h =
       record {
         number-is = judged;
@@ -64,7 +67,7 @@ module _ (q : Question) (result : List ℕ) (number : ℕ) (judged : number ≡ 
     space = passes .1
 
     pub polished : (answer : Polished) (route′ result′ : List ℕ) → Polishes P (patterns (q .k)) (q .k) (q .allowance) (q .route) answer route′ →
-        result′ ≡ polish-values answer ++ drop 6 result → PolishReply q result 0 route′ result′
+        result′ ≡ polish-values answer ++ drop 6 result → PolishToEndReply q result 0 route′ result′
     polished answer route′ result′ p e =
         let values = values-are P (q .route) route′ answer (p .before) (p .after) (p .late) ∙ ap (six-numbers P (q .route)) (p .scan) in
         record {
@@ -73,3 +76,17 @@ module _ (q : Question) (result : List ℕ) (number : ℕ) (judged : number ≡ 
           result-is = e ∙ ap (λ l. l ++ drop 6 result) values ∙ taken-done rules number judged result-done result h;
           demand3 = λ z. rw (e, read-back answer (drop 6 result) route′) (p .demand3);
         }
+
+-- A closed tour: the entry's own rules refuse the same.
+pub closed-polish : (k A : ℕ) (T : Tables) (depot : ℕ) (route result : List ℕ) {answer : ℕ} {route′ result′ : List ℕ} →
+    PolishToEndReply (question k A (T .locations) (T .legs) (T .latest) (T .service) depot depot route) result answer route′ result′ →
+    PolishReply (question k A (T .locations) (T .legs) (T .latest) (T .service) depot depot route) result answer route′ result′
+closed-polish k A T depot route result p =
+    let q = question k A (T .locations) (T .legs) (T .latest) (T .service) depot depot route in
+    let e = polish-closed k A T depot route (length result) in
+    record {
+      number-is = p .number-is ∙ e;
+      route-is = p .route-is ∙ ap (λ n. cond (eqb n 0) (asked q .route) (q .route)) e;
+      result-is = p .result-is ∙ ap (λ n. cond (eqb n 0) (six-numbers (problem (q .trip)) (q .route) (asked q) ++ drop 6 result) result) e;
+      demand3 = p .demand3;
+    }

@@ -7,12 +7,12 @@ use lib.Dec.{ltb}
 use lib.Ieee.{Float}
 use lib.ListN.{length, getD, drop, replicate}
 use Rattle.theory.specs.Moves.{Pattern, patterns, next-cuts}
-use Rattle.theory.specs.Route.{tour-length, reconnected, late-position}
+use Rattle.theory.specs.Route.{Problem, tour-length, reconnected, late-position}
 use Rattle.theory.specs.Polish.{move-at, Demand3}
-use Rattle.theory.specs.Tables.{Tables, Trip, Fleet, problem, timetable-by, legs-only}
+use Rattle.theory.specs.Tables.{Tables, Fleet, problem, timetable-by, legs-only}
 use Rattle.theory.specs.Question.{Question, asked}
 use Rattle.theory.specs.Refusals.{Rule, refusal, if-taken, problem-rules}
-use Rattle.refusal_rules.specs.Rules.{pattern-rules, next-cut-set-rules, reconnect-rules, route-length-rules, delta-rules, polish-rules, pair-loop-rules, run-rules, nearby-rules, with-room}
+use Rattle.refusal_rules.specs.Rules.{pattern-rules, next-cut-set-rules, reconnect-rules, route-length-rules, route-length-to-end-rules, delta-rules, delta-to-end-rules, polish-rules, polish-to-end-rules, pair-loop-rules, run-rules, run-to-ends-rules, nearby-rules, with-room}
 use Rattle.theory.specs.Answers.{reply, step-answer, length-answer, delta-answer, feasibility-answer, listing-answer, Checked, six-numbers, handed-back}
 use Rattle.moves.specs.Moves.{length-change}
 use Rattle.cut_step.specs.Step.{found, or-unmoved}
@@ -69,46 +69,66 @@ pub record ReconnectReply (k pattern : ℕ) (cuts route out : List ℕ) (answer 
 -- ---- route length
 
 pub record RouteLengthReply (locations : ℕ) (legs : List ℕ) (depot : ℕ) (route : List ℕ) (answer : RouteLength) : Type 0 where
-  pub reply-is : length-answer answer ≡ reply (refusal (route-length-rules locations legs depot route)) (tour-length (legs-only locations legs depot) route ∷ [])
+  pub reply-is : length-answer answer ≡ reply (refusal (route-length-rules locations legs depot route)) (tour-length (legs-only locations legs depot depot) route ∷ [])
+
+pub record RouteLengthToEndReply (locations : ℕ) (legs : List ℕ) (depot end : ℕ) (route : List ℕ) (answer : RouteLength) : Type 0 where
+  pub reply-is : length-answer answer ≡ reply (refusal (route-length-to-end-rules locations legs depot end route)) (tour-length (legs-only locations legs depot end) route ∷ [])
 
 -- ---- delta
 
 pub record DeltaReply (k pattern : ℕ) (cuts : List ℕ) (locations : ℕ) (legs : List ℕ) (depot : ℕ) (route : List ℕ) (answer : LengthDelta) : Type 0 where
-  pub reply-is : delta-answer answer ≡ reply (refusal (delta-rules k pattern cuts locations legs depot route)) (length-change (legs-only locations legs depot) (move-at (patterns k) cuts pattern) route ∷ [])
+  pub reply-is : delta-answer answer ≡ reply (refusal (delta-rules k pattern cuts locations legs depot route)) (length-change (legs-only locations legs depot depot) (move-at (patterns k) cuts pattern) route ∷ [])
+
+pub record DeltaToEndReply (k pattern : ℕ) (cuts : List ℕ) (locations : ℕ) (legs : List ℕ) (depot end : ℕ) (route : List ℕ) (answer : LengthDelta) : Type 0 where
+  pub reply-is :
+      delta-answer answer
+      ≡ reply (refusal (delta-to-end-rules k pattern cuts locations legs depot end route)) (length-change (legs-only locations legs depot end) (move-at (patterns k) cuts pattern) route ∷ [])
 
 -- ---- deadline check
 
 -- What an answer says of a route: what the check does, by the case it holds. A refusal says nothing.
-abbrev pub Says : Trip → List ℕ → Feasibility → Type 0
-Says T route (Judged.Refused n) = Unit {0}
-Says T route (Judged.Checked d) = Checked (timetable-by (T .tables)) (T .depot) route d
+abbrev pub Says : Tables → (depot : ℕ) → List ℕ → Feasibility → Type 0
+Says T depot route (Judged.Refused n) = Unit {0}
+Says T depot route (Judged.Checked d) = Checked (timetable-by T) depot route d
 
 -- The lowest late position, or the number of stops for none.
-abbrev pub late-values : Trip → List ℕ → List ℕ
-late-values T route = late-position (timetable-by (T .tables)) (T .depot) route ∷ []
+abbrev pub late-values : Tables → (depot : ℕ) → List ℕ → List ℕ
+late-values T depot route = late-position (timetable-by T) depot route ∷ []
 
 -- The value alone leaves a case open, since kept is written as the number of stops; so the answer itself is held to the route.
-pub record FeasibleReply (T : Trip) (route : List ℕ) (answer : Feasibility) : Type 0 where
-  pub reply-is : feasibility-answer (length route) answer ≡ reply (refusal (problem-rules T route)) (late-values T route)
-  pub says : Says T route answer
+pub record FeasibleReply (T : Tables) (depot : ℕ) (route : List ℕ) (answer : Feasibility) : Type 0 where
+  pub reply-is : feasibility-answer (length route) answer ≡ reply (refusal (problem-rules T depot route)) (late-values T depot route)
+  pub says : Says T depot route answer
 
 -- ---- polishing
 
--- Of the slices as they are handed in and as they are handed back: route and result are those of document 01's scan; and demand 3 whenever it returns 0.
-pub record PolishReply (q : Question) (result : List ℕ) (answer : ℕ) (route′ result′ : List ℕ) : Type 0 where
-  pub number-is : answer ≡ refusal (polish-rules q (length result))
-  pub route-is : route′ ≡ if-taken (polish-rules q (length result)) (asked q .route) (q .route)
-  pub result-is : result′ ≡ if-taken (polish-rules q (length result)) (six-numbers (problem (q .trip)) (q .route) (asked q) ++ drop 6 result) result
+-- Of the slices as they are handed in and as they are handed back, judged by some rules: route and result are those of document 01's scan; and demand 3 whenever
+-- it returns 0.
+pub record PolishedBy (rules : List Rule) (q : Question) (result : List ℕ) (answer : ℕ) (route′ result′ : List ℕ) : Type 0 where
+  pub number-is : answer ≡ refusal rules
+  pub route-is : route′ ≡ if-taken rules (asked q .route) (q .route)
+  pub result-is : result′ ≡ if-taken rules (six-numbers (problem (q .trip)) (q .route) (asked q) ++ drop 6 result) result
   pub demand3 : answer ≡ 0 → Demand3 (problem (q .trip)) (patterns (q .k)) (q .k) (q .allowance) (q .route) (handed-back result′ route′)
+
+-- A closed tour: the entry is handed a question whose end is its depot.
+abbrev pub PolishReply : Question → List ℕ → ℕ → List ℕ → List ℕ → Type 0
+PolishReply q result = PolishedBy (polish-rules q (length result)) q result
+
+abbrev pub PolishToEndReply : Question → List ℕ → ℕ → List ℕ → List ℕ → Type 0
+PolishToEndReply q result = PolishedBy (polish-to-end-rules q (length result)) q result
 
 -- ---- the pair loop
 
+-- It "keeps closed tours".
+abbrev pub closed-tour : Tables → (depot : ℕ) → Problem
+closed-tour T depot = problem (record { tables = T; depot = depot; end = depot })
+
 -- Of the slices as they are handed in and as they are handed back: route and result are those of the pair loop; and what it keeps whenever it returns 0.
-pub record PairLoopReply (allowance : ℕ) (T : Trip) (route result : List ℕ) (answer : ℕ) (route′ result′ : List ℕ) : Type 0 where
-  pub number-is : answer ≡ refusal (pair-loop-rules T route (length result))
-  pub route-is : route′ ≡ if-taken (pair-loop-rules T route (length result)) (pair-loop (problem T) allowance route .route) route
-  pub result-is : result′ ≡ if-taken (pair-loop-rules T route (length result)) (six-numbers (problem T) route (pair-loop (problem T) allowance route) ++ drop 6 result) result
-  pub promise : answer ≡ 0 → PairPromise (problem T) allowance route (handed-back result′ route′)
+pub record PairLoopReply (allowance : ℕ) (T : Tables) (depot : ℕ) (route result : List ℕ) (answer : ℕ) (route′ result′ : List ℕ) : Type 0 where
+  pub number-is : answer ≡ refusal (pair-loop-rules T depot route (length result))
+  pub route-is : route′ ≡ if-taken (pair-loop-rules T depot route (length result)) (pair-loop (closed-tour T depot) allowance route .route) route
+  pub result-is : result′ ≡ if-taken (pair-loop-rules T depot route (length result)) (six-numbers (closed-tour T depot) route (pair-loop (closed-tour T depot) allowance route) ++ drop 6 result) result
+  pub promise : answer ≡ 0 → PairPromise (closed-tour T depot) allowance route (handed-back result′ route′)
 
 -- ---- doable; apply and undo promise what they do over cut points (crate move_calls)
 
@@ -118,13 +138,20 @@ doable-values k round n rounds positions = cond (doable k round n rounds positio
 
 -- ---- the run
 
--- Stops and result are those of document 01's run; and whenever it returns 0 each round holds the same stops, none is reached after a spent one, and each that
--- finished is k-optimal (`Ran`).
-pub record RunReply (k allowance : ℕ) (T : Tables) (F : Fleet) (result : List ℕ) (answer : ℕ) (stops′ result′ : List ℕ) : Type 0 where
-  pub number-is : answer ≡ refusal (run-rules k T F (length result))
-  pub stops-are : stops′ ≡ if-taken (run-rules k T F (length result)) (routes (run k allowance (rounds T F))) (F .stops)
-  pub result-is : result′ ≡ if-taken (run-rules k T F (length result)) (numbers (run k allowance (rounds T F)) ++ drop (4 * length (F .lengths)) result) result
+-- Judged by some rules: stops and result are those of document 01's run; and whenever it returns 0 each round holds the same stops, none is reached after a spent
+-- one, and each that finished is k-optimal (`Ran`).
+pub record RunBy (rules : List Rule) (k allowance : ℕ) (T : Tables) (F : Fleet) (result : List ℕ) (answer : ℕ) (stops′ result′ : List ℕ) : Type 0 where
+  pub number-is : answer ≡ refusal rules
+  pub stops-are : stops′ ≡ if-taken rules (routes (run k allowance (rounds T F))) (F .stops)
+  pub result-is : result′ ≡ if-taken rules (numbers (run k allowance (rounds T F)) ++ drop (4 * length (F .lengths)) result) result
   pub ran : answer ≡ 0 → Ran k allowance T F result stops′ result′
+
+-- Closed tours: the entry is handed a fleet whose ends are its depots.
+abbrev pub RunReply : (k allowance : ℕ) → Tables → Fleet → List ℕ → ℕ → List ℕ → List ℕ → Type 0
+RunReply k allowance T F result = RunBy (run-rules k T F (length result)) k allowance T F result
+
+abbrev pub RunToEndsReply : (k allowance : ℕ) → Tables → Fleet → List ℕ → ℕ → List ℕ → List ℕ → Type 0
+RunToEndsReply k allowance T F result = RunBy (run-to-ends-rules k T F (length result)) k allowance T F result
 
 -- ---- nearby cuts
 

@@ -4,13 +4,13 @@ ghost use Prim.Native.Nat.{_+_};
 ghost use Rattle.theory.specs.Route.{tour-length};
 ghost use Rattle.theory.specs.Polish.{move-at};
 ghost use Rattle.theory.specs.Moves.{patterns};
-ghost use Rattle.theory.specs.Tables.{tables, trip, fleet, legs-only};
+ghost use Rattle.theory.specs.Tables.{tables, fleet, legs-only};
 ghost use Rattle.theory.specs.Question.{question};
 ghost use Rattle.theory.specs.Refusals.{problem-rules};
 ghost use Rattle.move_calls.specs.Entries.{DoMoveReply, UndoReply, doable-rules};
 ghost use Rattle.moves.specs.Moves.{length-change, pattern-values};
-ghost use Rattle.refusal_rules.specs.Rules.{route-length-rules, pattern-rules, delta-rules};
-ghost use Rattle.mittenschist.specs.Promises.{NextCutSetReply, RouteLengthReply, ReconnectionReply, ReconnectReply, DeltaReply, FeasibleReply, PolishReply, PairLoopReply, Written, NextCutSetWritten, late-values, doable-values, RunReply, NearbyReply, NearbyWritten};
+ghost use Rattle.refusal_rules.specs.Rules.{route-length-rules, route-length-to-end-rules, pattern-rules, delta-rules, delta-to-end-rules};
+ghost use Rattle.mittenschist.specs.Promises.{NextCutSetReply, RouteLengthReply, RouteLengthToEndReply, ReconnectionReply, ReconnectReply, DeltaReply, DeltaToEndReply, FeasibleReply, PolishReply, PolishToEndReply, PairLoopReply, Written, NextCutSetWritten, late-values, doable-values, RunReply, RunToEndsReply, NearbyReply, NearbyWritten};
 use polishing::polish_route;
 use theory::CutStep;
 use theory::Feasibility;
@@ -58,18 +58,60 @@ pub fn reconnect(k: usize, pattern: usize, cuts: &[usize], route: &[u32], out: &
     0
 }
 
-// The length of a route. Refuses 2 (of locations and legs), 3, 4, 5.
-pub fn route_length(locations: usize, legs: &[u32], depot: u32, route: &[u32]) -> RouteLength
-    ensures { λ r. ⌜ RouteLengthReply locations (now (legs .entry)) depot (now (route .entry)) r ⌝ }
+// The length of a route from the depot to an end harbour. Refuses 2 (of locations and legs), 3, 4, 24, 5.
+pub fn route_length_to_end(
+    locations: usize,
+    legs: &[u32],
+    depot: u32,
+    end: u32,
+    route: &[u32],
+) -> RouteLength
+    ensures { λ r. ⌜ RouteLengthToEndReply locations (now (legs .entry)) depot end (now (route .entry)) r ⌝ }
 {
-    let refused = refusal_rules::route_length_refusal(locations, legs, depot, route);
+    let refused = refusal_rules::route_length_refusal(locations, legs, depot, end, route);
     if refused != 0 {
         return RouteLength::Refused(refused);
     }
-    RouteLength::Seconds(costs::route_length(locations, legs, depot, route))
+    RouteLength::Seconds(costs::route_length(locations, legs, depot, end, route))
 }
 
-// The length after a move minus the length before. Refuses 1, 2 (of locations and legs), 3 to 7.
+// The length of a closed tour. Refuses 2 (of locations and legs), 3, 4, 5.
+pub fn route_length(locations: usize, legs: &[u32], depot: u32, route: &[u32]) -> RouteLength
+    ensures { λ r. ⌜ RouteLengthReply locations (now (legs .entry)) depot (now (route .entry)) r ⌝ }
+{
+    route_length_to_end(locations, legs, depot, depot, route)
+}
+
+// The length after a move minus the length before, to an end harbour. Refuses 1, 2 (of locations and legs), 3, 4, 24, 5, 6, 7.
+pub fn delta_to_end(
+    k: usize,
+    pattern: usize,
+    cuts: &[usize],
+    locations: usize,
+    legs: &[u32],
+    depot: u32,
+    end: u32,
+    route: &[u32],
+) -> LengthDelta
+    ensures { λ r. ⌜ DeltaToEndReply k pattern (now (cuts .entry)) locations (now (legs .entry)) depot end (now (route .entry)) r ⌝ }
+{
+    let refused = refusal_rules::delta_refusal(
+        k,
+        pattern,
+        cuts,
+        locations,
+        legs,
+        depot,
+        end,
+        route,
+    );
+    if refused != 0 {
+        return LengthDelta::Refused(refused);
+    }
+    LengthDelta::Seconds(moves::delta_pattern(k, pattern, cuts, locations, legs, depot, end, route))
+}
+
+// The same of closed tours. Refuses 1, 2 (of locations and legs), 3 to 7.
 pub fn delta(
     k: usize,
     pattern: usize,
@@ -81,11 +123,7 @@ pub fn delta(
 ) -> LengthDelta
     ensures { λ r. ⌜ DeltaReply k pattern (now (cuts .entry)) locations (now (legs .entry)) depot (now (route .entry)) r ⌝ }
 {
-    let refused = refusal_rules::delta_refusal(k, pattern, cuts, locations, legs, depot, route);
-    if refused != 0 {
-        return LengthDelta::Refused(refused);
-    }
-    LengthDelta::Seconds(moves::delta_pattern(k, pattern, cuts, locations, legs, depot, route))
+    delta_to_end(k, pattern, cuts, locations, legs, depot, depot, route)
 }
 
 // The deadline check. Refuses 2, 3, 23, 4, 5.
@@ -97,7 +135,7 @@ pub fn route_feasible(
     depot: u32,
     route: &[u32],
 ) -> Feasibility
-    ensures { λ r. ⌜ FeasibleReply (trip locations (now (legs .entry)) (now (latest .entry)) (now (service .entry)) depot) (now (route .entry)) r ⌝ }
+    ensures { λ r. ⌜ FeasibleReply (tables locations (now (legs .entry)) (now (latest .entry)) (now (service .entry))) depot (now (route .entry)) r ⌝ }
 {
     let refused = refusals::check_problem(locations, legs, latest, service, depot, route);
     if refused != 0 {
@@ -107,8 +145,53 @@ pub fn route_feasible(
     Feasibility::Checked(answer)
 }
 
-// Polishes a route. Refuses 1, 2, 3, 23, 4, 5, 21. The result receives 0 finished or 1 spent, examined, accepted, length before, length after,
-// and the lowest late position of the route handed back, or the number of its stops for none.
+// Polishes a route from the depot to an end harbour. Refuses 1, 2, 3, 23, 4, 24, 5, 21. The result receives 0 finished or 1 spent, examined, accepted, length
+// before, length after, and the lowest late position of the route handed back, or the number of its stops for none.
+#[no_mangle]
+pub extern "C" fn mittenschist_polish_route_to_end(
+    k: usize,
+    allowance: u64,
+    locations: usize,
+    legs: &[u32],
+    latest: &[u32],
+    service: &[u32],
+    depot: u32,
+    end: u32,
+    route: &mut [u32],
+    result: &mut [u64],
+) -> u32
+    ensures { λ r. ⌜ PolishToEndReply (question k allowance locations (now (legs .entry)) (now (latest .entry)) (now (service .entry)) depot end (now (route .entry))) (now (result .entry)) r (now (route .exit)) (now (result .exit)) ⌝ }
+{
+    let refused = refusal_rules::polish_refusal(
+        k,
+        locations,
+        legs,
+        latest,
+        service,
+        depot,
+        end,
+        &route[..],
+        result.len(),
+    );
+    if refused != 0 {
+        return refused;
+    }
+    let answer = polish_route(
+        k,
+        allowance,
+        locations,
+        legs,
+        latest,
+        service,
+        depot,
+        end,
+        route,
+    );
+    polishing::put_polished(answer, result);
+    0
+}
+
+// Polishes a closed tour. Refuses 1, 2, 3, 23, 4, 5, 21.
 #[no_mangle]
 pub extern "C" fn mittenschist_polish_route(
     k: usize,
@@ -121,24 +204,20 @@ pub extern "C" fn mittenschist_polish_route(
     route: &mut [u32],
     result: &mut [u64],
 ) -> u32
-    ensures { λ r. ⌜ PolishReply (question k allowance locations (now (legs .entry)) (now (latest .entry)) (now (service .entry)) depot (now (route .entry))) (now (result .entry)) r (now (route .exit)) (now (result .exit)) ⌝ }
+    ensures { λ r. ⌜ PolishReply (question k allowance locations (now (legs .entry)) (now (latest .entry)) (now (service .entry)) depot depot (now (route .entry))) (now (result .entry)) r (now (route .exit)) (now (result .exit)) ⌝ }
 {
-    let refused = refusal_rules::polish_refusal(
+    mittenschist_polish_route_to_end(
         k,
+        allowance,
         locations,
         legs,
         latest,
         service,
         depot,
-        &route[..],
-        result.len(),
-    );
-    if refused != 0 {
-        return refused;
-    }
-    let answer = polish_route(k, allowance, locations, legs, latest, service, depot, route);
-    polishing::put_polished(answer, result);
-    0
+        depot,
+        route,
+        result,
+    )
 }
 
 // The pair loop over a route. Refuses 2, 3, 23, 4, 5, 21. The result receives the six numbers of polishing; the length after may be above the length before.
@@ -153,7 +232,7 @@ pub extern "C" fn mittenschist_pair_loop(
     route: &mut [u32],
     result: &mut [u64],
 ) -> u32
-    ensures { λ r. ⌜ PairLoopReply allowance (trip locations (now (legs .entry)) (now (latest .entry)) (now (service .entry)) depot) (now (route .entry)) (now (result .entry)) r (now (route .exit)) (now (result .exit)) ⌝ }
+    ensures { λ r. ⌜ PairLoopReply allowance (tables locations (now (legs .entry)) (now (latest .entry)) (now (service .entry))) depot (now (route .entry)) (now (result .entry)) r (now (route .exit)) (now (result .exit)) ⌝ }
 {
     let refused = refusal_rules::pair_loop_refusal(
         locations,
@@ -219,6 +298,22 @@ pub extern "C" fn mittenschist_reconnect(
     reconnect(k, pattern, cuts, route, out)
 }
 
+// Refuses 2, 3, 4, 24, 5, 21.
+#[no_mangle]
+pub extern "C" fn mittenschist_route_length_to_end(
+    locations: usize,
+    legs: &[u32],
+    depot: u32,
+    end: u32,
+    route: &[u32],
+    result: &mut [u64],
+) -> u32
+    ensures { λ r. ⌜ Written (route-length-to-end-rules locations (now (legs .entry)) depot end (now (route .entry))) 1 (tour-length (legs-only locations (now (legs .entry)) depot end) (now (route .entry)) ∷ []) (now (result .entry)) r (now (result .exit)) ⌝ }
+{
+    let answer = route_length_to_end(locations, legs, depot, end, route);
+    entry_results::put_length(answer, result)
+}
+
 // Refuses 2, 3, 4, 5, 21.
 #[no_mangle]
 pub extern "C" fn mittenschist_route_length(
@@ -228,10 +323,29 @@ pub extern "C" fn mittenschist_route_length(
     route: &[u32],
     result: &mut [u64],
 ) -> u32
-    ensures { λ r. ⌜ Written (route-length-rules locations (now (legs .entry)) depot (now (route .entry))) 1 (tour-length (legs-only locations (now (legs .entry)) depot) (now (route .entry)) ∷ []) (now (result .entry)) r (now (result .exit)) ⌝ }
+    ensures { λ r. ⌜ Written (route-length-rules locations (now (legs .entry)) depot (now (route .entry))) 1 (tour-length (legs-only locations (now (legs .entry)) depot depot) (now (route .entry)) ∷ []) (now (result .entry)) r (now (result .exit)) ⌝ }
 {
     let answer = route_length(locations, legs, depot, route);
     entry_results::put_length(answer, result)
+}
+
+// Refuses 1 to 4, 24, 5 to 7, 21.
+#[no_mangle]
+pub extern "C" fn mittenschist_delta_to_end(
+    k: usize,
+    pattern: usize,
+    cuts: &[usize],
+    locations: usize,
+    legs: &[u32],
+    depot: u32,
+    end: u32,
+    route: &[u32],
+    result: &mut [i64],
+) -> u32
+    ensures { λ r. ⌜ Written (delta-to-end-rules k pattern (now (cuts .entry)) locations (now (legs .entry)) depot end (now (route .entry))) 1 (length-change (legs-only locations (now (legs .entry)) depot end) (move-at (patterns k) (now (cuts .entry)) pattern) (now (route .entry)) ∷ []) (now (result .entry)) r (now (result .exit)) ⌝ }
+{
+    let answer = delta_to_end(k, pattern, cuts, locations, legs, depot, end, route);
+    entry_results::put_delta(answer, result)
 }
 
 // Refuses 1 to 7, 21.
@@ -246,7 +360,7 @@ pub extern "C" fn mittenschist_delta(
     route: &[u32],
     result: &mut [i64],
 ) -> u32
-    ensures { λ r. ⌜ Written (delta-rules k pattern (now (cuts .entry)) locations (now (legs .entry)) depot (now (route .entry))) 1 (length-change (legs-only locations (now (legs .entry)) depot) (move-at (patterns k) (now (cuts .entry)) pattern) (now (route .entry)) ∷ []) (now (result .entry)) r (now (result .exit)) ⌝ }
+    ensures { λ r. ⌜ Written (delta-rules k pattern (now (cuts .entry)) locations (now (legs .entry)) depot (now (route .entry))) 1 (length-change (legs-only locations (now (legs .entry)) depot depot) (move-at (patterns k) (now (cuts .entry)) pattern) (now (route .entry)) ∷ []) (now (result .entry)) r (now (result .exit)) ⌝ }
 {
     let answer = delta(k, pattern, cuts, locations, legs, depot, route);
     entry_results::put_delta(answer, result)
@@ -263,7 +377,7 @@ pub extern "C" fn mittenschist_route_feasible(
     route: &[u32],
     result: &mut [u64],
 ) -> u32
-    ensures { λ r. ⌜ Written (problem-rules (trip locations (now (legs .entry)) (now (latest .entry)) (now (service .entry)) depot) (now (route .entry))) 1 (late-values (trip locations (now (legs .entry)) (now (latest .entry)) (now (service .entry)) depot) (now (route .entry))) (now (result .entry)) r (now (result .exit)) ⌝ }
+    ensures { λ r. ⌜ Written (problem-rules (tables locations (now (legs .entry)) (now (latest .entry)) (now (service .entry))) depot (now (route .entry))) 1 (late-values (tables locations (now (legs .entry)) (now (latest .entry)) (now (service .entry))) depot (now (route .entry))) (now (result .entry)) r (now (result .exit)) ⌝ }
 {
     let answer = route_feasible(locations, legs, latest, service, depot, route);
     entry_results::put_feasibility(answer, route.len(), result)
@@ -310,9 +424,9 @@ pub extern "C" fn mittenschist_k_opt_is_doable(
     entry_results::put_doable(answer, result)
 }
 
-// The run over rounds that lie end to end. Refuses 1, 2, 3, 23, 4, 5, 21. The result receives four numbers a round: state, examined, accepted, applied.
+// The run over rounds that lie end to end, each to its end harbour. Refuses 1, 2, 3, 23, 4, 24, 5, 21. The result receives four numbers a round: state, examined, accepted, applied.
 #[no_mangle]
-pub extern "C" fn mittenschist_run_list_k_opt(
+pub extern "C" fn mittenschist_run_list_k_opt_to_ends(
     k: usize,
     allowance: u64,
     locations: usize,
@@ -322,10 +436,11 @@ pub extern "C" fn mittenschist_run_list_k_opt(
     stops: &mut [u32],
     lengths: &[usize],
     depots: &[u32],
+    ends: &[u32],
     pins: &[u8],
     result: &mut [u64],
 ) -> u32
-    ensures { λ r. ⌜ RunReply k allowance (tables locations (now (legs .entry)) (now (latest .entry)) (now (service .entry))) (fleet (now (stops .entry)) (now (lengths .entry)) (now (depots .entry)) (now (pins .entry))) (now (result .entry)) r (now (stops .exit)) (now (result .exit)) ⌝ }
+    ensures { λ r. ⌜ RunToEndsReply k allowance (tables locations (now (legs .entry)) (now (latest .entry)) (now (service .entry))) (fleet (now (stops .entry)) (now (lengths .entry)) (now (depots .entry)) (now (ends .entry)) (now (pins .entry))) (now (result .entry)) r (now (stops .exit)) (now (result .exit)) ⌝ }
 {
     let lent = result.len();
     let refused = refusal_rules::run_refusal(
@@ -337,6 +452,7 @@ pub extern "C" fn mittenschist_run_list_k_opt(
         &stops[..],
         lengths,
         depots,
+        ends,
         pins,
         lent,
     );
@@ -353,10 +469,44 @@ pub extern "C" fn mittenschist_run_list_k_opt(
         stops,
         lengths,
         depots,
+        ends,
         pins,
         result,
     );
     0
+}
+
+// The run over closed tours. Refuses 1, 2, 3, 23, 4, 5, 21.
+#[no_mangle]
+pub extern "C" fn mittenschist_run_list_k_opt(
+    k: usize,
+    allowance: u64,
+    locations: usize,
+    legs: &[u32],
+    latest: &[u32],
+    service: &[u32],
+    stops: &mut [u32],
+    lengths: &[usize],
+    depots: &[u32],
+    pins: &[u8],
+    result: &mut [u64],
+) -> u32
+    ensures { λ r. ⌜ RunReply k allowance (tables locations (now (legs .entry)) (now (latest .entry)) (now (service .entry))) (fleet (now (stops .entry)) (now (lengths .entry)) (now (depots .entry)) (now (depots .entry)) (now (pins .entry))) (now (result .entry)) r (now (stops .exit)) (now (result .exit)) ⌝ }
+{
+    mittenschist_run_list_k_opt_to_ends(
+        k,
+        allowance,
+        locations,
+        legs,
+        latest,
+        service,
+        stops,
+        lengths,
+        depots,
+        depots,
+        pins,
+        result,
+    )
 }
 
 // Lists the nearby cut sets, k places each, until no whole set fits any more. Refuses 1, 5, 9, 21.

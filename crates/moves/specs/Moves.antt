@@ -25,7 +25,7 @@ pub record Shown (k index : ℕ) (result : List ℕ) : Type 0 where
   pub listed : Listed k index
   pub room : k + 2 ≤ length result
 
-pub record Comparable (k index : ℕ) (cuts : List ℕ) (locations : ℕ) (legs : List ℕ) (depot : ℕ) (route : List ℕ) : Type 0 where
+pub record Comparable (k index : ℕ) (cuts : List ℕ) (locations : ℕ) (legs : List ℕ) (depot end : ℕ) (route : List ℕ) : Type 0 where
   pub cut-set : CutSet k (length route) cuts
   pub listed : index < length (patterns k)
-  pub measurable : Measurable locations legs depot route
+  pub measurable : Measurable locations legs depot end route

@@ -52,10 +52,11 @@ pub fn delta_pattern(
     locations: usize,
     legs: &[u32],
     depot: u32,
+    end: u32,
     route: &[u32],
 ) -> i64
-    requires { ⌜ Comparable k index (now cuts) locations (now legs) depot (now route) ⌝ }
-    ensures { λ r. ⌜ r ≡ length-change (legs-only locations (now (legs .entry)) depot) (move-at (patterns k) (now (cuts .entry)) index) (now (route .entry)) ⌝ }
+    requires { ⌜ Comparable k index (now cuts) locations (now legs) depot end (now route) ⌝ }
+    ensures { λ r. ⌜ r ≡ length-change (legs-only locations (now (legs .entry)) depot end) (move-at (patterns k) (now (cuts .entry)) index) (now (route .entry)) ⌝ }
 {
     let found = patterns::pattern_at(k, index);
     let order = found.segment_order;
@@ -69,6 +70,7 @@ pub fn delta_pattern(
         locations,
         legs,
         depot,
+        end,
         route,
         &forward,
         &backward,

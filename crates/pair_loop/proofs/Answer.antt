@@ -10,6 +10,7 @@ use Rattle.theory.specs.Tables.{problem, timetable-by, legs-only, Timed, Trip}
 use Rattle.theory.specs.Answers.{reply-of, counts-of}
 use Rattle.theory.specs.declared.Counts.{Counts}
 use Rattle.theory.specs.declared.Polished.{Polished}
+use Rattle.theory.proofs.Judged.{clocked}
 use Rattle.deadlines.specs.Lateness.{LateAsked}
 use Rattle.pair_reversal.proofs.Trying.{timed-rearranged}
 use Rattle.pair_loop.specs.declared.PairLoop.{PairLoop}
@@ -21,15 +22,15 @@ module _ (T : Trip) (A : ℕ) (route : List ℕ) {counted : PairLoop} {route′ 
   timed-after timed = timed-rearranged (λ g. ap (λ q. total g (q .route)) e ∙ loop-onward (problem T) A route .same g) timed .0
 
   -- What was accepted keeps every deadline.
-  pub late-asked : Timed T route → {kept : Bool} → (kept ≡ true → 0 < counted .accepted) → LateAsked T route′ kept
+  pub late-asked : Timed T route → {kept : Bool} → (kept ≡ true → 0 < counted .accepted) → LateAsked (T .tables) (T .depot) route′ kept
   late-asked timed some =
       record {
-        timed = timed-after timed;
+        clocked = clocked (timed-after timed);
         known = λ k. ap (λ q. feasible (problem T) (q .route)) e ∙ loop-onward (problem T) A route .changed (omega (arith, some k, ap (λ q. q .accepted) e));
       }
 
-  module _ {before after late : ℕ} (b : before ≡ tour-length (legs-only (T .tables .locations) (T .tables .legs) (T .depot)) route)
-      (a : after ≡ tour-length (legs-only (T .tables .locations) (T .tables .legs) (T .depot)) route′)
+  module _ {before after late : ℕ} (b : before ≡ tour-length (legs-only (T .tables .locations) (T .tables .legs) (T .depot) (T .end)) route)
+      (a : after ≡ tour-length (legs-only (T .tables .locations) (T .tables .legs) (T .depot) (T .end)) route′)
       (l : late ≡ late-position (timetable-by (T .tables)) (T .depot) route′) where
     abbrev counts : Counts
     counts = record { examined = counted .examined; accepted = counted .accepted; before = before; after = after; late = late }

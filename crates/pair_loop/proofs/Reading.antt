@@ -12,6 +12,6 @@ before-inside depot r zero h = absurd (h refl)
 before-inside depot r (suc i) h = let e : suc i - 1 ≡ i = omega arith in rw e
 
 -- It is a location.
-pub before-known : {locations depot : ℕ} {legs r : List ℕ} → Measurable locations legs depot r → (i : ℕ) → i < length r → stop-before depot r i < locations
+pub before-known : {locations depot end : ℕ} {legs r : List ℕ} → Measurable locations legs depot end r → (i : ℕ) → i < length r → stop-before depot r i < locations
 before-known m zero h = m .depot-known
 before-known m (suc i) h = m .stops .known i (omega arith)

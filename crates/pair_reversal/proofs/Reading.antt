@@ -18,8 +18,8 @@ pub after-last : (depot : ℕ) (r : List ℕ) (j : ℕ) → j < length r → len
 after-last depot r j h k = sym (getD-at r depot [] 0 (suc j) (omega arith))
 
 -- The stop after a pair is a location.
-pub after-known : {locations depot : ℕ} {legs r : List ℕ} → Measurable locations legs depot r → (j : ℕ) → j < length r → stop-after depot r j < locations
-after-known {locations} {depot} {legs} {r} m j h = by (eq-or-lt-of-le h)
+pub after-known : {locations depot end : ℕ} {legs r : List ℕ} → Measurable locations legs depot end r → (j : ℕ) → j < length r → stop-after depot r j < locations
+after-known {locations} {depot} {r = r} m j h = by (eq-or-lt-of-le h)
   where
     by : (suc j ≡ length r) ⊎ (suc j < length r) → stop-after depot r j < locations
     by (inl e) = rw (getD-at r depot [] 0 (suc j) (sym e)) (m .depot-known)

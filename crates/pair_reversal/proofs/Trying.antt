@@ -17,7 +17,7 @@ pub timed-rearranged : {T : Trip} {r r′ : List ℕ} → ((g : ℕ → ℕ) →
 timed-rearranged {T} {r = r} {r′ = r′} same t =
     let m = t .measurable in (
       record {
-        measurable = record { table = m .table; depot-known = m .depot-known; stops = stops-rearranged r r′ same (T .tables .locations) (m .stops) };
+        measurable = record { table = m .table; depot-known = m .depot-known; end-known = m .end-known; stops = stops-rearranged r r′ same (T .tables .locations) (m .stops) };
         times = t .times;
       },
       as-many r r′ same,

@@ -59,8 +59,8 @@ pub fn try_pair(
     j: usize,
     route: &mut [u32],
 ) -> bool
-    requires { ⌜ Pair (trip locations (now legs) (now latest) (now service) depot) a b i j (now route) ⌝ }
-    ensures { λ r. ⌜ Tried (problem (trip locations (now (legs .entry)) (now (latest .entry)) (now (service .entry)) depot)) a b i j (now (route .entry)) r (now (route .exit)) ⌝ }
+    requires { ⌜ Pair (trip locations (now legs) (now latest) (now service) depot depot) a b i j (now route) ⌝ }
+    ensures { λ r. ⌜ Tried (problem (trip locations (now (legs .entry)) (now (latest .entry)) (now (service .entry)) depot depot)) a b i j (now (route .entry)) r (now (route .exit)) ⌝ }
 {
     let c = route[j];
     let e = stop_after(depot, &route[..], j);

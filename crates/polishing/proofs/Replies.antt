@@ -12,6 +12,7 @@ use Rattle.theory.specs.Tables.{problem, timetable-by, legs-only, Measurable, p
 use Rattle.theory.specs.Answers.{Polishes, reply-of, counts-of}
 use Rattle.theory.specs.declared.Counts.{Counts}
 use Rattle.theory.specs.declared.Polished.{Polished}
+use Rattle.theory.proofs.Judged.{followed}
 use Rattle.theory.proofs.ForK.{rows-for-cuts}
 use Rattle.theory.proofs.Polish.{polish-with-demand3, same-total}
 use Rattle.theory.proofs.Steps.{nowhere}
@@ -23,7 +24,7 @@ use Rattle.polishing.specs.Loop.{PolishableRows, ScannedWith, answer-of}
 use Rattle.scan_joints.specs.States.{StateRows}
 
 -- Deadlines play no part in a length.
-length-without-deadlines : (T : Trip) (r : List ℕ) → tour-length (legs-only (T .tables .locations) (T .tables .legs) (T .depot)) r ≡ tour-length (problem T) r
+length-without-deadlines : (T : Trip) (r : List ℕ) → tour-length (legs-only (T .tables .locations) (T .tables .legs) (T .depot) (T .end)) r ≡ tour-length (problem T) r
 unfolding tour-length
 length-without-deadlines T r = refl
 
@@ -50,13 +51,13 @@ module _ (k : ℕ) (T : Trip) (orders masks route : List ℕ) (A : ℕ) (ok : Po
     rearranged : (g : ℕ → ℕ) → total g route′ ≡ total g route
     rearranged g = ap (λ q. total g (q .route)) (s .scan) ∙ same-total P ps k for-cuts g A route
 
-    pub measurable-after : Measurable (T .tables .locations) (T .tables .legs) (T .depot) route′
+    pub measurable-after : Measurable (T .tables .locations) (T .tables .legs) (T .depot) (T .end) route′
     measurable-after =
         let m = ok .timed .measurable in
-        record { table = m .table; depot-known = m .depot-known; stops = stops-rearranged route route′ rearranged (T .tables .locations) (m .stops) }
+        record { table = m .table; depot-known = m .depot-known; end-known = m .end-known; stops = stops-rearranged route route′ rearranged (T .tables .locations) (m .stops) }
 
-    pub late-asked : LateAsked T route′ (scanned .kept)
-    late-asked = record { timed = record { measurable = measurable-after; times = ok .timed .times }; known = s .kept }
+    pub late-asked : LateAsked (T .tables) (T .depot) route′ (scanned .kept)
+    late-asked = record { clocked = record { followable = followed measurable-after; times = ok .timed .times }; known = s .kept }
 
     abbrev counts : (before after late : ℕ) → Counts
     counts before after late = record { examined = scanned .examined; accepted = scanned .accepted; before = before; after = after; late = late }
@@ -70,8 +71,8 @@ module _ (k : ℕ) (T : Trip) (orders masks route : List ℕ) (A : ℕ) (ok : Po
     same-counts false c = refl
 
     -- An answer that is the scan's, with the lengths and the lowest late position, has demand 3.
-    pub replies : (before after late : ℕ) → before ≡ tour-length (legs-only (T .tables .locations) (T .tables .legs) (T .depot)) route →
-        after ≡ tour-length (legs-only (T .tables .locations) (T .tables .legs) (T .depot)) route′ → late ≡ late-position (timetable-by (T .tables)) (T .depot) route′ →
+    pub replies : (before after late : ℕ) → before ≡ tour-length (legs-only (T .tables .locations) (T .tables .legs) (T .depot) (T .end)) route →
+        after ≡ tour-length (legs-only (T .tables .locations) (T .tables .legs) (T .depot) (T .end)) route′ → late ≡ late-position (timetable-by (T .tables)) (T .depot) route′ →
         (answer : Polished) → answer ≡ answer-of (scanned .finished) (counts before after late) → Polishes P ps k A route answer route′
     replies before after late b a l answer e =
         let c = ap counts-of e ∙ same-counts (scanned .finished) (counts before after late) in

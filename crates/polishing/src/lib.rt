@@ -32,12 +32,13 @@ fn scanned_with(
     latest: &[u32],
     service: &[u32],
     depot: u32,
+    end: u32,
     orders: &[u8],
     masks: &[u8],
     route: &mut [u32],
 ) -> Scanned
-    requires { ⌜ PolishableRows k (trip locations (now legs) (now latest) (now service) depot) (now orders) (now masks) (now route) ⌝ }
-    ensures { λ r. ⌜ ScannedWith (problem (trip locations (now (legs .entry)) (now (latest .entry)) (now (service .entry)) depot)) (pattern-rows k (now (orders .entry)) (now (masks .entry))) k allowance (now (route .entry)) r (now (route .exit)) ⌝ }
+    requires { ⌜ PolishableRows k (trip locations (now legs) (now latest) (now service) depot end) (now orders) (now masks) (now route) ⌝ }
+    ensures { λ r. ⌜ ScannedWith (problem (trip locations (now (legs .entry)) (now (latest .entry)) (now (service .entry)) depot end)) (pattern-rows k (now (orders .entry)) (now (masks .entry))) k allowance (now (route .entry)) r (now (route .exit)) ⌝ }
 {
     if route.len() + 1 < k {
         return Scanned {
@@ -57,6 +58,7 @@ fn scanned_with(
         latest,
         service,
         depot,
+        end,
         orders,
         masks,
         &rows,
@@ -73,14 +75,15 @@ pub fn polish_rows(
     latest: &[u32],
     service: &[u32],
     depot: u32,
+    end: u32,
     orders: &[u8],
     masks: &[u8],
     route: &mut [u32],
 ) -> Polished
-    requires { ⌜ PolishableRows k (trip locations (now legs) (now latest) (now service) depot) (now orders) (now masks) (now route) ⌝ }
-    ensures { λ r. ⌜ Polishes (problem (trip locations (now (legs .entry)) (now (latest .entry)) (now (service .entry)) depot)) (pattern-rows k (now (orders .entry)) (now (masks .entry))) k allowance (now (route .entry)) r (now (route .exit)) ⌝ }
+    requires { ⌜ PolishableRows k (trip locations (now legs) (now latest) (now service) depot end) (now orders) (now masks) (now route) ⌝ }
+    ensures { λ r. ⌜ Polishes (problem (trip locations (now (legs .entry)) (now (latest .entry)) (now (service .entry)) depot end)) (pattern-rows k (now (orders .entry)) (now (masks .entry))) k allowance (now (route .entry)) r (now (route .exit)) ⌝ }
 {
-    let before = costs::route_length(locations, legs, depot, &route[..]);
+    let before = costs::route_length(locations, legs, depot, end, &route[..]);
     let scanned = scanned_with(
         k,
         allowance,
@@ -89,11 +92,12 @@ pub fn polish_rows(
         latest,
         service,
         depot,
+        end,
         orders,
         masks,
         route,
     );
-    let after = costs::route_length(locations, legs, depot, &route[..]);
+    let after = costs::route_length(locations, legs, depot, end, &route[..]);
     let late = deadlines::late_position(
         scanned.kept,
         locations,
@@ -124,10 +128,11 @@ pub fn polish_route(
     latest: &[u32],
     service: &[u32],
     depot: u32,
+    end: u32,
     route: &mut [u32],
 ) -> Polished
-    requires { ⌜ Polishable k (trip locations (now legs) (now latest) (now service) depot) (now route) ⌝ }
-    ensures { λ r. ⌜ Polishes (problem (trip locations (now (legs .entry)) (now (latest .entry)) (now (service .entry)) depot)) (patterns k) k allowance (now (route .entry)) r (now (route .exit)) ⌝ }
+    requires { ⌜ Polishable k (trip locations (now legs) (now latest) (now service) depot end) (now route) ⌝ }
+    ensures { λ r. ⌜ Polishes (problem (trip locations (now (legs .entry)) (now (latest .entry)) (now (service .entry)) depot end)) (patterns k) k allowance (now (route .entry)) r (now (route .exit)) ⌝ }
 {
     let part = pattern_table::part_of(k);
     let first_order = part.orders;
@@ -144,6 +149,7 @@ pub fn polish_route(
         latest,
         service,
         depot,
+        end,
         &orders[first_order..end_order],
         &masks[first_mask..end_mask],
         route,

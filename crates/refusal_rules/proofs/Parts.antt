@@ -9,20 +9,19 @@ use lib.Ieee.{Float}
 use lib.ListN.{length}
 use borrow.Author.Tests.{ltb-false}
 use Rattle.theory.specs.Tables.{Tables, Fleet}
-use Rattle.theory.specs.Refusals.{Rule, number, either, refusal, cut-count, leg-table, leg-sizes, known-stops, stop-count, pattern-index, nearby-input, room, table-rules}
+use Rattle.theory.specs.Refusals.{Rule, number, either, refusal, cut-count, leg-table, leg-sizes, known-stops, known-end, stop-count, pattern-index, nearby-input, room, table-rules}
 use Rattle.theory.proofs.Refusals.{Passes, passed, either-zero, either-assoc, four-then, applies-first, passed-over}
 use Rattle.theory.proofs.LastRule.{early, room-last}
 use Rattle.theory.proofs.Judged.{cut-count-fine, room-fine}
 use Rattle.refusals.proofs.Either.{tables-then}
-use Rattle.refusal_rules.specs.Rules.{pattern-rules, route-length-rules, rounds-rules, run-rules, nearby-rules, with-room}
+use Rattle.refusal_rules.specs.Rules.{pattern-rules, route-length-to-end-rules, rounds-to-ends-rules, run-to-ends-rules, nearby-rules, with-room}
 
 -- The rules of the route, and then the others.
-pub route-then : (locations : ℕ) (legs : List ℕ) (depot : ℕ) (route : List ℕ) (rest : ℕ) →
-    either (refusal (route-length-rules locations legs depot route)) rest
-    ≡ either (number (leg-table locations legs)) (either (number (leg-sizes legs)) (either (number (known-stops locations depot route)) (either (number (stop-count (length route))) rest)))
+pub route-then : (locations : ℕ) (legs : List ℕ) (depot end : ℕ) (route : List ℕ) (rest : ℕ) →
+    either (refusal (route-length-to-end-rules locations legs depot end route)) rest
+    ≡ either (number (leg-table locations legs)) (either (number (leg-sizes legs)) (either (number (known-stops locations depot route)) (either (number (known-end locations end)) (either (number (stop-count (length route))) rest))))
 unfolding refusal
-route-then locations legs depot route rest =
-    four-then (number (leg-table locations legs)) (number (leg-sizes legs)) (number (known-stops locations depot route)) (number (stop-count (length route))) rest
+route-then locations legs depot end route rest = simp (either-assoc, either-zero)
 
 by-5 : (b : Bool) → _≡_ {A = ℕ} (cond b 5 0) 0 → b ≡ false
 by-5 true z = absurd (omega arith)
@@ -66,7 +65,7 @@ pass-with-room rules needed lent p = let q = both-pass rules (room needed lent �
 
 -- k, the tables, the rounds.
 pub run-parts : (k : ℕ) (T : Tables) (F : Fleet) (lent a b c : ℕ) → a ≡ number (cut-count k) → b ≡ refusal (table-rules T) →
-    c ≡ refusal (with-room (rounds-rules (T .locations) F) (4 * length (F .lengths)) lent) → either a (either b c) ≡ refusal (run-rules k T F lent)
+    c ≡ refusal (with-room (rounds-to-ends-rules (T .locations) F) (4 * length (F .lengths)) lent) → either a (either b c) ≡ refusal (run-to-ends-rules k T F lent)
 unfolding refusal
 run-parts k T F lent a b c p q r = ap₂ either p (ap₂ either q r ∙ tables-then T _)
 

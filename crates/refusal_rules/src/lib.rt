@@ -1,12 +1,13 @@
 // What a call was handed, judged by its list of rules: the first number in the one order whose rule applies, or 0. Apply, undo and doable are judged in crate
-// move_calls, the deadline check in crate refusals. No entry: crates mittenschist and text call it.
+// move_calls, the deadline check in crate refusals. A call without an end harbour is judged as one that ends at its depot. No entry: crates mittenschist and text
+// call it.
 ghost use mathlib.Core.Path.{_≡_};
 ghost use mathlib.Core.List.{_∷_};
 ghost use Prim.Native.Nat.{_+_, _*_};
 ghost use lib.ListN.{length};
 ghost use Rattle.theory.specs.Tables.{tables, trip, fleet};
-ghost use Rattle.theory.specs.Refusals.{refusal, cut-count, problem-rules};
-ghost use Rattle.refusal_rules.specs.Rules.{pattern-rules, next-cut-set-rules, reconnect-rules, route-length-rules, delta-rules, pair-loop-rules, rounds-rules, run-rules, nearby-rules, with-room};
+ghost use Rattle.theory.specs.Refusals.{refusal, cut-count, trip-rules};
+ghost use Rattle.refusal_rules.specs.Rules.{pattern-rules, next-cut-set-rules, reconnect-rules, route-length-to-end-rules, delta-to-end-rules, pair-loop-rules, rounds-to-ends-rules, run-to-ends-rules, nearby-rules, with-room};
 
 pub fn pattern_refusal(k: usize, pattern: usize) -> u32
     ensures { λ r. ⌜ r ≡ refusal (pattern-rules k pattern) ⌝ }
@@ -44,17 +45,22 @@ pub fn reconnect_refusal(k: usize, pattern: usize, cuts: &[usize], n: usize, len
     )
 }
 
-pub fn route_length_refusal(locations: usize, legs: &[u32], depot: u32, route: &[u32]) -> u32
-    ensures { λ r. ⌜ r ≡ refusal (route-length-rules locations (now (legs .entry)) depot (now (route .entry))) ⌝ }
+pub fn route_length_refusal(
+    locations: usize,
+    legs: &[u32],
+    depot: u32,
+    end: u32,
+    route: &[u32],
+) -> u32
+    ensures { λ r. ⌜ r ≡ refusal (route-length-to-end-rules locations (now (legs .entry)) depot end (now (route .entry))) ⌝ }
 {
     let bad_table = refusals::check_leg_table(locations, legs);
     let bad_legs = refusals::check_leg_sizes(legs);
     let bad_stops = refusals::check_known_stops(locations, depot, route);
+    let bad_end = refusals::check_known_end(locations, end);
     let bad_n = refusals::check_stop_count(route.len());
-    refusals::first(
-        bad_table,
-        refusals::first(bad_legs, refusals::first(bad_stops, bad_n)),
-    )
+    let bad_route = refusals::first(bad_stops, refusals::first(bad_end, bad_n));
+    refusals::first(bad_table, refusals::first(bad_legs, bad_route))
 }
 
 pub fn delta_refusal(
@@ -64,15 +70,16 @@ pub fn delta_refusal(
     locations: usize,
     legs: &[u32],
     depot: u32,
+    end: u32,
     route: &[u32],
 ) -> u32
-    ensures { λ r. ⌜ r ≡ refusal (delta-rules k pattern (now (cuts .entry)) locations (now (legs .entry)) depot (now (route .entry))) ⌝ }
+    ensures { λ r. ⌜ r ≡ refusal (delta-to-end-rules k pattern (now (cuts .entry)) locations (now (legs .entry)) depot end (now (route .entry))) ⌝ }
 {
     let bad_k = refusals::check_cut_count(k);
     if bad_k != 0 {
         return bad_k;
     }
-    let bad_route = route_length_refusal(locations, legs, depot, route);
+    let bad_route = route_length_refusal(locations, legs, depot, end, route);
     let bad_pattern = refusals::check_pattern_index(k, pattern);
     let bad_cuts = refusals::check_cut_positions(k, route.len(), cuts);
     refusals::first(bad_route, refusals::first(bad_pattern, bad_cuts))
@@ -86,13 +93,14 @@ pub fn question_refusal(
     latest: &[u32],
     service: &[u32],
     depot: u32,
+    end: u32,
     route: &[u32],
 ) -> u32
-    ensures { λ r. ⌜ r ≡ refusal (cut-count k ∷ problem-rules (trip locations (now (legs .entry)) (now (latest .entry)) (now (service .entry)) depot) (now (route .entry))) ⌝ }
+    ensures { λ r. ⌜ r ≡ refusal (cut-count k ∷ trip-rules (trip locations (now (legs .entry)) (now (latest .entry)) (now (service .entry)) depot end) (now (route .entry))) ⌝ }
 {
     let bad_k = refusals::check_cut_count(k);
-    let bad_problem = refusals::check_problem(locations, legs, latest, service, depot, route);
-    refusals::first(bad_k, bad_problem)
+    let bad_trip = refusals::check_trip(locations, legs, latest, service, depot, end, route);
+    refusals::first(bad_k, bad_trip)
 }
 
 pub fn polish_refusal(
@@ -102,12 +110,13 @@ pub fn polish_refusal(
     latest: &[u32],
     service: &[u32],
     depot: u32,
+    end: u32,
     route: &[u32],
     lent: usize,
 ) -> u32
-    ensures { λ r. ⌜ r ≡ refusal (with-room (cut-count k ∷ problem-rules (trip locations (now (legs .entry)) (now (latest .entry)) (now (service .entry)) depot) (now (route .entry))) 6 lent) ⌝ }
+    ensures { λ r. ⌜ r ≡ refusal (with-room (cut-count k ∷ trip-rules (trip locations (now (legs .entry)) (now (latest .entry)) (now (service .entry)) depot end) (now (route .entry))) 6 lent) ⌝ }
 {
-    let bad_question = question_refusal(k, locations, legs, latest, service, depot, route);
+    let bad_question = question_refusal(k, locations, legs, latest, service, depot, end, route);
     let bad_room = refusals::check_room(6, lent);
     refusals::first(bad_question, bad_room)
 }
@@ -121,7 +130,7 @@ pub fn pair_loop_refusal(
     route: &[u32],
     lent: usize,
 ) -> u32
-    ensures { λ r. ⌜ r ≡ refusal (pair-loop-rules (trip locations (now (legs .entry)) (now (latest .entry)) (now (service .entry)) depot) (now (route .entry)) lent) ⌝ }
+    ensures { λ r. ⌜ r ≡ refusal (pair-loop-rules (tables locations (now (legs .entry)) (now (latest .entry)) (now (service .entry))) depot (now (route .entry)) lent) ⌝ }
 {
     let bad_round = refusals::check_problem(locations, legs, latest, service, depot, route);
     let bad_result = refusals::check_room(6, lent);
@@ -133,15 +142,19 @@ fn rounds_refusal(
     stops: &[u32],
     lengths: &[usize],
     depots: &[u32],
+    ends: &[u32],
     pins: &[u8],
     lent: usize,
 ) -> u32
-    ensures { λ r. ⌜ r ≡ refusal (with-room (rounds-rules locations (fleet (now (stops .entry)) (now (lengths .entry)) (now (depots .entry)) (now (pins .entry)))) (4 * length (now (lengths .entry))) lent) ⌝ }
+    ensures { λ r. ⌜ r ≡ refusal (with-room (rounds-to-ends-rules locations (fleet (now (stops .entry)) (now (lengths .entry)) (now (depots .entry)) (now (ends .entry)) (now (pins .entry)))) (4 * length (now (lengths .entry))) lent) ⌝ }
 {
     let bad_stops = refusals::check_known_rounds(locations, depots, stops);
+    let bad_ends = refusals::check_known_ends(locations, ends);
     let bad_rounds = refusals::check_round_lists(lengths, depots, pins, stops.len());
+    let bad_list = refusals::check_end_list(lengths, ends);
     let bad_room = refusals::check_room(4 * lengths.len(), lent);
-    refusals::first(bad_stops, refusals::first(bad_rounds, bad_room))
+    let bad_sizes = refusals::first(bad_rounds, refusals::first(bad_list, bad_room));
+    refusals::first(bad_stops, refusals::first(bad_ends, bad_sizes))
 }
 
 pub fn run_refusal(
@@ -153,14 +166,15 @@ pub fn run_refusal(
     stops: &[u32],
     lengths: &[usize],
     depots: &[u32],
+    ends: &[u32],
     pins: &[u8],
     lent: usize,
 ) -> u32
-    ensures { λ r. ⌜ r ≡ refusal (run-rules k (tables locations (now (legs .entry)) (now (latest .entry)) (now (service .entry))) (fleet (now (stops .entry)) (now (lengths .entry)) (now (depots .entry)) (now (pins .entry))) lent) ⌝ }
+    ensures { λ r. ⌜ r ≡ refusal (run-to-ends-rules k (tables locations (now (legs .entry)) (now (latest .entry)) (now (service .entry))) (fleet (now (stops .entry)) (now (lengths .entry)) (now (depots .entry)) (now (ends .entry)) (now (pins .entry))) lent) ⌝ }
 {
     let bad_k = refusals::check_cut_count(k);
     let bad_tables = refusals::check_tables(locations, legs, latest, service);
-    let bad_rounds = rounds_refusal(locations, stops, lengths, depots, pins, lent);
+    let bad_rounds = rounds_refusal(locations, stops, lengths, depots, ends, pins, lent);
     refusals::first(bad_k, refusals::first(bad_tables, bad_rounds))
 }
 

@@ -5,7 +5,7 @@ use Prim.Native.Nat.{ℕ, zero, suc}
 use native.Mathlib.Omega.{arith}
 use lib.ListN.{length}
 use Rattle.theory.specs.Tables.{Tables, Trip}
-use Rattle.theory.specs.Refusals.{either, refusal, number, leg-table, deadline-list, leg-sizes, service-list, known-stops, stop-count, table-rules, problem-rules}
+use Rattle.theory.specs.Refusals.{either, refusal, number, leg-table, deadline-list, leg-sizes, service-list, known-stops, known-end, stop-count, table-rules, problem-rules, trip-rules}
 use Rattle.theory.proofs.Refusals.{either-assoc, either-zero}
 
 pub either-none : (a b : ℕ) → a ≡ 0 → b ≡ either a b
@@ -25,7 +25,12 @@ pub tables-then : (T : Tables) (rest : ℕ) →
 unfolding refusal
 tables-then T rest = simp (either-assoc, either-zero)
 
-pub problem-parts : (T : Trip) (route : List ℕ) (a b c : ℕ) → a ≡ refusal (table-rules (T .tables)) → b ≡ number (known-stops (T .tables .locations) (T .depot) route) →
-    c ≡ number (stop-count (length route)) → either a (either b c) ≡ refusal (problem-rules T route)
+pub problem-parts : (T : Tables) (depot : ℕ) (route : List ℕ) (a b c : ℕ) → a ≡ refusal (table-rules T) → b ≡ number (known-stops (T .locations) depot route) →
+    c ≡ number (stop-count (length route)) → either a (either b c) ≡ refusal (problem-rules T depot route)
 unfolding refusal
-problem-parts T route a b c p q r = ap₂ either p (ap₂ either q (r ∙ sym (either-zero _))) ∙ tables-then (T .tables) _
+problem-parts T depot route a b c p q r = ap₂ either p (ap₂ either q (r ∙ sym (either-zero _))) ∙ tables-then T _
+
+pub trip-parts : (T : Trip) (route : List ℕ) (a b c d : ℕ) → a ≡ refusal (table-rules (T .tables)) → b ≡ number (known-stops (T .tables .locations) (T .depot) route) →
+    c ≡ number (known-end (T .tables .locations) (T .end)) → d ≡ number (stop-count (length route)) → either a (either b (either c d)) ≡ refusal (trip-rules T route)
+unfolding refusal
+trip-parts T route a b c d p q e r = ap₂ either p (ap₂ either q (ap₂ either e (r ∙ sym (either-zero _)))) ∙ tables-then (T .tables) _

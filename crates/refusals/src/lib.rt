@@ -3,7 +3,7 @@ ghost use mathlib.Core.Path.{_≡_};
 ghost use mathlib.Core.Bool.{not};
 ghost use Prim.Native.Nat.{max, _≤_};
 ghost use lib.Dec.{ltb, leb, eqb};
-ghost use Rattle.theory.specs.Refusals.{any, rises, no-number, either, number, cut-count, leg-table, deadline-list, leg-sizes, service-list, known-stops, stop-count, pattern-index, cut-positions, room, refusal, table-rules, problem-rules, cut-lists, own-round, journal-length, known-rounds, round-lists, nearby-input};
+ghost use Rattle.theory.specs.Refusals.{any, rises, no-number, either, number, cut-count, leg-table, deadline-list, leg-sizes, service-list, known-stops, known-end, stop-count, pattern-index, cut-positions, room, refusal, table-rules, problem-rules, trip-rules, cut-lists, own-round, journal-length, known-rounds, known-ends, round-lists, end-list, nearby-input};
 ghost use Rattle.theory.specs.Moves.{total};
 ghost use Rattle.theory.specs.Tables.{tables, trip};
 ghost use Rattle.patterns.specs.Enumeration.{CutCount};
@@ -201,6 +201,15 @@ pub fn check_known_stops(locations: usize, depot: u32, route: &[u32]) -> u32
     0
 }
 
+pub fn check_known_end(locations: usize, end: u32) -> u32
+    ensures { λ r. ⌜ r ≡ number (known-end locations end) ⌝ }
+{
+    if locations <= end as usize {
+        return 24;
+    }
+    0
+}
+
 pub fn check_stop_count(n: usize) -> u32
     ensures { λ r. ⌜ r ≡ number (stop-count n) ⌝ }
 {
@@ -292,12 +301,31 @@ pub fn check_problem(
     depot: u32,
     route: &[u32],
 ) -> u32
-    ensures { λ r. ⌜ r ≡ refusal (problem-rules (trip locations (now (legs .entry)) (now (latest .entry)) (now (service .entry)) depot) (now (route .entry))) ⌝ }
+    ensures { λ r. ⌜ r ≡ refusal (problem-rules (tables locations (now (legs .entry)) (now (latest .entry)) (now (service .entry))) depot (now (route .entry))) ⌝ }
 {
     let bad_tables = check_tables(locations, legs, latest, service);
     let bad_stops = check_known_stops(locations, depot, route);
     let bad_n = check_stop_count(route.len());
     first(bad_tables, first(bad_stops, bad_n))
+}
+
+// The tables, the depot and a route, and its end harbour.
+pub fn check_trip(
+    locations: usize,
+    legs: &[u32],
+    latest: &[u32],
+    service: &[u32],
+    depot: u32,
+    end: u32,
+    route: &[u32],
+) -> u32
+    ensures { λ r. ⌜ r ≡ refusal (trip-rules (trip locations (now (legs .entry)) (now (latest .entry)) (now (service .entry)) depot end) (now (route .entry))) ⌝ }
+{
+    let bad_tables = check_tables(locations, legs, latest, service);
+    let bad_stops = check_known_stops(locations, depot, route);
+    let bad_end = check_known_end(locations, end);
+    let bad_n = check_stop_count(route.len());
+    first(bad_tables, first(bad_stops, first(bad_end, bad_n)))
 }
 
 // ---- the checks of what only a run over rounds or the nearby cuts take
@@ -310,6 +338,24 @@ pub fn check_known_rounds(locations: usize, depots: &[u32], stops: &[u32]) -> u3
     }
     if any_unknown(stops, locations) {
         return 4;
+    }
+    0
+}
+
+pub fn check_known_ends(locations: usize, ends: &[u32]) -> u32
+    ensures { λ r. ⌜ r ≡ number (known-ends locations (now (ends .entry))) ⌝ }
+{
+    if any_unknown(ends, locations) {
+        return 24;
+    }
+    0
+}
+
+pub fn check_end_list(lengths: &[usize], ends: &[u32]) -> u32
+    ensures { λ r. ⌜ r ≡ number (end-list (now (lengths .entry)) (now (ends .entry))) ⌝ }
+{
+    if ends.len() != lengths.len() {
+        return 5;
     }
     0
 }

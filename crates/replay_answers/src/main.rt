@@ -57,6 +57,32 @@ fn show_polish(
     show_line(b"polish ", refused, &result[..], b" route", &route[..]);
 }
 
+// Seven stops from location 0 to an end harbour.
+fn show_ended(seed: u16, end: u32) {
+    let mut legs = [0u32; 100];
+    let mut latest = [0u32; 10];
+    let mut service = [0u32; 10];
+    let mut route = [0u32; 7];
+    let mut result = [9u64; 7];
+    replay_drawing::fill(seed, 99, &mut legs);
+    replay_drawing::fill(seed, 799, &mut latest);
+    replay_drawing::fill(seed, service_of(seed), &mut service);
+    replay_drawing::fill(seed, 9, &mut route);
+    let refused = mittenschist::mittenschist_polish_route_to_end(
+        replay_drawing::cuts_of(seed),
+        replay_drawing::allowance_of(seed),
+        10,
+        &legs,
+        &latest,
+        &service,
+        0,
+        end,
+        &mut route,
+        &mut result,
+    );
+    show_line(b"ended ", refused, &result, b" route", &route);
+}
+
 // One round of eight stops.
 fn show_pairs(seed: u16, result: &mut [u64]) {
     let mut legs = [0u32; 100];
@@ -106,6 +132,40 @@ fn show_run(seed: u16, last: usize) {
         &mut result,
     );
     show_line(b"run ", refused, &result, b" stops", &stops);
+}
+
+// Two rounds, each to its own end; one end too few where the run is refused.
+fn show_run_to_ends(seed: u16, ends: &[u32]) {
+    let mut legs = [0u32; 100];
+    let mut latest = [0u32; 10];
+    let mut service = [0u32; 10];
+    let mut stops = [0u32; 11];
+    let mut result = [9u64; 9];
+    replay_drawing::fill(seed, 99, &mut legs);
+    replay_drawing::fill(seed, 799, &mut latest);
+    replay_drawing::fill(seed, service_of(seed), &mut service);
+    replay_drawing::fill(seed, 9, &mut stops);
+    let refused = mittenschist::mittenschist_run_list_k_opt_to_ends(
+        replay_drawing::cuts_of(seed),
+        replay_drawing::allowance_of(seed),
+        10,
+        &legs,
+        &latest,
+        &service,
+        &mut stops,
+        &[6, 5],
+        &[0, 1],
+        ends,
+        &[0, 0],
+        &mut result,
+    );
+    show_line(b"ran ", refused, &result, b" stops", &stops);
+}
+
+fn show_to_ends(seed: u16) {
+    let end = (seed % 10) as u32;
+    show_ended(seed, end);
+    show_run_to_ends(seed, &[end, 9 - end]);
 }
 
 // Twelve positions; distances to 7, so that many are equal. From seed 29 on there are too many neighbours.
@@ -161,6 +221,7 @@ fn show(seed: u16) {
     show_five(seed, replay_drawing::cuts_of(seed), 10, 0, stay, 0);
     show_pairs(seed, &mut [9u64; 7]);
     show_run(seed, 7);
+    show_to_ends(seed);
     show_nearby(seed);
 }
 
@@ -175,6 +236,8 @@ fn show_refused() {
     show_short_result();
     show_pairs(1, &mut [9u64; 5]);
     show_run(1, 8);
+    show_ended(1, 10);
+    show_run_to_ends(1, &[0]);
     show_nearby(29);
 }
 

@@ -85,6 +85,29 @@ fn show_case(k: usize, allowance: u64, pin: u8) {
     show(b"run ", refused, &result, &stops);
 }
 
+// The pair case twice, to other ends.
+fn show_ends(k: usize, ends: &[u32]) {
+    let legs = LEGS;
+    let latest = [4294967295u32; 5];
+    let mut stops = [1u32, 2, 3, 4, 1, 2, 3, 4];
+    let mut result = [9u64; 9];
+    let refused = mittenschist::mittenschist_run_list_k_opt_to_ends(
+        k,
+        1000,
+        5,
+        &legs,
+        &latest,
+        &[0u32; 5],
+        &mut stops,
+        &[4, 4],
+        &[0, 0],
+        ends,
+        &[0, 0],
+        &mut result,
+    );
+    show(b"run ", refused, &result, &stops);
+}
+
 // Three rounds of one location: the first takes 70 candidates with k = 3, the second is short, the third pinned.
 fn show_rounds(allowance: u64) {
     let mut stops = [0u32; 10];
@@ -144,9 +167,19 @@ fn show_round_allowances() {
     show_rounds(69);
 }
 
+// Each to its own end, with two cuts and three; ends that are no locations, and another number of them.
+fn show_to_ends() {
+    show_ends(2, &[0, 3]);
+    show_ends(3, &[2, 4]);
+    show_ends(2, &[0, 5]);
+    show_ends(2, &[0, 0, 0]);
+    show_ends(2, &[5]);
+}
+
 fn main() {
     show_way();
     show_bounds();
     show_cases();
     show_round_allowances();
+    show_to_ends();
 }

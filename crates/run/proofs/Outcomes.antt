@@ -20,7 +20,7 @@ use Rattle.run.proofs.Numbers.{none, number-at, taken, taken-is}
 
 -- What stands for no round.
 abbrev unasked : Given
-unasked = record { trip = trip 0 [] [] [] 0; pin = 0; route = [] }
+unasked = record { trip = trip 0 [] [] [] 0 0; pin = 0; route = [] }
 
 module _ (k : ℕ) where
   as-many : (gs : List Given) (left : ℕ) → length (run k left gs) ≡ length gs

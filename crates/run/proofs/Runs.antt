@@ -10,7 +10,7 @@ use Rattle.theory.specs.Scan.{scan-from}
 use Rattle.run.specs.Round.{run-round}
 use Rattle.run.specs.Run.{rounds, run, routes, numbers}
 
--- Rounds with the depot 0; a leg that the rows lack is 0, and no deadline is in force.
+-- Rounds with the depot 0 that end there; a leg that the rows lack is 0, and no deadline is in force.
 pub record Ask : Type 0 where
   pub k : ℕ
   pub allowance : ℕ
@@ -25,7 +25,7 @@ tables-of q = tables 5 (flatten (q .legs)) (replicate 11 4294967295) []
 -- Four numbers a round, and then the stops.
 unfoldable pub answer : Ask → List ℕ
 unfolding rounds run routes numbers flatten
-answer q = let os = run (q .k) (q .allowance) (rounds (tables-of q) (fleet (q .stops) (q .lengths) [] (q .pins))) in numbers os ++ routes os
+answer q = let os = run (q .k) (q .allowance) (rounds (tables-of q) (fleet (q .stops) (q .lengths) [] [] (q .pins))) in numbers os ++ routes os
 
 -- "DA 10, DB 1, DC 5, DE 1, AB 1, AC 1, AE 1, BC 10, BE 10, CE 1; round A B C E."
 abbrev document-legs : List (List ℕ)

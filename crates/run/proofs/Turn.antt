@@ -113,6 +113,7 @@ module _ (k A : ℕ) (T : Tables) (F : Fleet) (result₀ : List ℕ) where
               measurable = record {
                 table = ok .table;
                 depot-known = ok .depots-known i (omega (arith, more, ok .depots-each));
+                end-known = ok .ends-known i (omega (arith, more, ok .ends-each));
                 stops = rw part (record {
                   short = omega (arith, size, ok .short i more);
                   known = λ j h.

@@ -22,7 +22,7 @@ pub record Given : Type 0 where
   pub route : List ℕ
 
 abbrev pub trip-of : Tables → Fleet → ℕ → Trip
-trip-of T F i = record { tables = T; depot = getD (F .depots) i 0 }
+trip-of T F i = record { tables = T; depot = getD (F .depots) i 0; end = getD (F .ends) i 0 }
 
 abbrev pub given : Tables → Fleet → ℕ → Given
 given T F i = record { trip = trip-of T F i; pin = getD (F .pins) i 0; route = round-at (F .lengths) (F .stops) i }
@@ -59,9 +59,11 @@ pub record Runnable (k : ℕ) (T : Tables) (F : Fleet) (result : List ℕ) : Typ
   pub times : Times T
   pub stops-known : (i : ℕ) → i < length (F .stops) → getD (F .stops) i 0 < T .locations
   pub depots-known : (i : ℕ) → i < length (F .depots) → getD (F .depots) i 0 < T .locations
+  pub ends-known : (i : ℕ) → i < length (F .ends) → getD (F .ends) i 0 < T .locations
   pub few : length (F .lengths) ≤ 64
   pub short : (i : ℕ) → i < length (F .lengths) → getD (F .lengths) i 0 ≤ 512
   pub depots-each : length (F .depots) ≡ length (F .lengths)
+  pub ends-each : length (F .ends) ≡ length (F .lengths)
   pub pins-each : length (F .pins) ≡ length (F .lengths)
   pub end-to-end : total (λ n. n) (F .lengths) ≡ length (F .stops)
   pub room : 4 * length (F .lengths) ≤ length result

@@ -26,12 +26,13 @@ fn polish_round(
     latest: &[u32],
     service: &[u32],
     depot: u32,
+    end: u32,
     route: &mut [u32],
 ) -> Replied
-    requires { ⌜ Polishable k (trip locations (now legs) (now latest) (now service) depot) (now route) ⌝ }
-    ensures { λ r. ⌜ Replies (problem (trip locations (now (legs .entry)) (now (latest .entry)) (now (service .entry)) depot)) k left (now (route .entry)) r (now (route .exit)) ⌝ }
+    requires { ⌜ Polishable k (trip locations (now legs) (now latest) (now service) depot end) (now route) ⌝ }
+    ensures { λ r. ⌜ Replies (problem (trip locations (now (legs .entry)) (now (latest .entry)) (now (service .entry)) depot end)) k left (now (route .entry)) r (now (route .exit)) ⌝ }
 {
-    match polishing::polish_route(k, left, locations, legs, latest, service, depot, route) {
+    match polishing::polish_route(k, left, locations, legs, latest, service, depot, end, route) {
         Polished::Finished(counts) => Replied {
             finished: true,
             examined: counts.examined,
@@ -64,15 +65,16 @@ fn polish_or_put_back(
     latest: &[u32],
     service: &[u32],
     depot: u32,
+    end: u32,
     route: &mut [u32],
 ) -> RoundState
-    requires { ⌜ Polishable k (trip locations (now legs) (now latest) (now service) depot) (now route) ⌝ }
-    ensures { λ r. ⌜ Ends (outcome (now (route .entry)) (polish (problem (trip locations (now (legs .entry)) (now (latest .entry)) (now (service .entry)) depot)) k left (now (route .entry)))) r (now (route .exit)) ⌝ }
+    requires { ⌜ Polishable k (trip locations (now legs) (now latest) (now service) depot end) (now route) ⌝ }
+    ensures { λ r. ⌜ Ends (outcome (now (route .entry)) (polish (problem (trip locations (now (legs .entry)) (now (latest .entry)) (now (service .entry)) depot end)) k left (now (route .entry)))) r (now (route .exit)) ⌝ }
 {
     let n = route.len();
     let mut old = [0u32; STOPS];
     reconnection::copy_in(&route[..], &mut old, 0);
-    let reply = polish_round(k, left, locations, legs, latest, service, depot, route);
+    let reply = polish_round(k, left, locations, legs, latest, service, depot, end, route);
     keep_or_put_back(reply.finished, &old[..n], route);
     run_numbers::state_after(reply.finished, reply.examined, reply.accepted)
 }
@@ -86,11 +88,12 @@ pub fn run_round(
     latest: &[u32],
     service: &[u32],
     depot: u32,
+    end: u32,
     pin: u8,
     route: &mut [u32],
 ) -> RoundState
-    requires { ⌜ Polishable k (trip locations (now legs) (now latest) (now service) depot) (now route) ⌝ }
-    ensures { λ r. ⌜ RoundRan (problem (trip locations (now (legs .entry)) (now (latest .entry)) (now (service .entry)) depot)) k left pin (now (route .entry)) r (now (route .exit)) ⌝ }
+    requires { ⌜ Polishable k (trip locations (now legs) (now latest) (now service) depot end) (now route) ⌝ }
+    ensures { λ r. ⌜ RoundRan (problem (trip locations (now (legs .entry)) (now (latest .entry)) (now (service .entry)) depot end)) k left pin (now (route .entry)) r (now (route .exit)) ⌝ }
 {
     if left == 0 {
         return RoundState::NotReached;
@@ -101,5 +104,5 @@ pub fn run_round(
     if route.len() < 4 {
         return RoundState::Short;
     }
-    polish_or_put_back(k, left, locations, legs, latest, service, depot, route)
+    polish_or_put_back(k, left, locations, legs, latest, service, depot, end, route)
 }

@@ -92,6 +92,27 @@ fn show_late(k: usize, allowance: u64, first: u32, second: u32) {
     show_timed(k, allowance, 5, first, second, 0);
 }
 
+// T, or its legs with another route, to an end harbour.
+fn show_to(end: u32, route: &mut [u32]) {
+    let legs = [0u32, 5, 1, 1, 0, 5, 5, 1, 0];
+    let deadlines = [4294967295u32; 3];
+    let services = [0u32; 3];
+    let mut result = [9u64; 7];
+    let refused = mittenschist::mittenschist_polish_route_to_end(
+        3,
+        100,
+        3,
+        &legs,
+        &deadlines,
+        &services,
+        0,
+        end,
+        route,
+        &mut result,
+    );
+    show_polished(refused, &result, &route[..]);
+}
+
 // A route of one location, as long as the slice.
 fn show_long(route: &mut [u32]) {
     let legs = [1u32];
@@ -161,6 +182,15 @@ fn show_late_stops() {
     show_late(3, 4, 4, 4294967295);
 }
 
+// to each end harbour, and with no stop the one leg,
+fn show_ends() {
+    show_to(0, &mut [1, 2]);
+    show_to(1, &mut [1, 2]);
+    show_to(2, &mut [1, 2]);
+    show_to(3, &mut [1, 2]);
+    show_to(1, &mut [0u32; 0]);
+}
+
 // and at other bounds.
 fn show_bounds() {
     show_t(4, 0, 5, 4294967295, 0);
@@ -180,5 +210,6 @@ fn main() {
     show_starred();
     show_service();
     show_late_stops();
+    show_ends();
     show_bounds();
 }

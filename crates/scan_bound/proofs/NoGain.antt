@@ -21,7 +21,7 @@ use Rattle.scan_bound.proofs.Shared.{moving}
 use Rattle.scan_bound.proofs.Cost.{no-shorter}
 
 module _ {locations : ℕ} {legs : List ℕ} {depot : ℕ} {r pre rows : List ℕ} {count : ℕ} {entries exits inside low : List ℕ}
-    (kept : Prepared locations legs depot r pre rows count entries exits inside low) (some : 1 ≤ length pre) (c : ℕ)
+    (end : ℕ) (kept : Prepared locations legs depot r pre rows count entries exits inside low) (some : 1 ≤ length pre) (c : ℕ)
     (cut-set : CutSet (length (pre ++ (c ∷ []))) (length r) (pre ++ (c ∷ []))) where
   long : length (pre ++ (c ∷ [])) ≡ suc (length pre)
   long = simp length-append (omega arith)
@@ -30,10 +30,10 @@ module _ {locations : ℕ} {legs : List ℕ} {depot : ℕ} {r pre rows : List �
   p = last-state pre
 
   abbrev exit-at : ℕ → ℕ
-  exit-at = exit-of (placed-in (opened pre) r) (head-end (legs-only locations legs depot) r (opened pre))
+  exit-at = exit-of (placed-in (opened pre) r) (head-end (legs-only locations legs depot end) r (opened pre))
 
   abbrev y : ℕ
-  y = tail-start (legs-only locations legs depot) r (pre ++ (c ∷ []))
+  y = tail-start (legs-only locations legs depot end) r (pre ++ (c ∷ []))
 
   -- In the shared table the tail follows the tail at no cost.
   blank : shared locations legs depot r pre 8 8 ≡ 0
@@ -47,14 +47,14 @@ module _ {locations : ℕ} {legs : List ℕ} {depot : ℕ} {r pre rows : List �
   unfolding states
   states-are order mask f = rw (middle-is (suc (length pre)) order mask (omega arith) f)
 
-  pub no-gain : (tail : ℕ) → ((a : ℕ) → After (last-state pre) a → tail ≤ leg locations legs (exit-of (placed-in (opened pre) r) (head-end (legs-only locations legs depot) r (opened pre)) a) (tail-start (legs-only locations legs depot) r (pre ++ (c ∷ [])))) →
+  pub no-gain : (tail : ℕ) → ((a : ℕ) → After (last-state pre) a → tail ≤ leg locations legs (exit-of (placed-in (opened pre) r) (head-end (legs-only locations legs depot end) r (opened pre)) a) (tail-start (legs-only locations legs depot end) r (pre ++ (c ∷ [])))) →
       Unpromising (last-state pre) (getD low 20 0) (inner (leg locations legs) (placed-in (pre ++ (c ∷ [])) r (last-state pre))) tail
-      (leg locations legs (getD r (c - 1) 0) (tail-start (legs-only locations legs depot) r (pre ++ (c ∷ [])))) (λ x. getD low x 0)
+      (leg locations legs (getD r (c - 1) 0) (tail-start (legs-only locations legs depot end) r (pre ++ (c ∷ [])))) (λ x. getD low x 0)
       (λ b. leg locations legs (getD r (c - 1) 0) (first-of (placed-in (opened pre) r b) 0) + inner (leg locations legs) (placed-in (opened pre) r b))
-      (λ a. leg locations legs (exit-of (placed-in (opened pre) r) (head-end (legs-only locations legs depot) r (opened pre)) a) (getD r (c - 1) 0) + inner (leg locations legs) (placed-in (pre ++ (c ∷ [])) r (suc (last-state pre)))) →
-      NoGain locations legs depot r pre rows count c
+      (λ a. leg locations legs (exit-of (placed-in (opened pre) r) (head-end (legs-only locations legs depot end) r (opened pre)) a) (getD r (c - 1) 0) + inner (leg locations legs) (placed-in (pre ++ (c ∷ [])) r (suc (last-state pre)))) →
+      NoGain locations legs depot end r pre rows count c
   no-gain tail least n order mask i h f e =
-      let m = moving (legs-only locations legs depot) r pre some c cut-set tail least in
+      let m = moving (legs-only locations legs depot end) r pre some c cut-set tail least in
       let same : suc (length pre) - 1 - 1 ≡ length pre - 1 = omega arith in
       let bs : List ℕ = map (state-of mask) (f .middle) in
       let once : Once (last-state pre) bs = rw same at (once-row (suc (length pre)) mask (f .middle) (omega arith) (f .once)) in
@@ -65,4 +65,4 @@ module _ {locations : ℕ} {legs : List ℕ} {depot : ℕ} {r pre rows : List �
       let low-is : getD low (class p 9 bs) 0 ≤ chain-by (shared locations legs depot r pre) 9 bs = rw (class-is, chain-is) at (kept .least i h) in
       let costs = row-costs m n bs once low-is in
       let stands = standing-costs m (suc (length pre)) (omega arith) (omega arith) in
-      no-shorter (legs-only locations legs depot) (pre ++ (c ∷ [])) r cut-set (suc (length pre)) long order mask f (omega (arith, costs, stands, standing-is))
+      no-shorter (legs-only locations legs depot end) (pre ++ (c ∷ [])) r cut-set (suc (length pre)) long order mask f (omega (arith, costs, stands, standing-is))

@@ -28,7 +28,7 @@ use Rattle.scan_bound.proofs.NoGain.{no-gain}
 use Rattle.costs.proofs.Segments.{cuts-parted, first-many}
 use Rattle.scan_shared.proofs.Preparing.{first-at, no-cells}
 
-module _ {locations : ℕ} {legs : List ℕ} {depot : ℕ} {r forwards backwards cuts : List ℕ} (cut : Cut locations legs depot r forwards backwards cuts) where
+module _ {locations : ℕ} {legs : List ℕ} {depot end : ℕ} {r forwards backwards cuts : List ℕ} (cut : Cut locations legs depot end r forwards backwards cuts) where
   abbrev pub pre : List ℕ
   pre = first-cuts cuts
 
@@ -60,36 +60,36 @@ module _ {locations : ℕ} {legs : List ℕ} {depot : ℕ} {r forwards backwards
   other c h l = other-cut (length r) (first-cuts cuts) (last-cut cuts) c some own (omega (arith, start-is, two-last .0)) l
 
   opened-set : CutSet (length (opened (first-cuts cuts))) (length r) (opened (first-cuts cuts))
-  opened-set = first-set (legs-only locations legs depot) r (first-cuts cuts) some (last-cut cuts) own
+  opened-set = first-set (legs-only locations legs depot end) r (first-cuts cuts) some (last-cut cuts) own
 
   opened-many : length (opened (first-cuts cuts)) ≡ length cuts
   opened-many = simp length-append (omega (arith, many, few .0))
 
-  joined : Joinable locations legs depot r forwards backwards (opened (first-cuts cuts)) (replicate 160 0)
+  joined : Joinable locations legs depot end r forwards backwards (opened (first-cuts cuts)) (replicate 160 0)
   joined = record { measurable = cut .measurable; forwards = cut .forwards; backwards = cut .backwards; cut-set = opened-set; padded = no-cells }
 
   costs-of : RouteCosts locations legs r forwards backwards
   costs-of = record { table = cut .measurable .table; stops = cut .measurable .stops; forwards = cut .forwards; backwards = cut .backwards }
 
-  pub head-known : head-end (legs-only locations legs depot) r cuts < locations
+  pub head-known : head-end (legs-only locations legs depot end) r cuts < locations
   head-known = head-below (record { measurable = cut .measurable; forwards = cut .forwards; backwards = cut .backwards; cut-set = cut .cut-set; padded = no-cells })
 
-  head-same : head-end (legs-only locations legs depot) r cuts ≡ head-end (legs-only locations legs depot) r (opened (first-cuts cuts))
+  head-same : head-end (legs-only locations legs depot end) r cuts ≡ head-end (legs-only locations legs depot end) r (opened (first-cuts cuts))
   head-same =
-      ap (head-end (legs-only locations legs depot) r) (cuts-parted cuts (omega (arith, few .0)))
-      ∙ same-head (legs-only locations legs depot) r (first-cuts cuts) (last-cut cuts) (suc (getD (first-cuts cuts) (length (first-cuts cuts) - 1) 0)) some
+      ap (head-end (legs-only locations legs depot end) r) (cuts-parted cuts (omega (arith, few .0)))
+      ∙ same-head (legs-only locations legs depot end) r (first-cuts cuts) (last-cut cuts) (suc (getD (first-cuts cuts) (length (first-cuts cuts) - 1) 0)) some
 
-  -- A stop, or the depot.
-  pub stop-known : (c y : ℕ) → y ≡ stop-at depot r c → y < locations
+  -- A stop, or the end harbour.
+  pub stop-known : (c y : ℕ) → y ≡ stop-at end r c → y < locations
   stop-known c y e = rw e (by (decLt c (length r)))
     where
-      by : Dec (c < length r) → stop-at depot r c < locations
+      by : Dec (c < length r) → stop-at end r c < locations
       by (yes h) = rw (lt-ltb c (length r) h) (cut .measurable .stops .known c h)
-      by (no h) = rw (le-ltb c (length r) (omega arith)) (cut .measurable .depot-known)
+      by (no h) = rw (le-ltb c (length r) (omega arith)) (cut .measurable .end-known)
 
   module _ (c : ℕ) (h : last-cut cuts ≤ c) (l : c ≤ length r) where
-    tail-is : stop-at depot r c ≡ tail-start (legs-only locations legs depot) r (first-cuts cuts ++ (c ∷ []))
-    tail-is = ap (stop-at depot r) (sym at) ∙ Segments.tail-is (first-cuts cuts ++ (c ∷ [])) r (other c h l) depot
+    tail-is : stop-at end r c ≡ tail-start (legs-only locations legs depot end) r (first-cuts cuts ++ (c ∷ []))
+    tail-is = ap (stop-at end r) (sym at) ∙ Segments.tail-is (first-cuts cuts ++ (c ∷ [])) r (other c h l) end
       where
         size : length (first-cuts cuts ++ (c ∷ [])) - 1 ≡ length (first-cuts cuts)
         size = simp length-append (omega arith)
@@ -128,9 +128,9 @@ module _ {locations : ℕ} {legs : List ℕ} {depot : ℕ} {r forwards backwards
 
 -- ---- what the minima ask
 
-module _ {locations : ℕ} {legs : List ℕ} {depot : ℕ} {r forwards backwards cuts : List ℕ} {head : ℕ} {entries exits inside low zeros : List ℕ} {c : ℕ}
-    (given : PromisingTestable locations legs depot r forwards backwards cuts head entries exits inside low zeros c) where
-  abbrev cut : Cut locations legs depot r forwards backwards cuts
+module _ {locations : ℕ} {legs : List ℕ} {depot end : ℕ} {r forwards backwards cuts : List ℕ} {head : ℕ} {entries exits inside low zeros : List ℕ} {c : ℕ}
+    (given : PromisingTestable locations legs depot end r forwards backwards cuts head entries exits inside low zeros c) where
+  abbrev cut : Cut locations legs depot end r forwards backwards cuts
   cut = given .cut
 
   early : (s : ℕ) → s < 2 * (length cuts - 2) → s < last-state (first-cuts cuts)
@@ -170,21 +170,21 @@ module _ {locations : ℕ} {legs : List ℕ} {depot : ℕ} {r forwards backwards
 
   -- ---- the tests fail
 
-  module _ (x y here back tail straight after-head turned : ℕ) (x-is : x ≡ getD r (c - 1) 0) (y-is : y ≡ stop-at depot r c)
+  module _ (x y here back tail straight after-head turned : ℕ) (x-is : x ≡ getD r (c - 1) 0) (y-is : y ≡ stop-at end r c)
       (here-is : here ≡ getD low 20 0 + leg locations legs x y) (back-is : back ≡ leg locations legs (getD r (getD cuts (length cuts - 2) 0) 0) y)
       (tail-least : LeastOut locations legs exits y zeros back (2 * (length cuts - 2)) tail) (straight-least : LeastInto locations legs x entries inside low (2 * (length cuts - 2)) straight)
       (after-is : after-head ≡ getD low 19 0 + leg locations legs head x) (turned-least : LeastOut locations legs exits x low after-head (2 * (length cuts - 2)) turned)
       (no-last : getD low 20 0 ≤ getD low 8 0) (no-straight : here ≤ straight + tail)
       (on off : ℕ) (on-is : on ≡ span forwards (getD cuts (length cuts - 2) 0) c) (off-is : off ≡ span backwards (getD cuts (length cuts - 2) 0) c)
       (no-turned : ltb (turned + tail + off) (here + on) ≡ false) where
-    y-tail : y ≡ tail-start (legs-only locations legs depot) r (first-cuts cuts ++ (c ∷ []))
+    y-tail : y ≡ tail-start (legs-only locations legs depot end) r (first-cuts cuts ++ (c ∷ []))
     y-tail = y-is ∙ tail-is (given .cut) c (given .least) (given .most)
 
-    exit-at : (a : ℕ) → a < last-state (first-cuts cuts) → getD exits a 0 ≡ exit-of (placed-in (opened (first-cuts cuts)) r) (head-end (legs-only locations legs depot) r (opened (first-cuts cuts))) a
+    exit-at : (a : ℕ) → a < last-state (first-cuts cuts) → getD exits a 0 ≡ exit-of (placed-in (opened (first-cuts cuts)) r) (head-end (legs-only locations legs depot end) r (opened (first-cuts cuts))) a
     exit-at a h = rw (ne-eqb a 9 (λ (q : a ≡ 9). omega (arith, state-is (given .cut), small))) (given .prepared .exit a h)
 
     tail-below : (a : ℕ) → After (last-state (first-cuts cuts)) a →
-        tail ≤ leg locations legs (exit-of (placed-in (opened (first-cuts cuts)) r) (head-end (legs-only locations legs depot) r (opened (first-cuts cuts))) a) (tail-start (legs-only locations legs depot) r (first-cuts cuts ++ (c ∷ [])))
+        tail ≤ leg locations legs (exit-of (placed-in (opened (first-cuts cuts)) r) (head-end (legs-only locations legs depot end) r (opened (first-cuts cuts))) a) (tail-start (legs-only locations legs depot end) r (first-cuts cuts ++ (c ∷ [])))
     tail-below a (inl h) = rw (← (exit-at a h), ← y-tail) (omega (arith, tail-least .below a (omega (arith, state-is (given .cut))), given .zero-is (10 + a)))
     tail-below a (inr e) =
         let n : suc (last-state (first-cuts cuts)) ≡ 9 → ⊥ = λ (q : suc (last-state (first-cuts cuts)) ≡ 9). omega (arith, state-is (given .cut), small) in
@@ -192,9 +192,9 @@ module _ {locations : ℕ} {legs : List ℕ} {depot : ℕ} {r forwards backwards
         rw (e, ne-eqb (suc (last-state (first-cuts cuts))) 9 n, out, start-is (given .cut), ← y-tail, ← back-is) (tail-least .start-above)
 
     room-none : Unpromising (last-state (first-cuts cuts)) (getD low 20 0) (inner (leg locations legs) (placed-in (first-cuts cuts ++ (c ∷ [])) r (last-state (first-cuts cuts)))) tail
-        (leg locations legs (getD r (c - 1) 0) (tail-start (legs-only locations legs depot) r (first-cuts cuts ++ (c ∷ [])))) (λ z. getD low z 0)
+        (leg locations legs (getD r (c - 1) 0) (tail-start (legs-only locations legs depot end) r (first-cuts cuts ++ (c ∷ [])))) (λ z. getD low z 0)
         (λ b. leg locations legs (getD r (c - 1) 0) (first-of (placed-in (opened (first-cuts cuts)) r b) 0) + inner (leg locations legs) (placed-in (opened (first-cuts cuts)) r b))
-        (λ a. leg locations legs (exit-of (placed-in (opened (first-cuts cuts)) r) (head-end (legs-only locations legs depot) r (opened (first-cuts cuts))) a) (getD r (c - 1) 0) + inner (leg locations legs) (placed-in (first-cuts cuts ++ (c ∷ [])) r (suc (last-state (first-cuts cuts)))))
+        (λ a. leg locations legs (exit-of (placed-in (opened (first-cuts cuts)) r) (head-end (legs-only locations legs depot end) r (opened (first-cuts cuts))) a) (getD r (c - 1) 0) + inner (leg locations legs) (placed-in (first-cuts cuts ++ (c ∷ [])) r (suc (last-state (first-cuts cuts)))))
     room-none =
         record {
           straight = λ w h.
@@ -204,8 +204,8 @@ module _ {locations : ℕ} {legs : List ℕ} {depot : ℕ} {r forwards backwards
         }
       where
         by : (u : ℕ) → Before (last-state (first-cuts cuts)) u →
-            getD low 20 0 + inner (leg locations legs) (placed-in (first-cuts cuts ++ (c ∷ [])) r (last-state (first-cuts cuts))) + leg locations legs (getD r (c - 1) 0) (tail-start (legs-only locations legs depot) r (first-cuts cuts ++ (c ∷ [])))
-            ≤ getD low (10 + u) 0 + (leg locations legs (exit-of (placed-in (opened (first-cuts cuts)) r) (head-end (legs-only locations legs depot) r (opened (first-cuts cuts))) u) (getD r (c - 1) 0) + inner (leg locations legs) (placed-in (first-cuts cuts ++ (c ∷ [])) r (suc (last-state (first-cuts cuts))))) + tail
+            getD low 20 0 + inner (leg locations legs) (placed-in (first-cuts cuts ++ (c ∷ [])) r (last-state (first-cuts cuts))) + leg locations legs (getD r (c - 1) 0) (tail-start (legs-only locations legs depot end) r (first-cuts cuts ++ (c ∷ [])))
+            ≤ getD low (10 + u) 0 + (leg locations legs (exit-of (placed-in (opened (first-cuts cuts)) r) (head-end (legs-only locations legs depot end) r (opened (first-cuts cuts))) u) (getD r (c - 1) 0) + inner (leg locations legs) (placed-in (first-cuts cuts ++ (c ∷ [])) r (suc (last-state (first-cuts cuts))))) + tail
         by u (inl h) =
             rw (← y-tail, ← x-is, ← (exit-at u h))
             (omega (arith, here-is, on-is, off-is, ltb-false (turned + tail + off) (here + on) no-turned, turned-least .below u (omega (arith, state-is (given .cut))), forward-P (given .cut) c (given .least) (given .most), backward-P (given .cut) c (given .least) (given .most)))
@@ -213,18 +213,18 @@ module _ {locations : ℕ} {legs : List ℕ} {depot : ℕ} {r forwards backwards
             rw (e, ← y-tail, ← x-is, ← (head-same (given .cut)), ← (given .head-is))
             (omega (arith, here-is, on-is, off-is, ltb-false (turned + tail + off) (here + on) no-turned, turned-least .start-above, after-is, forward-P (given .cut) c (given .least) (given .most), backward-P (given .cut) c (given .least) (given .most)))
 
-    pub gains-none : (rows : List ℕ) (count : ℕ) → Prepared locations legs depot r (first-cuts cuts) rows count entries exits inside low → NoGain locations legs depot r (first-cuts cuts) rows count c
-    gains-none rows count kept = no-gain kept (some (given .cut)) c (other (given .cut) c (given .least) (given .most)) tail tail-below room-none
+    pub gains-none : (rows : List ℕ) (count : ℕ) → Prepared locations legs depot r (first-cuts cuts) rows count entries exits inside low → NoGain locations legs depot end r (first-cuts cuts) rows count c
+    gains-none rows count kept = no-gain end kept (some (given .cut)) c (other (given .cut) c (given .least) (given .most)) tail tail-below room-none
 
 -- ---- from last cut to last cut
 
-module _ {locations : ℕ} {legs : List ℕ} {depot : ℕ} {r forwards backwards cuts entries exits inside low zeros : List ℕ}
-    (given : Nextable locations legs depot r forwards backwards cuts entries exits inside low zeros) where
-  pub none-passed : NextPromising locations legs depot r cuts entries exits inside low (last-cut cuts)
+module _ {locations : ℕ} {legs : List ℕ} {depot end : ℕ} {r forwards backwards cuts entries exits inside low zeros : List ℕ}
+    (given : Nextable locations legs depot end r forwards backwards cuts entries exits inside low zeros) where
+  pub none-passed : NextPromising locations legs depot end r cuts entries exits inside low (last-cut cuts)
   none-passed = record { least = omega arith; most = omega (arith, two-last (given .cut) .1); idle = λ c h k. absurd (omega arith) }
 
-  pub one-passed : {c : ℕ} {b : Bool} → c ≤ length r → NextPromising locations legs depot r cuts entries exits inside low c → PromisingTested locations legs depot r cuts entries exits inside low c b → b ≡ false →
-      NextPromising locations legs depot r cuts entries exits inside low (c + 1)
+  pub one-passed : {c : ℕ} {b : Bool} → c ≤ length r → NextPromising locations legs depot end r cuts entries exits inside low c → PromisingTested locations legs depot end r cuts entries exits inside low c b → b ≡ false →
+      NextPromising locations legs depot end r cuts entries exits inside low (c + 1)
   one-passed {c} {b} l w t e =
       record {
         least = omega (arith, w .least);
@@ -233,12 +233,12 @@ module _ {locations : ℕ} {legs : List ℕ} {depot : ℕ} {r forwards backwards
       }
     where
       by : (x : ℕ) → last-cut cuts ≤ x → x < c + 1 → (rows : List ℕ) (count : ℕ) → Prepared locations legs depot r (first-cuts cuts) rows count entries exits inside low → Dec (x < c) →
-          NoGain locations legs depot r (first-cuts cuts) rows count x
+          NoGain locations legs depot end r (first-cuts cuts) rows count x
       by x h k rows count kept (yes m) = w .idle x h m rows count kept
       by x h k rows count kept (no m) = let q : x ≡ c = omega arith in rw q (t e rows count kept)
 
-pub testable : {locations : ℕ} {legs : List ℕ} {depot : ℕ} {r forwards backwards cuts entries exits inside low zeros : List ℕ} {head c : ℕ} →
-    Nextable locations legs depot r forwards backwards cuts entries exits inside low zeros → head ≡ head-end (legs-only locations legs depot) r cuts → last-cut cuts ≤ c → c ≤ length r →
-    PromisingTestable locations legs depot r forwards backwards cuts head entries exits inside low zeros c
+pub testable : {locations : ℕ} {legs : List ℕ} {depot end : ℕ} {r forwards backwards cuts entries exits inside low zeros : List ℕ} {head c : ℕ} →
+    Nextable locations legs depot end r forwards backwards cuts entries exits inside low zeros → head ≡ head-end (legs-only locations legs depot end) r cuts → last-cut cuts ≤ c → c ≤ length r →
+    PromisingTestable locations legs depot end r forwards backwards cuts head entries exits inside low zeros c
 testable g e h l =
     record { cut = g .cut; head-is = e; places = g .places; prepared = g .prepared; zero-places = g .zero-places; zero-is = g .zero-is; least = h; most = l }

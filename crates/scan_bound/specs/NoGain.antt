@@ -10,9 +10,9 @@ use Rattle.theory.specs.Tables.{legs-only, ForK}
 use Rattle.scan_joints.specs.States.{states, row}
 
 -- No pattern whose row is among the first `count` shortens the route with the cuts `pre` and the last cut c.
-abbrev pub NoGain : ℕ → List ℕ → ℕ → List ℕ → List ℕ → List ℕ → ℕ → ℕ → Type 0
-NoGain locations legs depot route pre rows count c =
+abbrev pub NoGain : ℕ → List ℕ → (depot end : ℕ) → List ℕ → List ℕ → List ℕ → ℕ → ℕ → Type 0
+NoGain locations legs depot end route pre rows count c =
     (order : List ℕ) (mask i : ℕ) → i < count → ForK (suc (length pre)) order mask → row rows i ≡ states (suc (length pre)) order mask →
-    ltb (tour-length (legs-only locations legs depot) (reconnected (record { cuts = pre ++ (c ∷ []); pattern = record { order = order; mask = mask } }) route))
-    (tour-length (legs-only locations legs depot) route)
+    ltb (tour-length (legs-only locations legs depot end) (reconnected (record { cuts = pre ++ (c ∷ []); pattern = record { order = order; mask = mask } }) route))
+    (tour-length (legs-only locations legs depot end) route)
     ≡ false

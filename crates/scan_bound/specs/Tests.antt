@@ -42,9 +42,9 @@ pub record LeastOut (locations : ℕ) (legs exits : List ℕ) (to : ℕ) (add : 
   pub below : (u : ℕ) → u < p → r ≤ getD add (10 + u) 0 + leg locations legs (getD exits u 0) to
 
 -- What the test of last cut c reads. `zero` holds nothing.
-pub record PromisingTestable (locations : ℕ) (legs : List ℕ) (depot : ℕ) (route forward-sums backward-sums cuts : List ℕ) (head : ℕ) (entries exits inside low zero : List ℕ) (c : ℕ) : Type 0 where
-  pub cut : Cut locations legs depot route forward-sums backward-sums cuts
-  pub head-is : head ≡ head-end (legs-only locations legs depot) route cuts
+pub record PromisingTestable (locations : ℕ) (legs : List ℕ) (depot end : ℕ) (route forward-sums backward-sums cuts : List ℕ) (head : ℕ) (entries exits inside low zero : List ℕ) (c : ℕ) : Type 0 where
+  pub cut : Cut locations legs depot end route forward-sums backward-sums cuts
+  pub head-is : head ≡ head-end (legs-only locations legs depot end) route cuts
   pub places : Places entries exits inside low
   pub prepared : Prepared locations legs depot route (first-cuts cuts) [] 0 entries exits inside low
   pub zero-places : length zero ≡ 21
@@ -53,21 +53,21 @@ pub record PromisingTestable (locations : ℕ) (legs : List ℕ) (depot : ℕ) (
   pub most : c ≤ length route
 
 -- Where it is not promising no pattern gains, whichever rows the least costs are of.
-abbrev pub PromisingTested : ℕ → List ℕ → ℕ → List ℕ → List ℕ → List ℕ → List ℕ → List ℕ → List ℕ → ℕ → Bool → Type 0
-PromisingTested locations legs depot route cuts entries exits inside low c r =
-    r ≡ false → (rows : List ℕ) (count : ℕ) → Prepared locations legs depot route (first-cuts cuts) rows count entries exits inside low → NoGain locations legs depot route (first-cuts cuts) rows count c
+abbrev pub PromisingTested : ℕ → List ℕ → (depot end : ℕ) → List ℕ → List ℕ → List ℕ → List ℕ → List ℕ → List ℕ → ℕ → Bool → Type 0
+PromisingTested locations legs depot end route cuts entries exits inside low c r =
+    r ≡ false → (rows : List ℕ) (count : ℕ) → Prepared locations legs depot route (first-cuts cuts) rows count entries exits inside low → NoGain locations legs depot end route (first-cuts cuts) rows count c
 
 -- What is read to pass over last cuts.
-pub record Nextable (locations : ℕ) (legs : List ℕ) (depot : ℕ) (route forward-sums backward-sums cuts entries exits inside low zero : List ℕ) : Type 0 where
-  pub cut : Cut locations legs depot route forward-sums backward-sums cuts
+pub record Nextable (locations : ℕ) (legs : List ℕ) (depot end : ℕ) (route forward-sums backward-sums cuts entries exits inside low zero : List ℕ) : Type 0 where
+  pub cut : Cut locations legs depot end route forward-sums backward-sums cuts
   pub places : Places entries exits inside low
   pub prepared : Prepared locations legs depot route (first-cuts cuts) [] 0 entries exits inside low
   pub zero-places : length zero ≡ 21
   pub zero-is : (x : ℕ) → getD zero x 0 ≡ 0
 
 -- From the last cut on, the first that is promising: none before it gains, whichever rows the least costs are of.
-pub record NextPromising (locations : ℕ) (legs : List ℕ) (depot : ℕ) (route cuts entries exits inside low : List ℕ) (r : ℕ) : Type 0 where
+pub record NextPromising (locations : ℕ) (legs : List ℕ) (depot end : ℕ) (route cuts entries exits inside low : List ℕ) (r : ℕ) : Type 0 where
   pub least : last-cut cuts ≤ r
   pub most : r ≤ length route + 1
   pub idle : (c : ℕ) → last-cut cuts ≤ c → c < r → (rows : List ℕ) (count : ℕ) → Prepared locations legs depot route (first-cuts cuts) rows count entries exits inside low →
-      NoGain locations legs depot route (first-cuts cuts) rows count c
+      NoGain locations legs depot end route (first-cuts cuts) rows count c

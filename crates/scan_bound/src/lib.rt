@@ -59,6 +59,7 @@ fn is_promising(
     locations: usize,
     legs: &[u32],
     depot: u32,
+    end: u32,
     route: &[u32],
     forward: &[u64; STOPS],
     backward: &[u64; STOPS],
@@ -71,8 +72,8 @@ fn is_promising(
     zero: &[u64; LOW_PLACES],
     c: usize,
 ) -> bool
-    requires { ⌜ PromisingTestable locations (now legs) depot (now route) (now forward) (now backward) (now cuts) head (now entries) (now exits) (now inside) (now low) (now zero) c ⌝ }
-    ensures { λ r. ⌜ PromisingTested locations (now (legs .entry)) depot (now (route .entry)) (now (cuts .entry)) (now (entries .entry)) (now (exits .entry)) (now (inside .entry)) (now (low .entry)) c r ⌝ }
+    requires { ⌜ PromisingTestable locations (now legs) depot end (now route) (now forward) (now backward) (now cuts) head (now entries) (now exits) (now inside) (now low) (now zero) c ⌝ }
+    ensures { λ r. ⌜ PromisingTested locations (now (legs .entry)) depot end (now (route .entry)) (now (cuts .entry)) (now (entries .entry)) (now (exits .entry)) (now (inside .entry)) (now (low .entry)) c r ⌝ }
 {
     if low[TAIL] < low[STANDING] {
         return true;
@@ -80,7 +81,7 @@ fn is_promising(
     let p = 2 * (cuts.len() - 2);
     let start = cuts[cuts.len() - 2];
     let x = route[c - 1];
-    let y = costs::tail_at(depot, route, c);
+    let y = costs::tail_at(end, route, c);
     let here = low[STANDING] + costs::route_distance(locations, legs, x, y);
     let back = costs::route_distance(locations, legs, route[start], y);
     let tail = least_out(locations, legs, exits, y, zero, back, p);
@@ -99,6 +100,7 @@ pub fn next_promising(
     locations: usize,
     legs: &[u32],
     depot: u32,
+    end: u32,
     route: &[u32],
     forward: &[u64; STOPS],
     backward: &[u64; STOPS],
@@ -109,8 +111,8 @@ pub fn next_promising(
     low: &[u64; LOW_PLACES],
     zero: &[u64; LOW_PLACES],
 ) -> usize
-    requires { ⌜ Nextable locations (now legs) depot (now route) (now forward) (now backward) (now cuts) (now entries) (now exits) (now inside) (now low) (now zero) ⌝ }
-    ensures { λ r. ⌜ NextPromising locations (now (legs .entry)) depot (now (route .entry)) (now (cuts .entry)) (now (entries .entry)) (now (exits .entry)) (now (inside .entry)) (now (low .entry)) r ⌝ }
+    requires { ⌜ Nextable locations (now legs) depot end (now route) (now forward) (now backward) (now cuts) (now entries) (now exits) (now inside) (now low) (now zero) ⌝ }
+    ensures { λ r. ⌜ NextPromising locations (now (legs .entry)) depot end (now (route .entry)) (now (cuts .entry)) (now (entries .entry)) (now (exits .entry)) (now (inside .entry)) (now (low .entry)) r ⌝ }
 {
     let head = costs::head_end(depot, route, cuts);
     let mut c = cuts[cuts.len() - 1];
@@ -119,6 +121,7 @@ pub fn next_promising(
             locations,
             legs,
             depot,
+            end,
             route,
             forward,
             backward,

@@ -15,6 +15,7 @@ use Rattle.theory.specs.Costs.{last-of}
 use Rattle.theory.specs.Scan.{improves}
 use Rattle.theory.specs.Polish.{search-of, move-at}
 use Rattle.theory.specs.Tables.{problem, clock-by, Trip}
+use Rattle.theory.proofs.Judged.{followed}
 use Rattle.costs.proofs.Segments.{last-cut}
 use Rattle.deadlines.specs.Lateness.{lateness}
 use Rattle.scan_joints.specs.States.{row, standing-row, Patterned}
@@ -158,7 +159,7 @@ module _ {T : Trip} {r forwards backwards stayed cs : List ℕ} (given : Searcha
   unfolding total
   head-timed =
       record {
-        measurable = given .timed .measurable;
+        followable = followed (given .timed .measurable);
         forwards = given .forwards;
         places = given .stays .places;
         none = given .stays .each 0 (omega arith);
@@ -171,7 +172,7 @@ module _ {T : Trip} {r forwards backwards stayed cs : List ℕ} (given : Searcha
 
 -- Once the joint table is filled.
 pub tabled : {T : Trip} {r forwards backwards stayed cs rows J : List ℕ} {ps : List Pattern} {limit : ℕ} →
-    Searchable T r forwards backwards stayed cs → Patterned (length cs) ps rows → limit ≤ length ps → JointOf (T .tables .locations) (T .tables .legs) (T .depot) r cs J → Tabled T r cs ps rows J limit
+    Searchable T r forwards backwards stayed cs → Patterned (length cs) ps rows → limit ≤ length ps → JointOf (T .tables .locations) (T .tables .legs) (T .depot) (T .end) r cs J → Tabled T r cs ps rows J limit
 tabled s w l j = record { timed = s .timed; cut-set = s .cut-set; patterned = w; allowed = l; joined = j }
 
 -- What is read of the lateness is that of the tail.

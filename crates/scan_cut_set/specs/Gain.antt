@@ -84,7 +84,7 @@ pub record Tabled (T : Trip) (route cuts : List ℕ) (ps : List Pattern) (rows t
   pub cut-set : CutSet (length cuts) (length route) cuts
   pub patterned : Patterned (length cuts) ps rows
   pub allowed : limit ≤ length ps
-  pub joined : JointOf (T .tables .locations) (T .tables .legs) (T .depot) route cuts table
+  pub joined : JointOf (T .tables .locations) (T .tables .legs) (T .depot) (T .end) route cuts table
 
 -- What a pattern must cost less than: what stands, and so much less that the tail, late by at most `late`, is on time.
 abbrev pub below : ℕ → ℕ → ℕ

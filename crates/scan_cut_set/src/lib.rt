@@ -89,6 +89,7 @@ pub fn first_gain(
     latest: &[u32],
     service: &[u32],
     depot: u32,
+    end: u32,
     route: &[u32],
     forward: &[u64; STOPS],
     backward: &[u64; STOPS],
@@ -100,13 +101,14 @@ pub fn first_gain(
     dues: &mut [u64; DUE_PLACES],
     limit: usize,
 ) -> usize
-    requires { ⌜ Findable (trip locations (now legs) (now latest) (now service) depot) (now route) (now forward) (now backward) (now stayed) (now cuts) (now rows) (now lateness) (now joint) (now dues) limit ⌝ }
-    ensures { λ r. ⌜ Found (trip locations (now (legs .entry)) (now (latest .entry)) (now (service .entry)) depot) (now (route .entry)) (now (cuts .entry)) (now (rows .entry)) limit r (now (joint .exit)) (now (dues .exit)) ⌝ }
+    requires { ⌜ Findable (trip locations (now legs) (now latest) (now service) depot end) (now route) (now forward) (now backward) (now stayed) (now cuts) (now rows) (now lateness) (now joint) (now dues) limit ⌝ }
+    ensures { λ r. ⌜ Found (trip locations (now (legs .entry)) (now (latest .entry)) (now (service .entry)) depot end) (now (route .entry)) (now (cuts .entry)) (now (rows .entry)) limit r (now (joint .exit)) (now (dues .exit)) ⌝ }
 {
     scan_joints::fill_joint(
         locations,
         legs,
         depot,
+        end,
         route,
         forward,
         backward,

@@ -104,17 +104,17 @@ module _ (cs r : List ℕ) (cut-set : CutSet (length cs) (length r) cs) where
 pub shorter-through : (P : Problem) (cs r : List ℕ) (k m : ℕ) (p : Pattern) (s : Shape m p) → length cs ≡ suc m → Rising 0 cs (length r) → k ≡ suc m →
     ltb (tour-length P (reconnected (record { cuts = cs; pattern = p }) r)) (tour-length P r)
     ≡ ltb
-    (through (P .leg) (last-of (P .depot) (getD (segments 0 cs r) 0 [])) (placed (p .mask) (segments 0 cs r) (s .middle)) (first-of (getD (segments 0 cs r) k []) (P .depot)))
-    (through (P .leg) (last-of (P .depot) (getD (segments 0 cs r) 0 [])) (placed 0 (segments 0 cs r) (upfrom 1 (k - 1))) (first-of (getD (segments 0 cs r) k []) (P .depot)))
+    (through (P .leg) (last-of (P .depot) (getD (segments 0 cs r) 0 [])) (placed (p .mask) (segments 0 cs r) (s .middle)) (first-of (getD (segments 0 cs r) k []) (P .end)))
+    (through (P .leg) (last-of (P .depot) (getD (segments 0 cs r) 0 [])) (placed 0 (segments 0 cs r) (upfrom 1 (k - 1))) (first-of (getD (segments 0 cs r) k []) (P .end)))
 shorter-through P cs r k m p s many rising e =
     let less : suc m - 1 ≡ m = omega arith in
     rw (e, less) (shorter-iff P cs r m many rising p s)
 
 delta-shape : (P : Problem) (cs r : List ℕ) (k m : ℕ) (p : Pattern) (s : Shape m p) → length cs ≡ suc m → Rising 0 cs (length r) → k ≡ suc m →
     tour-length P (reconnected (record { cuts = cs; pattern = p }) r)
-    + through (P .leg) (last-of (P .depot) (getD (segments 0 cs r) 0 [])) (placed 0 (segments 0 cs r) (upfrom 1 (k - 1))) (first-of (getD (segments 0 cs r) k []) (P .depot))
+    + through (P .leg) (last-of (P .depot) (getD (segments 0 cs r) 0 [])) (placed 0 (segments 0 cs r) (upfrom 1 (k - 1))) (first-of (getD (segments 0 cs r) k []) (P .end))
     ≡ tour-length P r
-    + through (P .leg) (last-of (P .depot) (getD (segments 0 cs r) 0 [])) (placed (p .mask) (segments 0 cs r) (s .middle)) (first-of (getD (segments 0 cs r) k []) (P .depot))
+    + through (P .leg) (last-of (P .depot) (getD (segments 0 cs r) 0 [])) (placed (p .mask) (segments 0 cs r) (s .middle)) (first-of (getD (segments 0 cs r) k []) (P .end))
 delta-shape P cs r k m p s many rising e =
     let less : suc m - 1 ≡ m = omega arith in
     rw (e, less, s .is)
@@ -122,7 +122,7 @@ delta-shape P cs r k m p s many rising e =
 
 -- A pattern's route and the standing one differ in length as their chains do.
 pub chain-delta : (P : Problem) (cs r J order : List ℕ) (mask : ℕ) → CutSet (length cs) (length r) cs → ForK (length cs) order mask →
-    JointTable (P .leg) (placed-in cs r) (state-count (length cs)) (last-of (P .depot) (getD (segments 0 cs r) 0 [])) (first-of (getD (segments 0 cs r) (length cs) []) (P .depot)) J →
+    JointTable (P .leg) (placed-in cs r) (state-count (length cs)) (last-of (P .depot) (getD (segments 0 cs r) 0 [])) (first-of (getD (segments 0 cs r) (length cs) []) (P .end)) J →
     tour-length P (reconnected (record { cuts = cs; pattern = record { order = order; mask = mask } }) r) + chain J 9 (standing-row (length cs))
     ≡ tour-length P r + chain J 9 (states (length cs) order mask)
 chain-delta P cs r J order mask cut-set f t =

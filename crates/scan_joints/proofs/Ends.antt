@@ -99,12 +99,12 @@ module _ {r forwards backwards cs entries exits inside : List ℕ} (given : Ends
 
 -- ---- what the tables and the running sums say of them
 
-module _ {locations : ℕ} {legs : List ℕ} {depot : ℕ} {r forwards backwards cs table : List ℕ} (given : Joinable locations legs depot r forwards backwards cs table) where
-  pub head-below : head-end (legs-only locations legs depot) r cs < locations
+module _ {locations : ℕ} {legs : List ℕ} {depot end : ℕ} {r forwards backwards cs table : List ℕ} (given : Joinable locations legs depot end r forwards backwards cs table) where
+  pub head-below : head-end (legs-only locations legs depot end) r cs < locations
   head-below = head-known cs r (given .cut-set) locations depot (given .measurable .stops) (given .measurable .depot-known)
 
-  pub tail-below : tail-start (legs-only locations legs depot) r cs < locations
-  tail-below = tail-known cs r (given .cut-set) locations depot (given .measurable .stops) (given .measurable .depot-known)
+  pub tail-below : tail-start (legs-only locations legs depot end) r cs < locations
+  tail-below = tail-known cs r (given .cut-set) locations end (given .measurable .stops) (given .measurable .end-known)
 
   costs-of : RouteCosts locations legs r forwards backwards
   costs-of = record { table = given .measurable .table; stops = given .measurable .stops; forwards = given .forwards; backwards = given .backwards }

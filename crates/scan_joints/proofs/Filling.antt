@@ -51,7 +51,7 @@ rows-more exits {locations} {legs} {tail} {count} {entries} {inside} {before} {a
 
 -- ---- the whole table
 
-module _ {locations : ℕ} {legs : List ℕ} {depot : ℕ} {r forwards backwards cs table : List ℕ} (given : Joinable locations legs depot r forwards backwards cs table)
+module _ {locations : ℕ} {legs : List ℕ} {depot end : ℕ} {r forwards backwards cs table : List ℕ} (given : Joinable locations legs depot end r forwards backwards cs table)
     {entries exits inside : List ℕ} (ends : StateEnds r forwards backwards cs (state-count (length cs)) entries exits inside) where
   abbrev count : ℕ
   count = state-count (length cs)

@@ -69,15 +69,15 @@ pub record JointTable (d : ℕ → ℕ → ℕ) (part : ℕ → List ℕ) (count
   pub from-head : JointRow d (λ s. first-of (part s) 0) (λ s. inner d (part s)) count tail table 9 head
   pub from-each : (a : ℕ) → a < count → JointRow d (λ s. first-of (part s) 0) (λ s. inner d (part s)) count tail table a (last-of 0 (part a))
 
--- The joint table of a cut set. "Cut 0 makes the depot the head's end, cut n the tail's start."
-abbrev pub JointOf : ℕ → List ℕ → ℕ → List ℕ → List ℕ → List ℕ → Type 0
-JointOf locations legs depot route cuts table =
-    JointTable (leg locations legs) (placed-in cuts route) (state-count (length cuts)) (head-end (legs-only locations legs depot) route cuts)
-    (tail-start (legs-only locations legs depot) route cuts) table
+-- The joint table of a cut set. "Cut 0 makes the depot the head's end", cut n the end harbour the tail's start.
+abbrev pub JointOf : ℕ → List ℕ → (depot end : ℕ) → List ℕ → List ℕ → List ℕ → Type 0
+JointOf locations legs depot end route cuts table =
+    JointTable (leg locations legs) (placed-in cuts route) (state-count (length cuts)) (head-end (legs-only locations legs depot end) route cuts)
+    (tail-start (legs-only locations legs depot end) route cuts) table
 
 -- What the joint table of a cut set is read from, and the places for it.
-pub record Joinable (locations : ℕ) (legs : List ℕ) (depot : ℕ) (route forward-sums backward-sums cuts table : List ℕ) : Type 0 where
-  pub measurable : Measurable locations legs depot route
+pub record Joinable (locations : ℕ) (legs : List ℕ) (depot end : ℕ) (route forward-sums backward-sums cuts table : List ℕ) : Type 0 where
+  pub measurable : Measurable locations legs depot end route
   pub forwards : Sums route (forward (leg locations legs) route) forward-sums
   pub backwards : Sums route (backward (leg locations legs) route) backward-sums
   pub cut-set : CutSet (length cuts) (length route) cuts

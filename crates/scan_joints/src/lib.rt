@@ -223,14 +223,15 @@ pub fn fill_joint(
     locations: usize,
     legs: &[u32],
     depot: u32,
+    end: u32,
     route: &[u32],
     forward: &[u64; STOPS],
     backward: &[u64; STOPS],
     cuts: &[usize],
     joint: &mut [u64; CELLS],
 )
-    requires { ⌜ Joinable locations (now legs) depot (now route) (now forward) (now backward) (now cuts) (now joint) ⌝ }
-    ensures { λ _. ⌜ JointOf locations (now (legs .entry)) depot (now (route .entry)) (now (cuts .entry)) (now (joint .exit)) ⌝ }
+    requires { ⌜ Joinable locations (now legs) depot end (now route) (now forward) (now backward) (now cuts) (now joint) ⌝ }
+    ensures { λ _. ⌜ JointOf locations (now (legs .entry)) depot end (now (route .entry)) (now (cuts .entry)) (now (joint .exit)) ⌝ }
 {
     let mut entries = [0u32; STATES];
     let mut exits = [0u32; STATES];
@@ -246,7 +247,7 @@ pub fn fill_joint(
     );
     let count = 2 * (cuts.len() - 1);
     let head = costs::head_end(depot, route, cuts);
-    let tail = costs::tail_start(depot, route, cuts);
+    let tail = costs::tail_start(end, route, cuts);
     fill_states(
         locations,
         legs,

@@ -55,7 +55,7 @@ none-above zero = le-leb 0 0 (omega arith) ∙ sym (eq-eqb 0 0 refl)
 none-above (suc x) = lt-leb (suc x) 0 (omega arith) ∙ sym (ne-eqb (suc x) 0 (λ e. absurd (omega (arith, e))))
 
 -- A measured route keeps every deadline exactly where its lateness is 0 from the start on.
-pub kept-measured : (T : Trip) (r forwards backwards stayed : List ℕ) (longest : ℕ) (late : List ℕ) → Measured T r forwards backwards stayed longest late →
+pub kept-measured : (T : Trip) (r forwards backwards stayed : List ℕ) (longest : ℕ) (late : List ℕ) → Measured (T .tables) (T .depot) r forwards backwards stayed longest late →
     eqb (getD late 0 0) 0 ≡ timely (timetable-by (T .tables)) (T .depot) r
 kept-measured T r forwards backwards stayed longest late m =
     rw (m .latenesses .each 0 (omega arith))
@@ -141,7 +141,7 @@ module _ (k : ℕ) (T : Trip) (orders masks rows route₀ : List ℕ) (A : ℕ) 
 
     -- ---- before a stretch
 
-    pub stretchable : {forwards backwards stayed table late : List ℕ} {longest : ℕ} → Measured T r forwards backwards stayed longest late → Padded table → Opened cuts →
+    pub stretchable : {forwards backwards stayed table late : List ℕ} {longest : ℕ} → Measured (T .tables) (T .depot) r forwards backwards stayed longest late → Padded table → Opened cuts →
         Stretchable T rows (length masks) r forwards backwards stayed longest late cuts table
     stretchable m p o =
         record {
@@ -235,7 +235,7 @@ module _ (k : ℕ) (T : Trip) (orders masks rows route₀ : List ℕ) (A : ℕ) 
           -- It is measured by its sums, since no stop is late.
           pub measured-anew : {forwards backwards stayed late late′ : List ℕ} → Latenesses (clock-by (T .tables)) (T .depot) r late → Cleared (length r) late late′ → length r′ ≡ length r →
               Sums r′ (forward (leg (T .tables .locations) (T .tables .legs)) r′) forwards → Sums r′ (backward (leg (T .tables .locations) (T .tables .legs)) r′) backwards →
-              Stays (T .tables .service) r′ stayed → Measured T r′ forwards backwards stayed (length r′) late′
+              Stays (T .tables .service) r′ stayed → Measured (T .tables) (T .depot) r′ forwards backwards stayed (length r′) late′
           measured-anew {late = late} old cleared long f b s =
               let C = clock-by (T .tables) in
               let kept = sym (timely-on-time (timetable-by (T .tables)) (T .depot) r′) ∙ then-kept in

@@ -55,6 +55,7 @@ module _ (k : ℕ) (T : Trip) (orders masks rows route₀ : List ℕ) (A : ℕ) 
           measurable = record {
             table = ok .timed .measurable .table;
             depot-known = ok .timed .measurable .depot-known;
+            end-known = ok .timed .measurable .end-known;
             stops = stops-rearranged route₀ r (now .same) (T .tables .locations) (ok .timed .measurable .stops);
           };
           times = ok .timed .times;

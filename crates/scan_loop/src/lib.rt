@@ -23,13 +23,14 @@ pub fn scan_cut_sets(
     latest: &[u32],
     service: &[u32],
     depot: u32,
+    end: u32,
     orders: &[u8],
     masks: &[u8],
     rows: &[u8; ROW_BYTES],
     route: &mut [u32],
 ) -> Scanned
-    requires { ⌜ Scannable k (trip locations (now legs) (now latest) (now service) depot) (now orders) (now masks) (now rows) (now route) ⌝ }
-    ensures { λ r. ⌜ Scans (problem (trip locations (now (legs .entry)) (now (latest .entry)) (now (service .entry)) depot)) (pattern-rows k (now (orders .entry)) (now (masks .entry))) k allowance (now (route .entry)) r (now (route .exit)) ⌝ }
+    requires { ⌜ Scannable k (trip locations (now legs) (now latest) (now service) depot end) (now orders) (now masks) (now rows) (now route) ⌝ }
+    ensures { λ r. ⌜ Scans (problem (trip locations (now (legs .entry)) (now (latest .entry)) (now (service .entry)) depot end)) (pattern-rows k (now (orders .entry)) (now (masks .entry))) k allowance (now (route .entry)) r (now (route .exit)) ⌝ }
 {
     let mut forward = [0u64; STOPS];
     let mut backward = [0u64; STOPS];
@@ -58,6 +59,7 @@ pub fn scan_cut_sets(
             latest,
             service,
             depot,
+            end,
             rows,
             masks.len(),
             &route[..],

@@ -82,7 +82,7 @@ chain-small J a (b ∷ bs) h = omega (arith, h (16 * a + b), chain-small J b bs 
 
 module _ {locations : ℕ} {legs : List ℕ} {depot : ℕ} {r forwards backwards cuts rows : List ℕ} {count : ℕ} {entries₀ exits₀ inside₀ low₀ : List ℕ}
     (given : Preparable locations legs depot r forwards backwards cuts rows count entries₀ exits₀ inside₀ low₀) where
-  pub joinable : Joinable locations legs depot r forwards backwards cuts (replicate 160 0)
+  pub joinable : Joinable locations legs depot depot r forwards backwards cuts (replicate 160 0)
   joinable =
       record { measurable = given .cut .measurable; forwards = given .cut .forwards; backwards = given .cut .backwards; cut-set = given .cut .cut-set; padded = no-cells }
 
@@ -110,9 +110,9 @@ module _ {locations : ℕ} {legs : List ℕ} {depot : ℕ} {r forwards backwards
     )
 
     abbrev T : ℕ → ℕ → ℕ
-    T = fixed-by (leg locations legs) (placed-in cuts r) (2 * (length cuts - 2)) (head-end (legs-only locations legs depot) r cuts)
+    T = fixed-by (leg locations legs) (placed-in cuts r) (2 * (length cuts - 2)) (head-end (legs-only locations legs depot depot) r cuts)
 
-    same-exit : (a : ℕ) → (a < suc (suc p)) ⊎ (a ≡ 9) → cond (eqb a 9) head (getD exits a 0) ≡ exit-of (placed-in cuts r) (head-end (legs-only locations legs depot) r cuts) a
+    same-exit : (a : ℕ) → (a < suc (suc p)) ⊎ (a ≡ 9) → cond (eqb a 9) head (getD exits a 0) ≡ exit-of (placed-in cuts r) (head-end (legs-only locations legs depot depot) r cuts) a
     same-exit a (inl l) = rw (ne-eqb a 9 (λ (q : a ≡ 9). omega (arith, few .1))) (e .exit a (omega (arith, few .0)))
     same-exit a (inr q) = rw (eq-eqb a 9 q) head-is
 

@@ -85,9 +85,9 @@ pub record FixedTable (locations : ℕ) (legs : List ℕ) (head p : ℕ) (entrie
   pub filled : (a b : ℕ) → (a < suc (suc p)) ⊎ (a ≡ 9) → b < 16 → cell table a b ≡ fixed-cell locations legs p head entries exits inside a b
   pub blank : (a b : ℕ) → suc (suc p) ≤ a → a < 9 → b < 16 → cell table a b ≡ 0
 
--- A cut set that is the first with its first cuts, and places for what is prepared for them.
+-- A cut set that is the first with its first cuts, and places for what is prepared for them. With the depot as end: none is read.
 pub record Preparable (locations : ℕ) (legs : List ℕ) (depot : ℕ) (route forward-sums backward-sums cuts rows : List ℕ) (count : ℕ) (entries exits inside low : List ℕ) : Type 0 where
-  pub cut : Cut locations legs depot route forward-sums backward-sums cuts
+  pub cut : Cut locations legs depot depot route forward-sums backward-sums cuts
   pub rows-fit : RowsFit rows count
   pub places : Places entries exits inside low
   pub first : Opened cuts

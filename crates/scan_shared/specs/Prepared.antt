@@ -10,9 +10,9 @@ use Rattle.scan_joints.specs.States.{standing-row, row, placed-in}
 use Rattle.scan_joints.specs.JointTable.{EndPlaces}
 use Rattle.scan_shared.specs.Bound.{chain-by, class, fixed-by, opened, last-state}
 
--- The table that the cut sets with the first cuts `pre` share.
+-- The table that the cut sets with the first cuts `pre` share. It ends before the last segment: no end harbour is read.
 abbrev pub shared : ℕ → List ℕ → ℕ → List ℕ → List ℕ → ℕ → ℕ → ℕ
-shared locations legs depot route pre = fixed-by (leg locations legs) (placed-in (opened pre) route) (last-state pre) (head-end (legs-only locations legs depot) route (opened pre))
+shared locations legs depot route pre = fixed-by (leg locations legs) (placed-in (opened pre) route) (last-state pre) (head-end (legs-only locations legs depot depot) route (opened pre))
 
 -- What is prepared for it: where the states before P are entered and left and the legs inside them, the least cost of each class of rows, and in place 20 the cost
 -- of the standing row.
@@ -36,8 +36,8 @@ pub record RowsFit (rows : List ℕ) (count : ℕ) : Type 0 where
   pub known : (c : ℕ) → c < 4 * count → getD rows c 0 ≤ 8
 
 -- The route with its running sums, and cuts of it.
-pub record Cut (locations : ℕ) (legs : List ℕ) (depot : ℕ) (route forward-sums backward-sums cuts : List ℕ) : Type 0 where
-  pub measurable : Measurable locations legs depot route
+pub record Cut (locations : ℕ) (legs : List ℕ) (depot end : ℕ) (route forward-sums backward-sums cuts : List ℕ) : Type 0 where
+  pub measurable : Measurable locations legs depot end route
   pub forwards : Sums route (forward (leg locations legs) route) forward-sums
   pub backwards : Sums route (backward (leg locations legs) route) backward-sums
   pub cut-set : CutSet (length cuts) (length route) cuts

@@ -14,6 +14,7 @@ use Rattle.theory.specs.Route.{reconnected, feasible, tour-length}
 use Rattle.theory.specs.Scan.{improves}
 use Rattle.theory.specs.Polish.{search-of, move-at}
 use Rattle.theory.specs.Tables.{problem, clock-by, ForK, Trip}
+use Rattle.theory.proofs.Judged.{followed, to-end}
 use Rattle.costs.proofs.Segments.{head-at, cuts-parted, first-many}
 use Rattle.scan_joints.specs.JointTable.{Padded}
 use Rattle.scan_joints.specs.States.{row, states, no-pattern}
@@ -85,7 +86,7 @@ module _ {T : Trip} {ps : List Pattern} {r first : List ℕ} {left : ℕ} {cuts 
 -- ---- the start
 
 module _ {T : Trip} {rows : List ℕ} {patterns : ℕ} {r forwards backwards stayed late cuts table : List ℕ} (given : Hopeful T rows patterns r forwards backwards stayed late cuts table) where
-  cut : Cut (T .tables .locations) (T .tables .legs) (T .depot) r forwards backwards cuts
+  cut : Cut (T .tables .locations) (T .tables .legs) (T .depot) (T .end) r forwards backwards cuts
   cut = let g = given .searchable in record { measurable = g .timed .measurable; forwards = g .forwards; backwards = g .backwards; cut-set = g .cut-set }
 
   pub few-patterns : patterns ≤ 383
@@ -95,7 +96,13 @@ module _ {T : Trip} {rows : List ℕ} {patterns : ℕ} {r forwards backwards sta
   preparable o =
       let w = given .listed .patterned in
       record {
-        cut = cut;
+        cut = let g = given .searchable in
+            record {
+              measurable = to-end (followed (g .timed .measurable)) (g .timed .measurable .depot-known);
+              forwards = g .forwards;
+              backwards = g .backwards;
+              cut-set = g .cut-set;
+            };
         rows-fit = record { places = w .places; few = few-patterns; known = rw (given .listed .many) at (w .small) };
         places = record { ends = record { entry-places = refl; exit-places = refl; inside-places = refl }; low-places = refl; low-small = λ c. rw (zero-at 21 c) (omega arith) };
         first = o;
@@ -126,7 +133,7 @@ module _ {T : Trip} {rows : List ℕ} {patterns : ℕ} {r forwards backwards sta
 
 module _ {T : Trip} {rows : List ℕ} {patterns : ℕ} {r forwards backwards stayed late cuts entries exits inside low zero table dues : List ℕ} {examined left : ℕ}
     (given : Steppable T rows patterns r forwards backwards stayed late cuts entries exits inside low zero table dues examined left) where
-  pub nextable : Nextable (T .tables .locations) (T .tables .legs) (T .depot) r forwards backwards cuts entries exits inside low zero
+  pub nextable : Nextable (T .tables .locations) (T .tables .legs) (T .depot) (T .end) r forwards backwards cuts entries exits inside low zero
   nextable =
       let k = given .prepared .prepared in
       record {
@@ -137,7 +144,7 @@ module _ {T : Trip} {rows : List ℕ} {patterns : ℕ} {r forwards backwards sta
         zero-is = given .zero-is;
       }
 
-  module _ {hit : ℕ} (next : NextPromising (T .tables .locations) (T .tables .legs) (T .depot) r cuts entries exits inside low hit) where
+  module _ {hit : ℕ} (next : NextPromising (T .tables .locations) (T .tables .legs) (T .depot) (T .end) r cuts entries exits inside low hit) where
     pub few-sets : (hit - last-cut cuts ≤ 513) × (patterns ≤ 383)
     few-sets = (omega (arith, next .most, given .triable .hopeful .searchable .cut-set .short), few-patterns (given .triable .hopeful))
 
@@ -229,7 +236,7 @@ module _ {T : Trip} {rows : List ℕ} {patterns : ℕ} {r forwards backwards sta
 
 pub hit-triable : {T : Trip} {rows : List ℕ} {patterns : ℕ} {r forwards backwards stayed late cuts entries exits inside low zero table dues : List ℕ} {examined left : ℕ} →
     Steppable T rows patterns r forwards backwards stayed late cuts entries exits inside low zero table dues examined left →
-    {hit : ℕ} → NextPromising (T .tables .locations) (T .tables .legs) (T .depot) r cuts entries exits inside low hit → {over : ℕ} → over ≡ (hit - last-cut cuts) * patterns → over ≤ left - examined → hit ≤ length r →
+    {hit : ℕ} → NextPromising (T .tables .locations) (T .tables .legs) (T .depot) (T .end) r cuts entries exits inside low hit → {over : ℕ} → over ≡ (hit - last-cut cuts) * patterns → over ≤ left - examined → hit ≤ length r →
     Triable T rows patterns r forwards backwards stayed late (set cuts (length cuts - 1) hit) table dues (examined + over) left
 hit-triable {T} {rows} {patterns} {r} {forwards} {backwards} {stayed} {late} {cuts} {entries} {exits} {inside} {low} {zero} {table} {dues} given next {over} e room l =
     let w = given .triable in

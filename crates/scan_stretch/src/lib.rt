@@ -75,6 +75,7 @@ fn try_cut_set(
     latest: &[u32],
     service: &[u32],
     depot: u32,
+    end: u32,
     rows: &[u8; ROW_BYTES],
     patterns: usize,
     route: &[u32],
@@ -88,8 +89,8 @@ fn try_cut_set(
     examined: u64,
     left: u64,
 ) -> Step
-    requires { ⌜ Triable (trip locations (now legs) (now latest) (now service) depot) (now rows) patterns (now route) (now forward) (now backward) (now stayed) (now lateness) (now cuts) (now joint) (now dues) examined left ⌝ }
-    ensures { λ r. ⌜ Carried (trip locations (now (legs .entry)) (now (latest .entry)) (now (service .entry)) depot) (now (rows .entry)) patterns (now (route .entry)) (now (cuts .entry)) (now (joint .entry)) (now (dues .entry)) examined left r (now (cuts .exit)) (now (joint .exit)) (now (dues .exit)) ⌝ }
+    requires { ⌜ Triable (trip locations (now legs) (now latest) (now service) depot end) (now rows) patterns (now route) (now forward) (now backward) (now stayed) (now lateness) (now cuts) (now joint) (now dues) examined left ⌝ }
+    ensures { λ r. ⌜ Carried (trip locations (now (legs .entry)) (now (latest .entry)) (now (service .entry)) depot end) (now (rows .entry)) patterns (now (route .entry)) (now (cuts .entry)) (now (joint .entry)) (now (dues .entry)) examined left r (now (cuts .exit)) (now (joint .exit)) (now (dues .exit)) ⌝ }
 {
     let limit = still_allowed(patterns, left - examined);
     let found = scan_cut_set::first_gain(
@@ -98,6 +99,7 @@ fn try_cut_set(
         latest,
         service,
         depot,
+        end,
         route,
         forward,
         backward,
@@ -137,6 +139,7 @@ fn take_step(
     latest: &[u32],
     service: &[u32],
     depot: u32,
+    end: u32,
     rows: &[u8; ROW_BYTES],
     patterns: usize,
     route: &[u32],
@@ -155,14 +158,15 @@ fn take_step(
     examined: u64,
     left: u64,
 ) -> Step
-    requires { ⌜ Steppable (trip locations (now legs) (now latest) (now service) depot) (now rows) patterns (now route) (now forward) (now backward) (now stayed) (now lateness) (now cuts) (now entries) (now exits) (now inside) (now low) (now zero) (now joint) (now dues) examined left ⌝ }
-    ensures { λ r. ⌜ Carried (trip locations (now (legs .entry)) (now (latest .entry)) (now (service .entry)) depot) (now (rows .entry)) patterns (now (route .entry)) (now (cuts .entry)) (now (joint .entry)) (now (dues .entry)) examined left r (now (cuts .exit)) (now (joint .exit)) (now (dues .exit)) ⌝ }
+    requires { ⌜ Steppable (trip locations (now legs) (now latest) (now service) depot end) (now rows) patterns (now route) (now forward) (now backward) (now stayed) (now lateness) (now cuts) (now entries) (now exits) (now inside) (now low) (now zero) (now joint) (now dues) examined left ⌝ }
+    ensures { λ r. ⌜ Carried (trip locations (now (legs .entry)) (now (latest .entry)) (now (service .entry)) depot end) (now (rows .entry)) patterns (now (route .entry)) (now (cuts .entry)) (now (joint .entry)) (now (dues .entry)) examined left r (now (cuts .exit)) (now (joint .exit)) (now (dues .exit)) ⌝ }
 {
     let last = cuts.len() - 1;
     let hit = scan_bound::next_promising(
         locations,
         legs,
         depot,
+        end,
         route,
         forward,
         backward,
@@ -189,6 +193,7 @@ fn take_step(
         latest,
         service,
         depot,
+        end,
         rows,
         patterns,
         route,
@@ -211,6 +216,7 @@ fn scan_last_cuts(
     latest: &[u32],
     service: &[u32],
     depot: u32,
+    end: u32,
     rows: &[u8; ROW_BYTES],
     patterns: usize,
     route: &[u32],
@@ -222,8 +228,8 @@ fn scan_last_cuts(
     joint: &mut [u64; CELLS],
     left: u64,
 ) -> Stretch
-    requires { ⌜ LastCutsScannable (trip locations (now legs) (now latest) (now service) depot) (now rows) patterns (now route) (now forward) (now backward) (now stayed) (now lateness) (now cuts) (now joint) ⌝ }
-    ensures { λ r. ⌜ Stretched (problem (trip locations (now (legs .entry)) (now (latest .entry)) (now (service .entry)) depot)) patterns (now (rows .entry)) (now (route .entry)) (now (cuts .entry)) left r (now (cuts .exit)) (now (joint .exit)) ⌝ }
+    requires { ⌜ LastCutsScannable (trip locations (now legs) (now latest) (now service) depot end) (now rows) patterns (now route) (now forward) (now backward) (now stayed) (now lateness) (now cuts) (now joint) ⌝ }
+    ensures { λ r. ⌜ Stretched (problem (trip locations (now (legs .entry)) (now (latest .entry)) (now (service .entry)) depot end)) patterns (now (rows .entry)) (now (route .entry)) (now (cuts .entry)) left r (now (cuts .exit)) (now (joint .exit)) ⌝ }
 {
     let mut entries = [0u32; STATES];
     let mut exits = [0u32; STATES];
@@ -254,6 +260,7 @@ fn scan_last_cuts(
             latest,
             service,
             depot,
+            end,
             rows,
             patterns,
             route,
@@ -287,6 +294,7 @@ pub fn scan_stretch(
     latest: &[u32],
     service: &[u32],
     depot: u32,
+    end: u32,
     rows: &[u8; ROW_BYTES],
     patterns: usize,
     route: &[u32],
@@ -299,8 +307,8 @@ pub fn scan_stretch(
     joint: &mut [u64; CELLS],
     left: u64,
 ) -> Stretch
-    requires { ⌜ Stretchable (trip locations (now legs) (now latest) (now service) depot) (now rows) patterns (now route) (now forward) (now backward) (now stayed) longest (now lateness) (now cuts) (now joint) ⌝ }
-    ensures { λ r. ⌜ Stretched (problem (trip locations (now (legs .entry)) (now (latest .entry)) (now (service .entry)) depot)) patterns (now (rows .entry)) (now (route .entry)) (now (cuts .entry)) left r (now (cuts .exit)) (now (joint .exit)) ⌝ }
+    requires { ⌜ Stretchable (trip locations (now legs) (now latest) (now service) depot end) (now rows) patterns (now route) (now forward) (now backward) (now stayed) longest (now lateness) (now cuts) (now joint) ⌝ }
+    ensures { λ r. ⌜ Stretched (problem (trip locations (now (legs .entry)) (now (latest .entry)) (now (service .entry)) depot end)) patterns (now (rows .entry)) (now (route .entry)) (now (cuts .entry)) left r (now (cuts .exit)) (now (joint .exit)) ⌝ }
 {
     if longest < cuts[0] {
         return pass_stretch(route.len(), patterns, cuts, left);
@@ -311,6 +319,7 @@ pub fn scan_stretch(
         latest,
         service,
         depot,
+        end,
         rows,
         patterns,
         route,

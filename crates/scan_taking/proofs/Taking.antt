@@ -7,7 +7,7 @@ use native.Mathlib.Omega.{arith}
 use lib.ListN.{length, getD, set, take, drop, length-take, length-set, drop-of-length-le, take-append-drop}
 use lib.Seq.{take-all, getD-set-same, getD-set-other}
 use Rattle.theory.specs.Moves.{total}
-use Rattle.theory.specs.Tables.{Trip, Timed, Stops}
+use Rattle.theory.specs.Tables.{Tables, Clocked, Stops}
 use Rattle.theory.proofs.Moves.{total-append}
 use Rattle.theory.proofs.Stops.{as-many, stops-rearranged}
 use Rattle.costs.specs.RouteCosts.{Summable}
@@ -50,9 +50,9 @@ module _ {locations : ℕ} {legs service cuts orders masks : List ℕ} {i : ℕ}
 
 -- ---- the stays of a route that is measured
 
-pub stays-fillable : {T : Trip} {r stayed : List ℕ} → Timed T r → length stayed ≡ 513 → StaysFillable (T .tables .service) r stayed
+pub stays-fillable : {T : Tables} {depot : ℕ} {r stayed : List ℕ} → Clocked T depot r → length stayed ≡ 513 → StaysFillable (T .service) r stayed
 stays-fillable t places =
-    let m = t .measurable in
+    let m = t .followable in
     record {
       few = omega (arith, t .times .services, m .table .few);
       brief = t .times .brief;

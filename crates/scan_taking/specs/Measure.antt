@@ -5,27 +5,27 @@ use Prim.Native.Nat.{ℕ, _≤_}
 use lib.ListN.{length, getD}
 use Rattle.theory.specs.Moves.{total}
 use Rattle.theory.specs.Costs.{forward, backward}
-use Rattle.theory.specs.Tables.{Trip, clock-by, LegTable, Stops, Timed}
+use Rattle.theory.specs.Tables.{Tables, clock-by, LegTable, Stops, Clocked}
 use Rattle.costs.specs.RouteCosts.{leg, Sums}
 use Rattle.deadlines.specs.Stays.{Stays, StaysFillable}
 use Rattle.deadlines.specs.Lateness.{LongestHead, Latenesses}
 use Rattle.scan_taking.specs.Candidate.{candidate, Candidate}
 
 -- A route, and places for its sums, its stays and its lateness.
-pub record MeasureAsked (T : Trip) (route forward-sums backward-sums stayed late : List ℕ) : Type 0 where
-  pub timed : Timed T route
+pub record MeasureAsked (T : Tables) (depot : ℕ) (route forward-sums backward-sums stayed late : List ℕ) : Type 0 where
+  pub clocked : Clocked T depot route
   pub forward-places : length forward-sums ≡ 512
   pub backward-places : length backward-sums ≡ 512
   pub stay-places : length stayed ≡ 513
   pub late-places : length late ≡ 513
 
 -- Its sums and stays, the longest head, and the lateness from each position on.
-pub record Measured (T : Trip) (route forward-sums backward-sums stayed : List ℕ) (longest : ℕ) (late : List ℕ) : Type 0 where
-  pub forwards : Sums route (forward (leg (T .tables .locations) (T .tables .legs)) route) forward-sums
-  pub backwards : Sums route (backward (leg (T .tables .locations) (T .tables .legs)) route) backward-sums
-  pub stays : Stays (T .tables .service) route stayed
-  pub head : LongestHead (clock-by (T .tables)) (T .depot) route longest
-  pub latenesses : Latenesses (clock-by (T .tables)) (T .depot) route late
+pub record Measured (T : Tables) (depot : ℕ) (route forward-sums backward-sums stayed : List ℕ) (longest : ℕ) (late : List ℕ) : Type 0 where
+  pub forwards : Sums route (forward (leg (T .locations) (T .legs)) route) forward-sums
+  pub backwards : Sums route (backward (leg (T .locations) (T .legs)) route) backward-sums
+  pub stays : Stays (T .service) route stayed
+  pub head : LongestHead (clock-by T) depot route longest
+  pub latenesses : Latenesses (clock-by T) depot route late
 
 -- Places for the lateness of a route of so many stops.
 pub record Clearable (stops : ℕ) (late : List ℕ) : Type 0 where

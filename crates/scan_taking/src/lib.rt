@@ -3,7 +3,7 @@ use deadlines::fill_lateness;
 use theory::CUT_PLACES;
 use theory::STOPS;
 ghost use mathlib.Core.Path.{_≡_};
-ghost use Rattle.theory.specs.Tables.{trip};
+ghost use Rattle.theory.specs.Tables.{tables};
 ghost use Rattle.deadlines.specs.Stays.{StaysFillable};
 ghost use Rattle.scan_taking.specs.Candidate.{candidate, Buildable, BuildableFront, BuiltFront};
 ghost use Rattle.scan_taking.specs.Measure.{MeasureAsked, Measured, Clearable, Cleared, StaysAnew, Takeable, Taken};
@@ -21,8 +21,8 @@ pub fn measure(
     stayed: &mut [u64; CUT_PLACES],
     lateness: &mut [u64; CUT_PLACES],
 ) -> usize
-    requires { ⌜ MeasureAsked (trip locations (now legs) (now latest) (now service) depot) (now route) (now forward) (now backward) (now stayed) (now lateness) ⌝ }
-    ensures { λ r. ⌜ Measured (trip locations (now (legs .entry)) (now (latest .entry)) (now (service .entry)) depot) (now (route .entry)) (now (forward .exit)) (now (backward .exit)) (now (stayed .exit)) r (now (lateness .exit)) ⌝ }
+    requires { ⌜ MeasureAsked (tables locations (now legs) (now latest) (now service)) depot (now route) (now forward) (now backward) (now stayed) (now lateness) ⌝ }
+    ensures { λ r. ⌜ Measured (tables locations (now (legs .entry)) (now (latest .entry)) (now (service .entry))) depot (now (route .entry)) (now (forward .exit)) (now (backward .exit)) (now (stayed .exit)) r (now (lateness .exit)) ⌝ }
 {
     costs::forward_sums(locations, legs, route, forward);
     costs::backward_sums(locations, legs, route, backward);

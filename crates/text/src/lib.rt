@@ -43,11 +43,12 @@ fn answer_question(
     latest: &[u32],
     service: &[u32],
     depot: u32,
+    end: u32,
     stops: &mut [u32],
     out: &mut [u8],
 ) -> usize
     requires { ⌜ Room (now out) ⌝ }
-    ensures { λ r. ⌜ Printed (question-text (question k allowance locations (now (legs .entry)) (now (latest .entry)) (now (service .entry)) depot (now (stops .entry)))) (now (out .entry)) (now (out .exit)) r ⌝ }
+    ensures { λ r. ⌜ Printed (question-text (question k allowance locations (now (legs .entry)) (now (latest .entry)) (now (service .entry)) depot end (now (stops .entry)))) (now (out .entry)) (now (out .exit)) r ⌝ }
 {
     let refused = refusal_rules::question_refusal(
         k,
@@ -56,6 +57,7 @@ fn answer_question(
         latest,
         service,
         depot,
+        end,
         &stops[..],
     );
     if refused != 0 {
@@ -69,6 +71,7 @@ fn answer_question(
         latest,
         service,
         depot,
+        end,
         stops,
     );
     print_polished(answer, &stops[..], out)
@@ -102,6 +105,7 @@ fn answer_text(
         &latest[..locations],
         &service[..locations],
         header.depot,
+        header.end,
         &mut stops[..count],
         out,
     )

@@ -36,7 +36,7 @@ question-sound t q l e =
     let g-is = tables-sound (h .0 .locations) (h .1) (g .0) (g .1) g-read in
     let s-is = line-sound (ascii "round=") 30000 (g .1) (s .0) (s .1) s-read in
     let x : g .1 ≡ line (ascii "round=") (s .0) = s-is .0 ∙ rw (n .0) (append-nil (line (ascii "round=") (s .0))) in
-    let start : Heading = record { k = h .0 .k; allowance = h .0 .allowance; locations = g .0 .locations; depot = h .0 .depot } in
+    let start : Heading = record { k = h .0 .k; allowance = h .0 .allowance; locations = g .0 .locations; depot = h .0 .depot; end = h .0 .end } in
     let first : t ≡ headed start (h .1) = rw (g-is .1) (h-is .text) in
     let text = first ∙ ap (headed start) (g-is .0 ∙ rw x) in
     subst (λ (p : Question). (t ≡ text-of p) × Held p) (n .1) (
@@ -77,7 +77,7 @@ question-complete : (q : Question) → Held q → question-of (text-of q) ≡ so
 unfolding question-of bind text-of
 question-complete q h =
     let round = line (ascii "round=") (q .route) in
-    let start : Heading = record { k = q .k; allowance = q .allowance; locations = q .trip .tables .locations; depot = q .trip .depot } in
+    let start : Heading = record { k = q .k; allowance = q .allowance; locations = q .trip .tables .locations; depot = q .trip .depot; end = q .trip .end } in
     rw (
       header-complete start (tabled (q .trip .tables) round) (h .some-location) (h .few-locations) (h .small-header),
       tables-complete (q .trip .tables) round (h .tables),

@@ -16,14 +16,15 @@ legs-lines (suc rows) width legs = line (ascii "legs=") (take width legs) ++ leg
 abbrev pub tabled : Tables → List ℕ → List ℕ
 tabled T r = legs-lines (T .locations) (T .locations) (T .legs) ++ (line (ascii "latest=") (T .latest) ++ (line (ascii "service=") (T .service) ++ r))
 
--- The lines in the order of document 01's example, `service=` after `latest=`. "An empty round is `round=`."
+-- The lines in the order of document 01's example, `end=` after `depot=`, `service=` after `latest=`. "An empty round is `round=`."
 unfoldable pub text-of : Question → List ℕ
 text-of q =
     line (ascii "k=") (q .k ∷ [])
     ++ (line (ascii "allowance=") (q .allowance ∷ [])
     ++ (line (ascii "locations=") (q .trip .tables .locations ∷ [])
     ++ (line (ascii "depot=") (q .trip .depot ∷ [])
-    ++ tabled (q .trip .tables) (line (ascii "round=") (q .route)))))
+    ++ (line (ascii "end=") (q .trip .end ∷ [])
+    ++ tabled (q .trip .tables) (line (ascii "round=") (q .route))))))
 
 -- As many lines and entries "as `locations=` says".
 pub record HeldTables (T : Tables) : Type 0 where
@@ -37,6 +38,6 @@ pub record Held (q : Question) : Type 0 where
   pub some-location : 1 ≤ q .trip .tables .locations
   pub few-locations : q .trip .tables .locations ≤ 96
   pub tables : HeldTables (q .trip .tables)
-  pub small-header : Small (q .k ∷ q .allowance ∷ q .trip .depot ∷ [])
+  pub small-header : Small (q .k ∷ q .allowance ∷ q .trip .depot ∷ q .trip .end ∷ [])
   pub small-route : Small (q .route)
   pub short : length (text-of q) ≤ 60000

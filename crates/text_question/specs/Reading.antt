@@ -15,6 +15,7 @@ pub record Heading : Type 0 where
   pub allowance : ℕ
   pub locations : ℕ
   pub depot : ℕ
+  pub end : ℕ
 
 -- The lines before the legs. "Locations outside 1 to 96 .. are 10."
 unfoldable pub header : List ℕ → Option (Heading × List ℕ)
@@ -24,10 +25,11 @@ header t =
     bind (value (ascii "allowance=") (k .1)) (λ allowance.
     bind (value (ascii "locations=") (allowance .1)) (λ locations.
     bind (value (ascii "depot=") (locations .1)) (λ depot.
+    bind (value (ascii "end=") (depot .1)) (λ end.
     cond
     (leb 1 (locations .0) && leb (locations .0) 96)
-    (some (record { k = k .0; allowance = allowance .0; locations = locations .0; depot = depot .0 }, depot .1))
-    none))))
+    (some (record { k = k .0; allowance = allowance .0; locations = locations .0; depot = depot .0; end = end .0 }, end .1))
+    none)))))
 
 -- The rest must be nothing.
 abbrev pub ended : {A : Type 0} → A → List ℕ → Option A
@@ -41,7 +43,7 @@ question-of t =
     bind (header t) (λ h.
     bind (tables-of (h .0 .locations) (h .1)) (λ g.
     bind (line-of (ascii "round=") 30000 (g .1)) (λ route.
-    ended (record { k = h .0 .k; allowance = h .0 .allowance; trip = record { tables = g .0; depot = h .0 .depot }; route = route .0 }) (route .1))))
+    ended (record { k = h .0 .k; allowance = h .0 .allowance; trip = record { tables = g .0; depot = h .0 .depot; end = h .0 .end }; route = route .0 }) (route .1))))
 
 unfoldable pub read : List ℕ → Option Question
 unfolding question-of

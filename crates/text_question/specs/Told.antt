@@ -15,7 +15,7 @@ use Rattle.text_question.specs.declared.Reading.the-variants as R
 
 abbrev pub start-told : List ℕ → Start → Option (Heading × List ℕ)
 start-told t S.Malformed = none
-start-told t (S.Read h next) = some (record { k = h .k; allowance = h .allowance; locations = h .locations; depot = h .depot }, drop next t)
+start-told t (S.Read h next) = some (record { k = h .k; allowance = h .allowance; locations = h .locations; depot = h .depot; end = h .end }, drop next t)
 
 -- The first places, for so many locations.
 abbrev pub front : ℕ → Tables → Tables
@@ -25,7 +25,7 @@ front n T = tables n (take (n * n) (T .legs)) (take n (T .latest)) (take n (T .s
 abbrev pub question-told : Reading → Tables → (stops : List ℕ) → Option Question
 question-told R.Malformed T stops = none
 question-told (R.Question h count) T stops =
-    some (record { k = h .k; allowance = h .allowance; trip = record { tables = front (h .locations) T; depot = h .depot }; route = take count stops })
+    some (record { k = h .k; allowance = h .allowance; trip = record { tables = front (h .locations) T; depot = h .depot; end = h .end }; route = take count stops })
 
 abbrev pub stop-count : Reading → ℕ
 stop-count R.Malformed = 0

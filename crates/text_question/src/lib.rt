@@ -10,12 +10,13 @@ ghost use Rattle.theory.specs.Tables.{tables};
 ghost use Rattle.text_question.specs.Reading.{header};
 ghost use Rattle.text_question.specs.Told.{start-told, Places, Answered};
 
-// The numbers of a question: the values of its first four lines.
+// The numbers of a question: the values of its first five lines.
 pub struct Header {
     pub k: u32,
     pub allowance: u32,
     pub locations: usize,
     pub depot: u32,
+    pub end: u32,
 }
 
 // The lines before the legs, and the place after them.
@@ -44,7 +45,10 @@ fn read_header(text: &[u8]) -> Start
     else {
         return Start::Malformed;
     };
-    let Numeral::Read(depot, rest) = read_value(text, after_locations, b"depot=") else {
+    let Numeral::Read(depot, after_depot) = read_value(text, after_locations, b"depot=") else {
+        return Start::Malformed;
+    };
+    let Numeral::Read(end, rest) = read_value(text, after_depot, b"end=") else {
         return Start::Malformed;
     };
     if locations < 1 {
@@ -60,6 +64,7 @@ fn read_header(text: &[u8]) -> Start
             allowance,
             locations,
             depot,
+            end,
         },
         rest,
     )

@@ -38,11 +38,11 @@ middle-path d a h m (x ∷ t) e =
     omega (arith, path-append d a h (m ++ (x ∷ (t ++ (e ∷ [])))), path-append d (last-of a h) m (x ∷ (t ++ (e ∷ []))), path-append d (last-of a h) m (x ∷ []))
 
 pub delta : (P : Problem) (h m m′ t : List ℕ) →
-    tour-length P (h ++ (m′ ++ t)) + path (P .leg) (last-of (P .depot) h) (m ++ (first-of t (P .depot) ∷ []))
-    ≡ tour-length P (h ++ (m ++ t)) + path (P .leg) (last-of (P .depot) h) (m′ ++ (first-of t (P .depot) ∷ []))
+    tour-length P (h ++ (m′ ++ t)) + path (P .leg) (last-of (P .depot) h) (m ++ (first-of t (P .end) ∷ []))
+    ≡ tour-length P (h ++ (m ++ t)) + path (P .leg) (last-of (P .depot) h) (m′ ++ (first-of t (P .end) ∷ []))
 unfolding tour-length
 delta P h m m′ t =
-    simp append-assoc (omega (arith, middle-path (P .leg) (P .depot) h m t (P .depot), middle-path (P .leg) (P .depot) h m′ t (P .depot)))
+    simp append-assoc (omega (arith, middle-path (P .leg) (P .depot) h m t (P .end), middle-path (P .leg) (P .depot) h m′ t (P .end)))
 
 -- The legs inside a part that starts in the middle: a difference of running sums.
 inner-split : (d : ℕ → ℕ → ℕ) (xs : List ℕ) (y : ℕ) (ys : List ℕ) → inner d (xs ++ (y ∷ ys)) ≡ inner d (xs ++ (y ∷ [])) + path d y ys

@@ -83,8 +83,8 @@ module _ (P : Problem) (cs r : List ℕ) (n m : ℕ) (many : length cs ≡ suc m
 
   pub move-delta : (o : List ℕ) (mask : ℕ) → reverses mask 0 ≡ false → reverses mask (suc m) ≡ false →
       tour-length P (reconnected (record { cuts = cs; pattern = record { order = 0 ∷ (o ++ (suc m ∷ [])); mask = mask } }) r)
-      + path (P .leg) (last-of (P .depot) head) (flatten (placed 0 (segments 0 cs r) (upfrom 1 m)) ++ (first-of tail (P .depot) ∷ []))
-      ≡ tour-length P r + path (P .leg) (last-of (P .depot) head) (flatten (placed mask (segments 0 cs r) o) ++ (first-of tail (P .depot) ∷ []))
+      + path (P .leg) (last-of (P .depot) head) (flatten (placed 0 (segments 0 cs r) (upfrom 1 m)) ++ (first-of tail (P .end) ∷ []))
+      ≡ tour-length P r + path (P .leg) (last-of (P .depot) head) (flatten (placed mask (segments 0 cs r) o) ++ (first-of tail (P .end) ∷ []))
   unfolding reconnected
   move-delta o mask h t =
       omega (
@@ -128,15 +128,15 @@ module _ (P : Problem) (cs r : List ℕ) (m : ℕ) (many : length cs ≡ suc m) 
   -- The lengths after and before differ as what the two middles add up to.
   pub delta-through : (o : List ℕ) (mask : ℕ) → ((g : ℕ → ℕ) → total g o ≡ total g (upfrom 1 m)) → reverses mask 0 ≡ false → reverses mask (suc m) ≡ false →
       tour-length P (reconnected (record { cuts = cs; pattern = record { order = 0 ∷ (o ++ (suc m ∷ [])); mask = mask } }) r)
-      + through (P .leg) (last-of (P .depot) (getD (segments 0 cs r) 0 [])) (placed 0 (segments 0 cs r) (upfrom 1 m)) (first-of (getD (segments 0 cs r) (suc m) []) (P .depot))
+      + through (P .leg) (last-of (P .depot) (getD (segments 0 cs r) 0 [])) (placed 0 (segments 0 cs r) (upfrom 1 m)) (first-of (getD (segments 0 cs r) (suc m) []) (P .end))
       ≡ tour-length P r
-      + through (P .leg) (last-of (P .depot) (getD (segments 0 cs r) 0 [])) (placed mask (segments 0 cs r) o) (first-of (getD (segments 0 cs r) (suc m) []) (P .depot))
+      + through (P .leg) (last-of (P .depot) (getD (segments 0 cs r) 0 [])) (placed mask (segments 0 cs r) o) (first-of (getD (segments 0 cs r) (suc m) []) (P .end))
   delta-through o mask s h t =
       omega (
         arith,
-        through-path (P .leg) (last-of (P .depot) (getD (segments 0 cs r) 0 [])) (placed 0 (segments 0 cs r) (upfrom 1 m)) (first-of (getD (segments 0 cs r) (suc m) []) (P .depot))
+        through-path (P .leg) (last-of (P .depot) (getD (segments 0 cs r) 0 [])) (placed 0 (segments 0 cs r) (upfrom 1 m)) (first-of (getD (segments 0 cs r) (suc m) []) (P .end))
             (full-placed 0 (segments 0 cs r) (upfrom 1 m) (λ i j. filled i (in-range (upfrom 1 m) 1 m (λ g. refl) i j))),
-        through-path (P .leg) (last-of (P .depot) (getD (segments 0 cs r) 0 [])) (placed mask (segments 0 cs r) o) (first-of (getD (segments 0 cs r) (suc m) []) (P .depot))
+        through-path (P .leg) (last-of (P .depot) (getD (segments 0 cs r) 0 [])) (placed mask (segments 0 cs r) o) (first-of (getD (segments 0 cs r) (suc m) []) (P .end))
             (full-placed mask (segments 0 cs r) o (λ i j. filled i (in-range o 1 m s i j))),
         move-delta P cs r (length r) m many rising o mask h t,
       )
@@ -161,8 +161,8 @@ ltb-shift a b x y e = by (decLt y x)
 pub shorter-iff : (P : Problem) (cs r : List ℕ) (m : ℕ) → length cs ≡ suc m → Rising 0 cs (length r) → (p : Pattern) (s : Shape m p) →
     ltb (tour-length P (reconnected (record { cuts = cs; pattern = p }) r)) (tour-length P r)
     ≡ ltb
-    (through (P .leg) (last-of (P .depot) (getD (segments 0 cs r) 0 [])) (placed (p .mask) (segments 0 cs r) (s .middle)) (first-of (getD (segments 0 cs r) (suc m) []) (P .depot)))
-    (through (P .leg) (last-of (P .depot) (getD (segments 0 cs r) 0 [])) (placed 0 (segments 0 cs r) (upfrom 1 m)) (first-of (getD (segments 0 cs r) (suc m) []) (P .depot)))
+    (through (P .leg) (last-of (P .depot) (getD (segments 0 cs r) 0 [])) (placed (p .mask) (segments 0 cs r) (s .middle)) (first-of (getD (segments 0 cs r) (suc m) []) (P .end)))
+    (through (P .leg) (last-of (P .depot) (getD (segments 0 cs r) 0 [])) (placed 0 (segments 0 cs r) (upfrom 1 m)) (first-of (getD (segments 0 cs r) (suc m) []) (P .end)))
 shorter-iff P cs r m many rising p s =
     rw (s .is)
     (ltb-shift _ _ _ _ (delta-through P cs r m many rising (s .middle) (2 * s .bits) (s .once) (even-head (s .bits)) (small-tail (2 * s .bits) (suc m) (omega (arith, s .few, pow-suc 2 m)))))

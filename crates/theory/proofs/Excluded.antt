@@ -93,6 +93,7 @@ U =
       latest = λ a. far;
       service = λ a. 0;
       depot = 0;
+      end = 0;
     }
 
 two-improvements : polish U 3 1000 (1 ∷ 2 ∷ 3 ∷ []) ≡ record { finished = true; examined = 41; accepted = 2; route = 2 ∷ 3 ∷ 1 ∷ [] }

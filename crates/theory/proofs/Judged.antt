@@ -8,8 +8,8 @@ use lib.Dec.{leb, ltb, eqb}
 use lib.ListN.{length, getD}
 use borrow.Author.Tests.{ltb-false, leb-false, ltb-true, eqb-true, not-false}
 use Rattle.theory.specs.Moves.{patterns, Rising}
-use Rattle.theory.specs.Tables.{Tables, LegTable, Times, Stops, Measurable, CutSet}
-use Rattle.theory.specs.Refusals.{any, rises, cut-count, leg-table, deadline-list, leg-sizes, service-list, known-stops, stop-count, pattern-index, cut-positions, room}
+use Rattle.theory.specs.Tables.{Tables, LegTable, Times, Stops, Followable, Measurable, Clocked, Timed, Trip, CutSet}
+use Rattle.theory.specs.Refusals.{any, rises, cut-count, leg-table, deadline-list, leg-sizes, service-list, known-stops, known-end, stop-count, pattern-index, cut-positions, room}
 
 pub and-true : (a b : Bool) → (a && b) ≡ true → (a ≡ true) × (b ≡ true)
 and-true true b e = (refl, e)
@@ -53,12 +53,32 @@ stops-fine locations depot route e f =
       record { short = ltb-false 512 (length route) f; known = λ i h. leb-false locations (getD route i 0) (none-at (λ s. leb locations s) route (p .1) i h) },
     )
 
-pub measurable-fine : (locations : ℕ) (legs : List ℕ) (depot : ℕ) (route : List ℕ) →
+pub followable-fine : (locations : ℕ) (legs : List ℕ) (depot : ℕ) (route : List ℕ) →
     leg-table locations legs .1 ≡ false → leg-sizes legs .1 ≡ false → known-stops locations depot route .1 ≡ false → stop-count (length route) .1 ≡ false →
-    Measurable locations legs depot route
-measurable-fine locations legs depot route a b c d =
+    Followable locations legs depot route
+followable-fine locations legs depot route a b c d =
     let p = stops-fine locations depot route c d in
     record { table = table-fine locations legs a b; depot-known = p .0; stops = p .1 }
+
+-- To a known end a route that can be followed can be measured.
+pub to-end : {locations depot end : ℕ} {legs route : List ℕ} → Followable locations legs depot route → end < locations → Measurable locations legs depot end route
+to-end f e = record { table = f .table; depot-known = f .depot-known; end-known = e; stops = f .stops }
+
+pub measurable-fine : (locations : ℕ) (legs : List ℕ) (depot end : ℕ) (route : List ℕ) →
+    leg-table locations legs .1 ≡ false → leg-sizes legs .1 ≡ false → known-stops locations depot route .1 ≡ false → known-end locations end .1 ≡ false →
+    stop-count (length route) .1 ≡ false → Measurable locations legs depot end route
+measurable-fine locations legs depot end route a b c e d = to-end (followable-fine locations legs depot route a b c d) (leb-false locations end e)
+
+-- What is asked of the stops and the deadlines alone.
+pub followed : {locations depot end : ℕ} {legs route : List ℕ} → Measurable locations legs depot end route → Followable locations legs depot route
+followed m = record { table = m .table; depot-known = m .depot-known; stops = m .stops }
+
+pub clocked : {T : Trip} {route : List ℕ} → Timed T route → Clocked (T .tables) (T .depot) route
+clocked t = record { followable = followed (t .measurable); times = t .times }
+
+-- A closed tour.
+pub closed : {T : Tables} {depot : ℕ} {route : List ℕ} → Clocked T depot route → Timed (record { tables = T; depot = depot; end = depot }) route
+closed c = record { measurable = to-end (c .followable) (c .followable .depot-known); times = c .times }
 
 pub times-fine : (T : Tables) → deadline-list (T .locations) (T .latest) .1 ≡ false → service-list (T .locations) (T .service) .1 ≡ false → Times T
 times-fine T e f =

@@ -19,6 +19,7 @@ pub mod Cuts
 pub mod Stops
 pub mod Refusals
 pub mod LastRule
+pub mod Implied
 pub mod Taken
 pub mod Judged
 pub mod ForK

@@ -38,11 +38,11 @@ count-links x y a [] = refl
 count-links x y a (z ∷ l) = ap (λ n. cond (joins x y (a, z)) 1 0 + n) (count-links x y z l)
 
 abbrev counting : ℕ → ℕ → Problem → Problem
-counting x y P = record { leg = one-of x y; latest = P .latest; service = P .service; depot = P .depot }
+counting x y P = record { leg = one-of x y; latest = P .latest; service = P .service; depot = P .depot; end = P .end }
 
 count-tour : (x y : ℕ) (P : Problem) (r : List ℕ) → link-count x y (tour-links P r) ≡ tour-length (counting x y P) r
 unfolding tour-links tour-length
-count-tour x y P r = count-links x y (P .depot) (r ++ (P .depot ∷ []))
+count-tour x y P r = count-links x y (P .depot) (r ++ (P .end ∷ []))
 
 -- ---- the legs inside a part do not depend on its direction
 
@@ -85,8 +85,8 @@ nth-link a (x ∷ l) (suc c) h = nth-link x l c (omega arith)
 pub tour-link : (P : Problem) (r : List ℕ) (c : ℕ) → c ≤ length r → getD (tour-links P r) c (0, 0) ≡ cut-link P r c
 unfolding tour-links cut-link
 tour-link P r c h =
-    nth-link (P .depot) (r ++ (P .depot ∷ [])) c (simp length-append (omega arith))
-    ∙ ap (λ s. (s, getD (r ++ (P .depot ∷ [])) c 0)) (List·getD-append (P .depot ∷ r) (P .depot ∷ []) 0 c (omega arith))
+    nth-link (P .depot) (r ++ (P .end ∷ [])) c (simp length-append (omega arith))
+    ∙ ap (λ s. (s, getD (r ++ (P .end ∷ [])) c 0)) (List·getD-append (P .depot ∷ r) (P .end ∷ []) 0 c (omega arith))
 
 -- They stand in the tour, each at its place.
 fewer : (x y i : ℕ) (ls : List (ℕ × ℕ)) → link-count x y (drop i ls) ≤ link-count x y ls
@@ -102,7 +102,7 @@ length-links a (x ∷ l) = ap suc (length-links x l)
 
 length-tour-links : (P : Problem) (r : List ℕ) → length (tour-links P r) ≡ length r + 1
 unfolding tour-links
-length-tour-links P r = length-links (P .depot) (r ++ (P .depot ∷ [])) ∙ length-append r (P .depot ∷ [])
+length-tour-links P r = length-links (P .depot) (r ++ (P .end ∷ [])) ∙ length-append r (P .end ∷ [])
 
 from-cut : (P : Problem) (r : List ℕ) (low c : ℕ) → low ≤ c → c ≤ length r → drop (c - low) (drop low (tour-links P r)) ≡ cut-link P r c ∷ drop (suc c) (tour-links P r)
 from-cut P r low c h k =
@@ -143,17 +143,17 @@ last-slice a (suc s) (suc t) (x ∷ r) h k = last-slice x s t r (omega arith) (o
 -- The links between the segments as they stand are those at the cuts.
 standing : (P : Problem) (r : List ℕ) (qs : List (List ℕ)) (f n c : ℕ) (cs : List ℕ) → f + length cs ≡ n → c ≤ length r → Rising (suc c) cs (length r) →
     ((i : ℕ) → getD qs (f + i) [] ≡ getD (segments c cs r) i []) →
-    joints (getD (P .depot ∷ r) c 0) (placed 0 qs (upfrom f (length cs))) (first-of (getD qs n []) (P .depot)) ≡ cut-links P r (c ∷ cs)
+    joints (getD (P .depot ∷ r) c 0) (placed 0 qs (upfrom f (length cs))) (first-of (getD qs n []) (P .end)) ≡ cut-links P r (c ∷ cs)
 unfolding joints placed upfrom segments cut-links cut-link reverse-if
-standing P r qs f n c [] e h i g = rw (← e, g 0, first-drop (P .depot) c r h)
+standing P r qs f n c [] e h i g = rw (← e, g 0, first-drop (P .end) c r h)
 standing P r qs f n c (c′ ∷ cs) e h i g =
     let s : getD qs f [] ≡ slice c c′ r = ap (λ n. getD qs n []) (sym (add-zero f)) ∙ g 0 in
-    rw (straight f, s, last-slice (P .depot) c c′ r (omega arith) (i .1), first-slice (getD (P .depot ∷ r) c 0) (P .depot) c c′ r (i .0) (i .1))
+    rw (straight f, s, last-slice (P .depot) c c′ r (omega arith) (i .1), first-slice (getD (P .depot ∷ r) c 0) (P .end) c c′ r (i .0) (i .1))
     (ap (λ ls. cut-link P r c ∷ ls)
     (standing P r qs (suc f) n c′ cs (omega arith) (i .1) (i .2) (λ j. ap (λ n. getD qs n []) (suc-add f j ∙ sym (add-suc f j)) ∙ g (suc j))))
 
 old-joints : (P : Problem) (cs r : List ℕ) (m : ℕ) → length cs ≡ suc m → Rising 0 cs (length r) →
-    joints (last-of (P .depot) (getD (segments 0 cs r) 0 [])) (placed 0 (segments 0 cs r) (upfrom 1 m)) (first-of (getD (segments 0 cs r) (suc m) []) (P .depot))
+    joints (last-of (P .depot) (getD (segments 0 cs r) 0 [])) (placed 0 (segments 0 cs r) (upfrom 1 m)) (first-of (getD (segments 0 cs r) (suc m) []) (P .end))
     ≡ cut-links P r cs
 unfolding segments
 old-joints P [] r m h i = absurd (omega arith)
@@ -168,11 +168,11 @@ links-exchanged : (P : Problem) (cs r : List ℕ) (m : ℕ) → length cs ≡ su
     (o : List ℕ) (mask : ℕ) → ((g : ℕ → ℕ) → total g o ≡ total g (upfrom 1 m)) → reverses mask 0 ≡ false → reverses mask (suc m) ≡ false → (x y : ℕ) →
     link-count x y (tour-links P (reconnected (record { cuts = cs; pattern = record { order = 0 ∷ (o ++ (suc m ∷ [])); mask = mask } }) r)) + link-count x y (cut-links P r cs)
     ≡ link-count x y (tour-links P r)
-    + link-count x y (joints (last-of (P .depot) (getD (segments 0 cs r) 0 [])) (placed mask (segments 0 cs r) o) (first-of (getD (segments 0 cs r) (suc m) []) (P .depot)))
+    + link-count x y (joints (last-of (P .depot) (getD (segments 0 cs r) 0 [])) (placed mask (segments 0 cs r) o) (first-of (getD (segments 0 cs r) (suc m) []) (P .end)))
 links-exchanged P cs r m many rising o mask once h t x y =
     let q = segments 0 cs r in
     let a = last-of (P .depot) (getD q 0 []) in
-    let e = first-of (getD q (suc m) []) (P .depot) in
+    let e = first-of (getD q (suc m) []) (P .end) in
     omega (
       arith,
       delta-through (counting x y P) cs r m many rising o mask once h t,

@@ -15,10 +15,10 @@ unfoldable pub links : ℕ → List ℕ → List (ℕ × ℕ)
 links a [] = []
 links a (x ∷ xs) = (a, x) ∷ links x xs
 
--- "Depot to first stop, each leg, last stop to depot."
+-- "Depot to stops to end harbour."
 unfoldable pub tour-links : Problem → List ℕ → List (ℕ × ℕ)
 unfolding links
-tour-links P r = links (P .depot) (r ++ (P .depot ∷ []))
+tour-links P r = links (P .depot) (r ++ (P .end ∷ []))
 
 -- A link joins x and y, in either direction.
 abbrev pub joins : ℕ → ℕ → ℕ × ℕ → Bool
@@ -29,9 +29,9 @@ unfoldable pub link-count : ℕ → ℕ → List (ℕ × ℕ) → ℕ
 link-count x y [] = 0
 link-count x y (l ∷ ls) = cond (joins x y l) 1 0 + link-count x y ls
 
--- "Cut p lies before position p": the link from the stop before it, or the depot, to the stop at it, or the depot.
+-- "Cut p lies before position p": the link from the stop before it, or the depot, to the stop at it, or the end harbour.
 unfoldable pub cut-link : Problem → List ℕ → ℕ → ℕ × ℕ
-cut-link P r c = (getD (P .depot ∷ r) c 0, getD (r ++ (P .depot ∷ [])) c 0)
+cut-link P r c = (getD (P .depot ∷ r) c 0, getD (r ++ (P .end ∷ [])) c 0)
 
 unfoldable pub cut-links : Problem → List ℕ → List ℕ → List (ℕ × ℕ)
 unfolding cut-link
@@ -53,7 +53,7 @@ unfolding joints segments placed
 new-links P r m =
     joints (last-of (P .depot) (getD (segments 0 (m .cuts) r) 0 []))
     (placed (m .pattern .mask) (segments 0 (m .cuts) r) (middle-of (m .pattern)))
-    (first-of (getD (segments 0 (m .cuts) r) (length (m .cuts)) []) (P .depot))
+    (first-of (getD (segments 0 (m .cuts) r) (length (m .cuts)) []) (P .end))
 
 -- The move takes k links out of the tour, which stood in it, and puts k in; the other links stay.
 pub record Exchanged (k : ℕ) (P : Problem) (r : List ℕ) (m : Move) : Type 0 where

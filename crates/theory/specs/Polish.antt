@@ -24,8 +24,8 @@ polish P k = polish-with P (patterns k) k
 abbrev pub move-at : List Pattern → List ℕ → ℕ → Move
 move-at ps cuts index = record { cuts = cuts; pattern = getD ps index (record { order = []; mask = 0 }) }
 
--- "Whichever k cuts and whichever pattern of document 01 the rival takes, the rejoined round doesn't keep every deadline or, as a closed tour from the
--- depot, is at least as long as the one the rival holds": k-optimal among the feasible routes.
+-- "Whichever k cuts and whichever pattern of document 01 the rival takes, the rejoined round doesn't keep every deadline or .. is at least as long as the
+-- one the rival holds", where the rival "shares the end harbour and compares lengths of this kind": k-optimal among the feasible routes.
 abbrev pub KOptimal : Problem → List Pattern → ℕ → List ℕ → Type 0
 KOptimal P ps k r =
     (cs : List ℕ) → length cs ≡ k → Rising 0 cs (length r) → (p : Pattern) → List·Memᴰ p ps →

@@ -4,7 +4,7 @@ use Prim.Native.Nat.{ℕ}
 use Rattle.theory.specs.Scan.{Reply}
 use Rattle.theory.specs.Polish.{polish}
 use Rattle.theory.specs.Tables.{Trip, problem, trip}
-use Rattle.theory.specs.Refusals.{Rule, cut-count, problem-rules}
+use Rattle.theory.specs.Refusals.{Rule, cut-count, trip-rules}
 
 pub record Question : Type 0 where
   pub k : ℕ
@@ -12,12 +12,13 @@ pub record Question : Type 0 where
   pub trip : Trip
   pub route : List ℕ
 
-abbrev pub question : (k allowance locations : ℕ) → (legs latest service : List ℕ) → ℕ → List ℕ → Question
-question k allowance locations legs latest service depot route = record { k = k; allowance = allowance; trip = trip locations legs latest service depot; route = route }
+abbrev pub question : (k allowance locations : ℕ) → (legs latest service : List ℕ) → (depot end : ℕ) → List ℕ → Question
+question k allowance locations legs latest service depot end route =
+    record { k = k; allowance = allowance; trip = trip locations legs latest service depot end; route = route }
 
 -- The rules by which it is refused.
 abbrev pub question-rules : Question → List Rule
-question-rules q = cut-count (q .k) ∷ problem-rules (q .trip) (q .route)
+question-rules q = cut-count (q .k) ∷ trip-rules (q .trip) (q .route)
 
 -- Document 01's scan of it.
 abbrev pub asked : Question → Reply (List ℕ)

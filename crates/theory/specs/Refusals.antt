@@ -47,6 +47,10 @@ service-list locations service = (23, not (eqb (length service) locations) || an
 abbrev pub known-stops : ℕ → ℕ → List ℕ → Rule
 known-stops locations depot route = (4, leb locations depot || any (λ s. leb locations s) route)
 
+-- "24, end harbour not below the locations, after 4 and before 5."
+abbrev pub known-end : ℕ → ℕ → Rule
+known-end locations end = (24, leb locations end)
+
 -- "5: a round or n above 512 .."
 abbrev pub stop-count : ℕ → Rule
 stop-count n = (5, ltb 512 n)
@@ -65,6 +69,13 @@ round-lists lengths depots pins stops = (
       || not (eqb (length pins) (length lengths))
       || not (eqb (total (λ n. n) lengths) stops),
 )
+
+-- 24 and 5 of the end harbours of a run.
+abbrev pub known-ends : ℕ → List ℕ → Rule
+known-ends locations ends = (24, any (λ e. leb locations e) ends)
+
+abbrev pub end-list : List ℕ → List ℕ → Rule
+end-list lengths ends = (5, not (eqb (length ends) (length lengths)))
 
 -- "6: pattern index not below the count for k."
 abbrev pub pattern-index : ℕ → ℕ → Rule
@@ -133,9 +144,14 @@ refusal rs = first-in order rs
 abbrev pub if-taken : {A : Type 0} → List Rule → A → A → A
 if-taken rules a b = cond (eqb (refusal rules) 0) a b
 
--- The rules of the tables, and with the depot and a route.
+-- The rules of the tables; with the depot and a route; and with the end harbour.
 abbrev pub table-rules : Tables → List Rule
 table-rules T = leg-table (T .locations) (T .legs) ∷ deadline-list (T .locations) (T .latest) ∷ leg-sizes (T .legs) ∷ service-list (T .locations) (T .service) ∷ []
 
-abbrev pub problem-rules : Trip → List ℕ → List Rule
-problem-rules T route = table-rules (T .tables) ++ (known-stops (T .tables .locations) (T .depot) route ∷ stop-count (length route) ∷ [])
+abbrev pub problem-rules : Tables → (depot : ℕ) → List ℕ → List Rule
+problem-rules T depot route = table-rules T ++ (known-stops (T .locations) depot route ∷ stop-count (length route) ∷ [])
+
+abbrev pub trip-rules : Trip → List ℕ → List Rule
+trip-rules T route =
+    table-rules (T .tables)
+    ++ (known-stops (T .tables .locations) (T .depot) route ∷ known-end (T .tables .locations) (T .end) ∷ stop-count (length route) ∷ [])

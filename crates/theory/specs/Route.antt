@@ -39,22 +39,24 @@ unfoldable pub count : ℕ → List ℕ → ℕ
 unfolding total
 count x r = total (λ y. cond (eqb x y) 1 0) r
 
--- What "the polisher, and a rival planner" share beside k: "the leg table, the deadlines, the depot"; and "each location gets a service time in seconds".
+-- What "the polisher, and a rival planner" share beside k: "the leg table, the deadlines, the depot"; "each location gets a service time in seconds"; "each round
+-- carries an end harbour beside its depot", and the rival "shares the end harbour".
 pub record Problem : Type 0 where
   pub leg : ℕ → ℕ → ℕ
   pub latest : ℕ → ℕ
   pub service : ℕ → ℕ
   pub depot : ℕ
+  pub end : ℕ
 
 -- The legs from a along the stops.
 unfoldable pub path : (ℕ → ℕ → ℕ) → ℕ → List ℕ → ℕ
 path d a [] = 0
 path d a (x ∷ xs) = d a x + path d x xs
 
--- "Length means depot to first stop, each leg, last stop to depot; an empty round has the leg depot to depot."
+-- "Length becomes depot to stops to end harbour, and an empty round has the one leg."
 unfoldable pub tour-length : Problem → List ℕ → ℕ
 unfolding path
-tour-length P r = path (P .leg) (P .depot) (r ++ (P .depot ∷ []))
+tour-length P r = path (P .leg) (P .depot) (r ++ (P .end ∷ []))
 
 -- What decides whether a stop is late, wherever the boat sets out.
 pub record Timetable : Type 0 where

@@ -4,7 +4,7 @@ use mathlib.Core.List.{List, [], _∷_, _++_}
 use Prim.Native.Nat.{ℕ}
 use lib.ListN.{length, getD}
 use Rattle.theory.specs.Moves.{patterns, cut-sets}
-use Rattle.theory.specs.Route.{Problem, timely}
+use Rattle.theory.specs.Route.{Problem, timely, tour-length}
 use Rattle.theory.specs.Tables.{tables, timetable-by}
 use Rattle.theory.specs.Polish.{polish}
 use Rattle.theory.specs.Answers.{six-numbers}
@@ -15,16 +15,33 @@ pub data Ask : Type 0 where
   how-many-cut-sets : (k stops : ℕ) → Ask
   kept : (latest service route : List ℕ) → Ask
   T-with : (k allowance : ℕ) (latest service : List ℕ) → Ask
+  T-ending-at : (end : ℕ) → Ask
+  empty-round-to : (end : ℕ) → Ask
 
--- The text case of document 01, with the deadlines and service times given.
-abbrev pub T : (latest service : List ℕ) → Problem
-T latest service =
+-- The text case of document 01, with the end harbour, deadlines and service times given.
+abbrev pub T-to : (end : ℕ) (latest service : List ℕ) → Problem
+T-to end latest service =
     record {
       leg = λ a b. getD (getD ((0 ∷ 5 ∷ 1 ∷ []) ∷ (1 ∷ 0 ∷ 5 ∷ []) ∷ (5 ∷ 1 ∷ 0 ∷ []) ∷ []) a []) b 0;
       latest = λ a. getD latest a 0;
       service = λ a. getD service a 0;
       depot = 0;
+      end = end;
     }
+
+-- "T carries 0 there."
+abbrev pub T : (latest service : List ℕ) → Problem
+T = T-to 0
+
+abbrev pub far : ℕ
+far = 4294967295
+
+-- No time on any lamp.
+abbrev pub none : List ℕ
+none = 0 ∷ 0 ∷ 0 ∷ []
+
+abbrev six-and-route : Problem → (k allowance : ℕ) → List ℕ
+six-and-route P k a = (let q = polish P k a (1 ∷ 2 ∷ []) in six-numbers P (1 ∷ 2 ∷ []) q ++ q .route)
 
 -- What the definitions answer: a pattern's mask and order; a number; polishing's six numbers and the route.
 unfoldable pub answer : Ask → List ℕ
@@ -33,14 +50,9 @@ answer (pattern k i) = let p = getD (patterns k) i (record { order = []; mask = 
 answer (how-many-patterns k) = length (patterns k) ∷ []
 answer (how-many-cut-sets k n) = length (cut-sets k n) ∷ []
 answer (kept l s r) = cond (timely (timetable-by (tables 2 (1 ∷ 1 ∷ 1 ∷ 1 ∷ []) l s)) 0 r) 1 0 ∷ []
-answer (T-with k a l s) = (let q = polish (T l s) k a (1 ∷ 2 ∷ []) in six-numbers (T l s) (1 ∷ 2 ∷ []) q ++ q .route)
-
-abbrev pub far : ℕ
-far = 4294967295
-
--- No time on any lamp.
-abbrev pub none : List ℕ
-none = 0 ∷ 0 ∷ 0 ∷ []
+answer (T-with k a l s) = six-and-route (T l s) k a
+answer (T-ending-at e) = six-and-route (T-to e (far ∷ far ∷ far ∷ []) none) 3 100
+answer (empty-round-to e) = tour-length (T-to e (far ∷ far ∷ far ∷ []) none) [] ∷ []
 
 abbrev pub runs : List (Ask × List ℕ)
 runs =
@@ -80,4 +92,8 @@ runs =
     -- Ten seconds at stop 2: the legs up to stop 1 behind it are 2, and it is reached at second 12.
     ∷ (T-with 3 100 (far ∷ 11 ∷ far ∷ []) (0 ∷ 0 ∷ 10 ∷ []), 0 ∷ 7 ∷ 0 ∷ 15 ∷ 15 ∷ 2 ∷ 1 ∷ 2 ∷ [])
     ∷ (T-with 3 100 (far ∷ 12 ∷ far ∷ []) (0 ∷ 0 ∷ 10 ∷ []), 0 ∷ 11 ∷ 1 ∷ 15 ∷ 3 ∷ 2 ∷ 2 ∷ 1 ∷ [])
+    -- Another end harbour; the one leg of an empty round; an end harbour's own deadline and service play no part.
+    ∷ (T-ending-at 1, 0 ∷ 11 ∷ 1 ∷ 11 ∷ 2 ∷ 2 ∷ 2 ∷ 1 ∷ [])
+    ∷ (empty-round-to 1, 5 ∷ [])
+    ∷ (T-with 3 100 (0 ∷ far ∷ far ∷ []) (9 ∷ 0 ∷ 0 ∷ []), 0 ∷ 11 ∷ 1 ∷ 15 ∷ 3 ∷ 2 ∷ 2 ∷ 1 ∷ [])
     ∷ []

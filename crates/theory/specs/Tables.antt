@@ -17,23 +17,25 @@ pub record Tables : Type 0 where
 abbrev pub tables : ℕ → List ℕ → List ℕ → List ℕ → Tables
 tables locations legs latest service = record { locations = locations; legs = legs; latest = latest; service = service }
 
--- What one boat's round is planned by: the tables, and where it sets out and ends.
+-- What one boat's round is planned by: the tables, where it sets out, and where it ends. A closed tour ends at its depot.
 pub record Trip : Type 0 where
   pub tables : Tables
   pub depot : ℕ
+  pub end : ℕ
 
-abbrev pub trip : ℕ → List ℕ → List ℕ → List ℕ → ℕ → Trip
-trip locations legs latest service depot = record { tables = tables locations legs latest service; depot = depot }
+abbrev pub trip : ℕ → List ℕ → List ℕ → List ℕ → (depot end : ℕ) → Trip
+trip locations legs latest service depot end = record { tables = tables locations legs latest service; depot = depot; end = end }
 
--- What the boats of a run are lent: rounds "whose stops lie end to end, with a length, a depot and a pin byte for each".
+-- What the boats of a run are lent: rounds "whose stops lie end to end, with a length, a depot and a pin byte for each", and an end harbour for each.
 pub record Fleet : Type 0 where
   pub stops : List ℕ
   pub lengths : List ℕ
   pub depots : List ℕ
+  pub ends : List ℕ
   pub pins : List ℕ
 
-abbrev pub fleet : (stops lengths depots pins : List ℕ) → Fleet
-fleet stops lengths depots pins = record { stops = stops; lengths = lengths; depots = depots; pins = pins }
+abbrev pub fleet : (stops lengths depots ends pins : List ℕ) → Fleet
+fleet stops lengths depots ends pins = record { stops = stops; lengths = lengths; depots = depots; ends = ends; pins = pins }
 
 abbrev pub timetable-by : Tables → Timetable
 timetable-by T = record { leg = λ a b. getD (T .legs) (a * T .locations + b) 0; latest = λ a. getD (T .latest) a 0; service = λ a. getD (T .service) a 0 }
@@ -43,11 +45,11 @@ clock-by T = clock (timetable-by T)
 
 -- Its timetable is the one above, by computation.
 abbrev pub problem : Trip → Problem
-problem T = let B = timetable-by (T .tables) in record { leg = B .leg; latest = B .latest; service = B .service; depot = T .depot }
+problem T = let B = timetable-by (T .tables) in record { leg = B .leg; latest = B .latest; service = B .service; depot = T .depot; end = T .end }
 
 -- The same where no deadline is read.
-abbrev pub legs-only : ℕ → List ℕ → ℕ → Problem
-legs-only locations legs depot = problem (trip locations legs [] [] depot)
+abbrev pub legs-only : ℕ → List ℕ → (depot end : ℕ) → Problem
+legs-only locations legs depot end = problem (trip locations legs [] [] depot end)
 
 pub record LegTable (locations : ℕ) (legs : List ℕ) : Type 0 where
   pub few : locations ≤ 1024
@@ -58,10 +60,17 @@ pub record Stops (locations : ℕ) (route : List ℕ) : Type 0 where
   pub short : length route ≤ 512
   pub known : (i : ℕ) → i < length route → getD route i 0 < locations
 
--- A route whose length can be read off the table.
-pub record Measurable (locations : ℕ) (legs : List ℕ) (depot : ℕ) (route : List ℕ) : Type 0 where
+-- A route that can be followed from the depot to its last stop.
+pub record Followable (locations : ℕ) (legs : List ℕ) (depot : ℕ) (route : List ℕ) : Type 0 where
   pub table : LegTable locations legs
   pub depot-known : depot < locations
+  pub stops : Stops locations route
+
+-- A route whose length can be read off the table: to the end harbour.
+pub record Measurable (locations : ℕ) (legs : List ℕ) (depot end : ℕ) (route : List ℕ) : Type 0 where
+  pub table : LegTable locations legs
+  pub depot-known : depot < locations
+  pub end-known : end < locations
   pub stops : Stops locations route
 
 -- A deadline and a service time for each location.
@@ -70,9 +79,14 @@ pub record Times (T : Tables) : Type 0 where
   pub services : length (T .service) ≡ T .locations
   pub brief : (i : ℕ) → getD (T .service) i 0 ≤ 1000000
 
--- A route whose deadlines can be read as well.
+-- A route whose deadlines can be read: the end harbour has none, and plays no part.
+pub record Clocked (T : Tables) (depot : ℕ) (route : List ℕ) : Type 0 where
+  pub followable : Followable (T .locations) (T .legs) depot route
+  pub times : Times T
+
+-- A route whose length and deadlines can be read.
 pub record Timed (T : Trip) (route : List ℕ) : Type 0 where
-  pub measurable : Measurable (T .tables .locations) (T .tables .legs) (T .depot) route
+  pub measurable : Measurable (T .tables .locations) (T .tables .legs) (T .depot) (T .end) route
   pub times : Times (T .tables)
 
 -- k cuts of a route of n stops.

@@ -1,5 +1,6 @@
 //! The oracle itself, on the runs of document 01 whose numbers it gives, and on the text case with a time spent at a stop and with late stops.
 
+use crate::cases::ends;
 use crate::cases::polish::Case;
 use crate::nearby::document_case as nearby_case;
 use crate::pairs::document::document_case as pair_case;
@@ -35,6 +36,10 @@ pub fn fault() -> Option<String> {
             "the text case, 2 due at 0",
             text(late_text_case(u32::MAX, 0)) == ([0, 7, 0, 15, 15, 1], vec![1, 2]),
         ),
+        (
+            "the text case to location 1",
+            text_to_1() == ([0, 11, 1, 11, 2, 2], vec![2, 1]),
+        ),
         ("the pair loop", pair_loop()),
         (
             "the pair case by polishing",
@@ -59,8 +64,16 @@ pub fn fault() -> Option<String> {
     wrong.map(|check| String::from(check.0))
 }
 
+fn text_to_1() -> ([u64; 6], Vec<u64>) {
+    let closed = text_case(100);
+    numbers(ends::Case { closed, end: 1 }.expected())
+}
+
 fn text(case: Case) -> ([u64; 6], Vec<u64>) {
-    let Reply { lent, .. } = case.expected();
+    numbers(case.expected())
+}
+
+fn numbers(Reply { lent, .. }: Reply) -> ([u64; 6], Vec<u64>) {
     let mut numbers = [0; 6];
     numbers.copy_from_slice(&lent[1].1);
     (numbers, lent[0].1.clone())

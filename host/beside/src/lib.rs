@@ -24,6 +24,7 @@ pub mod checks;
 mod damage;
 pub mod draw;
 pub mod driver;
+pub mod ends;
 pub use mittenschist::raw as ffi;
 pub mod lent;
 pub mod means;

@@ -39,6 +39,7 @@ pub fn share(case: &Case) -> (Counted, f64) {
         &tables.latest,
         &tables.service,
         case.depot,
+        case.depot,
         &mut route,
     );
     let (scan::theory::Polished::Finished(counts) | scan::theory::Polished::Spent(counts)) =

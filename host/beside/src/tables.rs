@@ -28,11 +28,35 @@ impl Tables {
 
     /// Depot to first stop, each leg, last stop to depot.
     pub fn length(&self, depot: u32, route: &[u32]) -> u64 {
+        self.length_to(depot, depot, route)
+    }
+
+    /// Depot to stops to end harbour; of an empty route the one leg.
+    pub fn length_to(&self, depot: u32, end: u32, route: &[u32]) -> u64 {
         let from = [depot].into_iter().chain(route.iter().copied());
-        let to = route.iter().copied().chain([depot]);
+        let to = route.iter().copied().chain([end]);
         from.zip(to)
             .map(|(from, to)| u64::from(self.leg(from as usize, to as usize)))
             .sum()
+    }
+
+    /// One more location, with the number that it has: it is left like the depot and reached like the end. A closed tour from there takes as long as the same
+    /// stops from the depot to the end, and reaches each stop as soon.
+    pub fn with_both_ends(&self, depot: u32, end: u32) -> (Self, u32) {
+        let (depot, end) = (depot as usize, end as usize);
+        let mut legs = Vec::with_capacity((self.locations + 1).pow(2));
+        for from in (0..self.locations).chain([depot]) {
+            let row = (0..self.locations).chain([end]);
+            legs.extend(row.map(|to| self.leg(from, to)));
+        }
+        let more = |list: &[u32], last| list.iter().copied().chain([last]).collect();
+        let both = Self {
+            locations: self.locations + 1,
+            legs,
+            latest: more(&self.latest, u32::MAX),
+            service: more(&self.service, 0),
+        };
+        (both, self.locations as u32)
     }
 
     /// The length, and what is spent at the stops.

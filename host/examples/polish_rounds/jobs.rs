@@ -47,7 +47,7 @@ fn polish(question: &Question, mut route: Vec<u32>) -> Outcome {
         service: &question.service,
     };
     let (k, allowance) = (question.k, question.allowance);
-    let polished = polish_route(k, allowance, &tables, question.depot, &mut route)?;
+    let polished = polish_route(k, allowance, &tables, question.harbours, &mut route)?;
     Ok((polished, route))
 }
 

@@ -153,7 +153,7 @@ mod tests {
 
     #[test]
     fn a_refused_round_does_not_end_the_file() {
-        let text = "k=3\nallowance=0\nlocations=1\ndepot=0\nlegs=7\nlatest=0\nservice=0\nround=1\nround=\n";
+        let text = "k=3\nallowance=0\nlocations=1\ndepot=0\nend=0\nlegs=7\nlatest=0\nservice=0\nround=1\nround=\n";
         let wanted = [
             "round 1: refused (4): a depot or stop is not below the number of locations",
             "round 2: 7 s before, 7 s after, 0 s saved; finished after 0 candidates; order ",
@@ -167,7 +167,7 @@ mod tests {
     /// where it is a stop. The last stop of the second round is late too.
     #[test]
     fn the_first_late_stop_and_when_it_is_reached() {
-        let text = "k=3\nallowance=9\nlocations=3\ndepot=0\nlegs=0,5,1\nlegs=1,0,5\nlegs=5,1,0\nlatest=9,5,9\nservice=7,20,0\nround=1,2\nround=1,2,1\nround=0,1\n";
+        let text = "k=3\nallowance=9\nlocations=3\ndepot=0\nend=0\nlegs=0,5,1\nlegs=1,0,5\nlegs=5,1,0\nlatest=9,5,9\nservice=7,20,0\nround=1,2\nround=1,2,1\nround=0,1\n";
         let (told, _) = lines(text, 1);
         let late = |line: &String| line.split_once("; stop ").map(|parts| parts.1.to_string());
         let late: Vec<_> = told.iter().map(late).collect();
@@ -186,7 +186,7 @@ mod tests {
     fn many_jobs_tell_what_one_tells() {
         let text: String = include_str!("rounds.txt")
             .split_inclusive('\n')
-            .take(11)
+            .take(12)
             .collect();
         let round = |number: usize| {
             let stops: Vec<String> = (0..(number * 37) % 60)

@@ -4,7 +4,7 @@
 pub const USAGE: &str = "\
 usage: polish_rounds [--jobs N] FILE
 Polishes each round of a file and says what was saved and which stop is the first that is late, a line for each round in the file's order.
-FILE has the lines k=, allowance=, locations=, depot=, a line legs= for each location, latest=, service=, and then any number of lines round=.
+FILE has the lines k=, allowance=, locations=, depot=, end=, a line legs= for each location, latest=, service=, and then any number of lines round=.
 Each round has the whole allowance. With --jobs N, N rounds are polished at a time.";
 
 #[derive(Debug, PartialEq)]

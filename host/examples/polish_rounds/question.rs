@@ -1,12 +1,13 @@
 //! The file of rounds. Its form is judged here, the lengths of its rows too; its numbers are judged by the library.
 
+use mittenschist::Harbours;
 use std::str::{FromStr, Lines};
 
 pub struct Question {
     pub k: usize,
     pub allowance: u64,
     pub locations: usize,
-    pub depot: u32,
+    pub harbours: Harbours,
     pub legs: Vec<u32>,
     pub latest: Vec<u32>,
     pub service: Vec<u32>,
@@ -69,7 +70,10 @@ impl Question {
         let k = reader.number("k")?;
         let allowance = reader.number("allowance")?;
         let locations = reader.number("locations")?;
-        let depot = reader.number("depot")?;
+        let harbours = Harbours {
+            depot: reader.number("depot")?,
+            end: reader.number("end")?,
+        };
         let mut legs = Vec::new();
         for _ in 0..locations {
             legs.extend(reader.row("legs", locations)?);
@@ -78,7 +82,7 @@ impl Question {
             k,
             allowance,
             locations,
-            depot,
+            harbours,
             legs,
             latest: reader.row("latest", locations)?,
             service: reader.row("service", locations)?,
@@ -89,7 +93,9 @@ impl Question {
     /// When the last of these stops is reached, by the legs up to it and the service at the stops before it. For stops that the library
     /// has taken.
     pub fn reached(&self, stops: &[u32]) -> u64 {
-        let from = [self.depot].into_iter().chain(stops.iter().copied());
+        let from = [self.harbours.depot]
+            .into_iter()
+            .chain(stops.iter().copied());
         let legs = from.zip(stops).map(|(from, &to)| self.leg(from, to));
         let before = stops.iter().rev().skip(1);
         let service = before.map(|&stop| self.service[stop as usize]);
@@ -131,42 +137,42 @@ mod tests {
             fault("k=2\nallowance=1\nlocations=-1\n").split(':').next(),
             Some("line 3")
         );
-        let head = "k=2\nallowance=1\nlocations=0\ndepot=0\nlatest=\nservice=\nround=1\n";
+        let head = "k=2\nallowance=1\nlocations=0\ndepot=0\nend=0\nlatest=\nservice=\nround=1\n";
         assert_eq!(Question::parse(head).unwrap().rounds, [[1]]);
         assert_eq!(
             fault(&format!("{head}rounds=2\n")),
-            "line 8: expected round="
+            "line 9: expected round="
         );
     }
 
     #[test]
     fn rows_as_long_as_there_are_locations() {
         let fault = |text: &str| Question::parse(text).err().unwrap();
-        let head = "k=2\nallowance=1\nlocations=2\ndepot=0\nlegs=0,1\n";
+        let head = "k=2\nallowance=1\nlocations=2\ndepot=0\nend=0\nlegs=0,1\n";
         assert_eq!(
             fault(&format!("{head}legs=1\n")),
-            "line 6: legs= has 1 entries, not 2 as locations= says"
+            "line 7: legs= has 1 entries, not 2 as locations= says"
         );
         assert_eq!(
             fault(&format!("{head}legs=1,0\nlatest=1,2,3\nround=1\n")),
-            "line 7: latest= has 3 entries, not 2 as locations= says"
+            "line 8: latest= has 3 entries, not 2 as locations= says"
         );
         assert_eq!(
             fault(&format!("{head}legs=1,0\nlatest=1,2\nservice=1\nround=1\n")),
-            "line 8: service= has 1 entries, not 2 as locations= says"
+            "line 9: service= has 1 entries, not 2 as locations= says"
         );
         assert_eq!(
             fault(&format!("{head}latest=1,2\n")),
-            "line 6: expected legs="
+            "line 7: expected legs="
         );
     }
 
     #[test]
     fn no_round() {
-        let text = "k=2\nallowance=1\nlocations=1\ndepot=0\nlegs=0\nlatest=1\nservice=0\n";
+        let text = "k=2\nallowance=1\nlocations=1\ndepot=0\nend=0\nlegs=0\nlatest=1\nservice=0\n";
         assert_eq!(
             Question::parse(text).err().unwrap(),
-            "line 8: expected round=, as no round was given"
+            "line 9: expected round=, as no round was given"
         );
     }
 }

@@ -115,6 +115,88 @@ fn no_service() {
     assert_eq!((returned, result), (23, [9; 6]));
 }
 
+/// The one leg, which goes to the end harbour; and an end that is no location.
+#[test]
+fn polish_an_empty_route_to_an_end() {
+    let legs = [0, 5, 7, 0];
+    let (latest, service) = ([0; 2], [0; 2]);
+    let mut result = [9; 6];
+    // SAFETY: as said above.
+    let mut polish = |end| unsafe {
+        mittenschist_polish_route_to_end(
+            2,
+            1,
+            2,
+            legs.as_ptr(),
+            4,
+            latest.as_ptr(),
+            2,
+            service.as_ptr(),
+            2,
+            0,
+            end,
+            null_mut(),
+            0,
+            result.as_mut_ptr(),
+            6,
+        )
+    };
+    assert_eq!((polish(2), polish(1)), (24, 0));
+    assert_eq!(result, [0, 0, 0, 5, 5, 0]);
+}
+
+#[test]
+fn run_no_rounds_to_no_ends() {
+    // SAFETY: as said above.
+    let returned = unsafe {
+        mittenschist_run_list_k_opt_to_ends(
+            2,
+            1,
+            1,
+            LEGS.as_ptr(),
+            1,
+            LATEST.as_ptr(),
+            1,
+            SERVICE.as_ptr(),
+            1,
+            null_mut(),
+            0,
+            null(),
+            0,
+            null(),
+            0,
+            null(),
+            0,
+            null(),
+            0,
+            null_mut(),
+            0,
+        )
+    };
+    assert_eq!(returned, 0);
+}
+
+#[test]
+fn the_length_of_nothing_to_an_end() {
+    let legs = [0, 5, 7, 0];
+    let mut result = [9; 1];
+    // SAFETY: as said above.
+    let mut length = |end| unsafe {
+        mittenschist_route_length_to_end(
+            2,
+            legs.as_ptr(),
+            4,
+            1,
+            end,
+            null(),
+            0,
+            result.as_mut_ptr(),
+            1,
+        )
+    };
+    assert_eq!((length(2), length(0), result), (24, 0, [7]));
+}
+
 #[test]
 fn run_no_rounds() {
     // SAFETY: as said above.

@@ -2,7 +2,7 @@ use crate::pools::{self, Tables};
 use crate::support::lent::{filled, filled_u32, Lent};
 use crate::support::rules::{bad_cuts, bad_k, bad_pattern, first_refusal, too_many_stops};
 use crate::support::{kept, kept_beyond, number, on_small_stack, written};
-use mittenschist::{raw, Deadline};
+use mittenschist::{raw, Deadline, Harbours};
 
 fn every_pattern() {
     for k in pools::CUT_COUNTS {
@@ -103,20 +103,23 @@ fn every_route() {
     for tables in &pools::tables() {
         for depot in pools::PLACES {
             for route in &pools::routes() {
-                check_length(tables, depot, route);
                 check_deadlines(tables, depot, route);
-                check_deltas(tables, depot, route);
+                for end in pools::ENDS {
+                    check_length(tables, depot, end, route);
+                    check_deltas(tables, depot, end, route);
+                }
             }
         }
     }
 }
 
 /// The refusals of a route on legs alone.
-fn route_rules(tables: &Tables, depot: u32, route: &[u32]) -> [(u32, bool); 4] {
+fn route_rules(tables: &Tables, depot: u32, end: Option<u32>, route: &[u32]) -> [(u32, bool); 5] {
     [
         (2, tables.bad_legs_size()),
         (3, tables.bad_leg()),
         (4, tables.unknown(&[depot], route)),
+        (24, tables.unknown_end(end)),
         (5, too_many_stops(route.len())),
     ]
 }
@@ -125,31 +128,42 @@ fn with_room(rules: &[(u32, bool)], room: usize) -> u32 {
     first_refusal(&[rules, &[(21, room < 1)]].concat())
 }
 
-fn check_length(tables: &Tables, depot: u32, stops: &[u32]) {
-    let rules = route_rules(tables, depot, stops);
+/// A closed tour where no end is handed in.
+fn harbours(depot: u32, end: Option<u32>) -> Harbours {
+    let end = end.unwrap_or(depot);
+    Harbours { depot, end }
+}
+
+fn check_length(tables: &Tables, depot: u32, end: Option<u32>, stops: &[u32]) {
+    let rules = route_rules(tables, depot, end, stops);
     for room in [0, 1, 2] {
         let before = filled(room);
         let mut legs = Lent::new("legs", &tables.legs);
         let mut route = Lent::new("route", stops);
         let mut result = Lent::new("result", &before);
-        let returned = raw::route_length(
-            tables.locations,
-            legs.slice(),
-            depot,
-            route.slice(),
-            result.slice(),
-        );
+        let (legs_lent, locations) = (legs.slice(), tables.locations);
+        let (route_lent, result_lent) = (route.slice(), result.slice());
+        let returned = match end {
+            None => raw::route_length(locations, legs_lent, depot, route_lent, result_lent),
+            Some(end) => {
+                raw::route_length_to_end(locations, legs_lent, depot, end, route_lent, result_lent)
+            }
+        };
         assert_eq!(returned, with_room(&rules, room));
         kept(&legs);
         kept(&route);
         kept_beyond(&result, &before, usize::from(returned == 0));
     }
-    let answer = mittenschist::route_length(&tables.lent(), depot, stops);
+    let harbours = harbours(depot, end);
+    let answer = mittenschist::route_length(&tables.lent(), harbours, stops);
     assert_eq!(number(answer), first_refusal(&rules));
+    if let Ok(seconds) = answer {
+        assert_eq!(seconds, tables.length(depot, harbours.end, stops));
+    }
 }
 
 fn check_deadlines(tables: &Tables, depot: u32, stops: &[u32]) {
-    let [_, leg, unknown, stop_count] = route_rules(tables, depot, stops);
+    let [_, leg, unknown, _, stop_count] = route_rules(tables, depot, None, stops);
     let (size, service) = ((2, tables.bad_size()), (23, tables.bad_service()));
     let rules = [size, leg, service, unknown, stop_count];
     for room in [0, 1, 2] {
@@ -189,10 +203,10 @@ fn check_deadlines(tables: &Tables, depot: u32, stops: &[u32]) {
     }
 }
 
-fn check_deltas(tables: &Tables, depot: u32, route: &[u32]) {
+fn check_deltas(tables: &Tables, depot: u32, end: Option<u32>, route: &[u32]) {
     for (k, pattern) in [(0, 0), (2, 0), (3, 6), (3, 7), (5, 382), (usize::MAX, 0)] {
         for cuts in &pools::cuts() {
-            check_delta(k, pattern, cuts, tables, depot, route);
+            check_delta(k, pattern, cuts, tables, depot, end, route);
         }
     }
 }
@@ -203,11 +217,12 @@ fn check_delta(
     handed_in: &[usize],
     tables: &Tables,
     depot: u32,
+    end: Option<u32>,
     stops: &[u32],
 ) {
     let rules = [
         &[(1, bad_k(k))][..],
-        &route_rules(tables, depot, stops),
+        &route_rules(tables, depot, end, stops),
         &[
             (6, bad_pattern(k, pattern)),
             (7, bad_cuts(k, stops.len(), handed_in)),
@@ -220,23 +235,37 @@ fn check_delta(
         let mut legs = Lent::new("legs", &tables.legs);
         let mut route = Lent::new("route", stops);
         let mut result = Lent::new("result", &before);
-        let returned = raw::delta(
-            k,
-            pattern,
-            cuts.slice(),
-            tables.locations,
-            legs.slice(),
-            depot,
-            route.slice(),
-            result.slice(),
-        );
+        let returned = match end {
+            None => raw::delta(
+                k,
+                pattern,
+                cuts.slice(),
+                tables.locations,
+                legs.slice(),
+                depot,
+                route.slice(),
+                result.slice(),
+            ),
+            Some(end) => raw::delta_to_end(
+                k,
+                pattern,
+                cuts.slice(),
+                tables.locations,
+                legs.slice(),
+                depot,
+                end,
+                route.slice(),
+                result.slice(),
+            ),
+        };
         assert_eq!(returned, with_room(&rules, room));
         kept(&cuts);
         kept(&legs);
         kept(&route);
         kept_beyond(&result, &before, usize::from(returned == 0));
     }
-    let answer = mittenschist::delta(k, pattern, handed_in, &tables.lent(), depot, stops);
+    let harbours = harbours(depot, end);
+    let answer = mittenschist::delta(k, pattern, handed_in, &tables.lent(), harbours, stops);
     assert_eq!(number(answer), first_refusal(&rules));
 }
 

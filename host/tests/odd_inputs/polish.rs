@@ -2,7 +2,7 @@ use crate::pools::{self, Tables};
 use crate::support::lent::{filled, Lent};
 use crate::support::rules::{bad_k, first_refusal, too_many_stops};
 use crate::support::{kept, kept_beyond, number, on_small_stack, written};
-use mittenschist::raw;
+use mittenschist::{raw, Harbours};
 
 /// What the result receives.
 const PLACES: usize = 6;
@@ -12,6 +12,7 @@ struct Case<'c> {
     allowance: u64,
     tables: &'c Tables,
     depot: u32,
+    end: Option<u32>,
     route: &'c [u32],
     room: usize,
 }
@@ -24,6 +25,7 @@ impl Case<'_> {
             (3, self.tables.bad_leg()),
             (23, self.tables.bad_service()),
             (4, self.tables.unknown(&[self.depot], self.route)),
+            (24, self.tables.unknown_end(self.end)),
             (5, too_many_stops(self.route.len())),
             (21, room < PLACES),
         ])
@@ -36,17 +38,31 @@ impl Case<'_> {
         let mut service = Lent::new("service", &self.tables.service);
         let mut route = Lent::new("route", self.route);
         let mut result = Lent::new("result", &before);
-        let returned = raw::polish_route(
-            self.k,
-            self.allowance,
-            self.tables.locations,
-            legs.slice(),
-            latest.slice(),
-            service.slice(),
-            self.depot,
-            route.slice(),
-            result.slice(),
-        );
+        let returned = match self.end {
+            None => raw::polish_route(
+                self.k,
+                self.allowance,
+                self.tables.locations,
+                legs.slice(),
+                latest.slice(),
+                service.slice(),
+                self.depot,
+                route.slice(),
+                result.slice(),
+            ),
+            Some(end) => raw::polish_route_to_end(
+                self.k,
+                self.allowance,
+                self.tables.locations,
+                legs.slice(),
+                latest.slice(),
+                service.slice(),
+                self.depot,
+                end,
+                route.slice(),
+                result.slice(),
+            ),
+        };
         assert_eq!(returned, self.refusal(self.room));
         kept(&legs);
         kept(&latest);
@@ -65,6 +81,9 @@ impl Case<'_> {
         assert!(result[0] == 0 || result[1] == self.allowance);
         assert_eq!(result[2] == 0, result[3] == result[4]);
         assert!(result[4] <= result[3]);
+        let Harbours { depot, end } = self.harbours();
+        assert_eq!(result[3], self.tables.length(depot, end, self.route));
+        assert_eq!(result[4], self.tables.length(depot, end, route));
         assert_eq!(result[5], self.tables.late_position(self.depot, route));
         assert!(result[2] == 0 || result[5] == route.len() as u64);
         let (mut stops, mut handed_in) = (route.to_vec(), self.route.to_vec());
@@ -74,11 +93,20 @@ impl Case<'_> {
         assert_eq!(stops, handed_in);
     }
 
+    fn harbours(&self) -> Harbours {
+        let end = self.end.unwrap_or(self.depot);
+        Harbours {
+            depot: self.depot,
+            end,
+        }
+    }
+
     fn check_safe(&self) {
         let mut route = Lent::new("route", self.route);
         let (tables, depot) = (self.tables.lent(), self.depot);
+        let harbours = self.harbours();
         let answer =
-            mittenschist::polish_route(self.k, self.allowance, &tables, depot, route.slice());
+            mittenschist::polish_route(self.k, self.allowance, &tables, harbours, route.slice());
         assert_eq!(number(answer), self.refusal(PLACES));
         match answer {
             Ok(polished) => {
@@ -94,19 +122,26 @@ impl Case<'_> {
 fn every_route(k: usize, tables: &Tables) {
     for route in &pools::routes() {
         let allowance = if route.len() < 3 { u64::MAX } else { 9 };
-        for depot in pools::PLACES {
-            for (allowance, room) in [(allowance, 0), (0, 5), (0, 6), (1, 6), (allowance, 8)] {
-                let case = Case {
-                    k,
-                    allowance,
-                    tables,
-                    depot,
-                    route,
-                    room,
-                };
-                case.check();
-                case.check_safe();
-            }
+        for (allowance, room) in [(allowance, 0), (0, 5), (0, 6), (1, 6), (allowance, 8)] {
+            every_end(k, allowance, tables, route, room);
+        }
+    }
+}
+
+fn every_end(k: usize, allowance: u64, tables: &Tables, route: &[u32], room: usize) {
+    for depot in pools::PLACES {
+        for end in pools::ENDS {
+            let case = Case {
+                k,
+                allowance,
+                tables,
+                depot,
+                end,
+                route,
+                room,
+            };
+            case.check();
+            case.check_safe();
         }
     }
 }

@@ -5,6 +5,8 @@ use crate::support::rules::{LONGEST_LEG, LONGEST_SERVICE, MOST_LOCATIONS};
 pub const CUT_COUNTS: [usize; 8] = [0, 1, 2, 3, 4, 5, 6, usize::MAX];
 pub const PATTERNS: [usize; 7] = [0, 1, 7, 46, 382, 383, usize::MAX];
 pub const PLACES: [u32; 4] = [0, 2, 3, u32::MAX];
+/// End harbours: none handed in, so that the depot is the end; some that are handed in.
+pub const ENDS: [Option<u32>; 4] = [None, Some(1), Some(3), Some(u32::MAX)];
 pub const STOP_COUNTS: [usize; 7] = [0, 1, 4, 512, 513, 1 << 32, usize::MAX];
 
 pub struct Tables {
@@ -76,6 +78,19 @@ impl Tables {
             late
         });
         late.unwrap_or(route.len()) as u64
+    }
+
+    /// From the depot along the route to the end, of a route that is not refused.
+    pub fn length(&self, depot: u32, end: u32, route: &[u32]) -> u64 {
+        let from = [depot].into_iter().chain(route.iter().copied());
+        let to = route.iter().copied().chain([end]);
+        let leg = |(a, b): (u32, u32)| self.legs[a as usize * self.locations + b as usize];
+        from.zip(to).map(leg).map(u64::from).sum()
+    }
+
+    /// 24.
+    pub fn unknown_end(&self, end: Option<u32>) -> bool {
+        end.is_some_and(|end| end as usize >= self.locations)
     }
 
     /// 4.

@@ -8,6 +8,8 @@ struct Rounds {
     stops: Vec<u32>,
     lengths: Vec<usize>,
     depots: Vec<u32>,
+    /// None where the depots are the ends.
+    ends: Option<Vec<u32>>,
     pins: Vec<u8>,
 }
 
@@ -17,8 +19,20 @@ impl Rounds {
             stops: stops.to_vec(),
             lengths: lengths.to_vec(),
             depots: depots.to_vec(),
+            ends: None,
             pins: pins.to_vec(),
         }
+    }
+
+    fn ending_at(self, ends: &[u32]) -> Self {
+        Self {
+            ends: Some(ends.to_vec()),
+            ..self
+        }
+    }
+
+    fn ends(&self) -> &[u32] {
+        self.ends.as_ref().unwrap_or(&self.depots)
     }
 
     /// 5.
@@ -28,6 +42,7 @@ impl Rounds {
         rounds > MOST_ROUNDS
             || self.lengths.iter().any(|&length| length > MOST_STOPS)
             || self.depots.len() != rounds
+            || self.ends().len() != rounds
             || self.pins.len() != rounds
             || whole != self.stops.len() as u128
     }
@@ -53,6 +68,17 @@ fn rounds() -> Vec<Rounds> {
         Rounds::new(&[0, 99], &[1], &[0], &[0]),
         Rounds::new(&[0; 4], &[4], &[u32::MAX], &[255]),
         Rounds::new(&[], &[], &[99; 70], &[1; 70]),
+        Rounds::new(&[], &[], &[], &[]).ending_at(&[]),
+        Rounds::new(&[0; 4], &[4], &[0], &[0]).ending_at(&[0]),
+        Rounds::new(&[0; 4], &[4], &[0], &[0]).ending_at(&[2]),
+        Rounds::new(&[1, 2, 1, 2, 2], &[1, 4], &[0, 2], &[0, 0]).ending_at(&[1, 0]),
+        Rounds::new(&[0; 8], &[4, 4], &[0, 0], &[200, 0]).ending_at(&[0, 3]),
+        Rounds::new(&[0; 4], &[4], &[0], &[0]).ending_at(&[]),
+        Rounds::new(&[0; 4], &[4], &[0], &[0]).ending_at(&[0, 0]),
+        Rounds::new(&[0; 4], &[4], &[0], &[]).ending_at(&[u32::MAX]),
+        Rounds::new(&[0; 4], &[4], &[9], &[0]).ending_at(&[9, 9]),
+        Rounds::new(&[0; 513], &[513], &[0], &[0]).ending_at(&[3]),
+        Rounds::new(&[], &[0; 64], &[0; 64], &[0; 64]).ending_at(&[0; 64]),
     ]
 }
 
@@ -73,6 +99,7 @@ impl Case<'_> {
             (3, self.tables.bad_leg()),
             (23, self.tables.bad_service()),
             (4, self.tables.unknown(&rounds.depots, &rounds.stops)),
+            (24, self.tables.unknown(&[], rounds.ends())),
             (5, rounds.bad()),
             (21, room < 4 * rounds.lengths.len()),
         ])
@@ -86,27 +113,45 @@ impl Case<'_> {
         let mut stops = Lent::new("stops", &self.rounds.stops);
         let mut lengths = Lent::new("lengths", &self.rounds.lengths);
         let mut depots = Lent::new("depots", &self.rounds.depots);
+        let mut ends = Lent::new("ends", self.rounds.ends());
         let mut pins = Lent::new("pins", &self.rounds.pins);
         let mut result = Lent::new("result", &before);
-        let returned = raw::run_list_k_opt(
-            self.k,
-            self.allowance,
-            self.tables.locations,
-            legs.slice(),
-            latest.slice(),
-            service.slice(),
-            stops.slice(),
-            lengths.slice(),
-            depots.slice(),
-            pins.slice(),
-            result.slice(),
-        );
+        let returned = match self.rounds.ends {
+            None => raw::run_list_k_opt(
+                self.k,
+                self.allowance,
+                self.tables.locations,
+                legs.slice(),
+                latest.slice(),
+                service.slice(),
+                stops.slice(),
+                lengths.slice(),
+                depots.slice(),
+                pins.slice(),
+                result.slice(),
+            ),
+            Some(_) => raw::run_list_k_opt_to_ends(
+                self.k,
+                self.allowance,
+                self.tables.locations,
+                legs.slice(),
+                latest.slice(),
+                service.slice(),
+                stops.slice(),
+                lengths.slice(),
+                depots.slice(),
+                ends.slice(),
+                pins.slice(),
+                result.slice(),
+            ),
+        };
         assert_eq!(returned, self.refusal(self.room));
         kept(&legs);
         kept(&latest);
         kept(&service);
         kept(&lengths);
         kept(&depots);
+        kept(&ends);
         kept(&pins);
         if returned != 0 {
             kept(&stops);
@@ -133,6 +178,7 @@ impl Case<'_> {
             stops: stops.slice(),
             lengths: &self.rounds.lengths,
             depots: &self.rounds.depots,
+            ends: self.rounds.ends(),
             pins: &self.rounds.pins,
         };
         let tables = self.tables.lent();

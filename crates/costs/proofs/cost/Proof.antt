@@ -13,15 +13,15 @@ use Rattle.costs.proofs.cost.Statement.{statement}
 use Rattle.costs.proofs.cost.Tie as tie
 
 abbrev Inv-loop : tie.InvT-loop
-Inv-loop locations legs depot route forward backward cuts order mask total₀ previous₀ position₀ total previous position =
+Inv-loop locations legs depot end route forward backward cuts order mask total₀ previous₀ position₀ total previous position =
     (1 ≤ position)
     × (position ≤ length cuts)
     × (previous < locations)
     × (total ≤ 512000000 * (position - 1))
-    × (total + rest-of (legs-only locations legs depot) route cuts order mask previous position ≡ cost-of (legs-only locations legs depot) route cuts order mask)
+    × (total + rest-of (legs-only locations legs depot end) route cuts order mask previous position ≡ cost-of (legs-only locations legs depot end) route cuts order mask)
 
 abbrev μ-loop : tie.MeasureT-loop
-μ-loop locations legs depot route forward backward cuts order mask total₀ previous₀ position₀ total previous position = length cuts - position
+μ-loop locations legs depot end route forward backward cuts order mask total₀ previous₀ position₀ total previous position = length cuts - position
 
 head-end-requires : tie.Need-head-end-requires Inv-loop μ-loop
 head-end-requires c κs = c .before .before .before .before .pre .cut-set
@@ -64,7 +64,7 @@ loop-again c =
       omega arith,
       p .known,
       omega (arith, p .small, l .inv .0, l .inv .3),
-      place-next (s .args .locations) (s .args .legs .now) (s .args .depot) (s .args .route .now) (s .args .cuts .now) (s .args .order .now) (s .args .mask) (l .previous) (l .position) (l .total) _ h (s .pre .middle .long) (l .inv .4) p,
+      place-next (s .args .locations) (s .args .legs .now) (s .args .depot) (s .args .end) (s .args .route .now) (s .args .cuts .now) (s .args .order .now) (s .args .mask) (l .previous) (l .position) (l .total) _ h (s .pre .middle .long) (l .inv .4) p,
     )
 
 tail-start-requires : tie.Need-tail-start-requires Inv-loop μ-loop
@@ -76,7 +76,7 @@ route-distance-requires c κs =
     record {
       table = s .pre .costs .table;
       from-known = c .before .before .loop .inv .2;
-      to-known = rw (c .tail-start .ensures) (tail-known (s .args .cuts .now) (s .args .route .now) (s .pre .cut-set) (s .args .locations) (s .args .depot) (s .pre .costs .stops) (s .pre .depot-known));
+      to-known = rw (c .tail-start .ensures) (tail-known (s .args .cuts .now) (s .args .route .now) (s .pre .cut-set) (s .args .locations) (s .args .end) (s .pre .costs .stops) (s .pre .end-known));
     }
 
 add-result : tie.Need-add-result Inv-loop μ-loop
@@ -89,7 +89,7 @@ returns c =
     let d = c .route-distance .ensures in
     let to = ap (leg (s .args .locations) (s .args .legs .now) (l .previous)) (c .before .tail-start .ensures) in
     record {
-      is = omega (arith, l .inv .4, d .is, to, last-rest (legs-only (s .args .locations) (s .args .legs .now) (s .args .depot)) (s .args .route .now) (s .args .cuts .now) (s .args .order .now) (s .args .mask) (l .previous) (l .position) (omega arith));
+      is = omega (arith, l .inv .4, d .is, to, last-rest (legs-only (s .args .locations) (s .args .legs .now) (s .args .depot) (s .args .end)) (s .args .route .now) (s .args .cuts .now) (s .args .order .now) (s .args .mask) (l .previous) (l .position) (omega arith));
       small = omega (arith, d .small, l .inv .3, l .inv .1, s .pre .cut-set .most);
     }
 

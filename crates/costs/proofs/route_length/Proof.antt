@@ -11,14 +11,14 @@ use Rattle.costs.proofs.route_length.Statement.{statement}
 use Rattle.costs.proofs.route_length.Tie as tie
 
 abbrev Inv-loop : tie.InvT-loop
-Inv-loop locations legs depot route total₀ previous₀ i₀ total previous i =
+Inv-loop locations legs depot end route total₀ previous₀ i₀ total previous i =
     (i ≤ length route)
     × (previous < locations)
     × (total ≤ 1000000 * i)
-    × (total + to-go (legs-only locations legs depot) previous (drop i route) ≡ tour-length (legs-only locations legs depot) route)
+    × (total + to-go (legs-only locations legs depot end) previous (drop i route) ≡ tour-length (legs-only locations legs depot end) route)
 
 abbrev μ-loop : tie.MeasureT-loop
-μ-loop locations legs depot route total₀ previous₀ i₀ total previous i = length route - i
+μ-loop locations legs depot end route total₀ previous₀ i₀ total previous i = length route - i
 
 loop-holds : tie.Need-loop-holds Inv-loop μ-loop
 loop-holds c =
@@ -26,7 +26,7 @@ loop-holds c =
       omega arith,
       s .pre .depot-known,
       omega arith,
-      all-to-go (legs-only (s .args .locations) (s .args .legs .now) (s .args .depot)) (s .args .route .now),
+      all-to-go (legs-only (s .args .locations) (s .args .legs .now) (s .args .depot) (s .args .end)) (s .args .route .now),
     )
 
 mul-stop : tie.Need-mul-stop Inv-loop μ-loop
@@ -58,7 +58,7 @@ loop-again c =
       omega arith,
       s .pre .stops .known _ h,
       omega arith,
-      omega (arith, next-to-go (legs-only (s .args .locations) (s .args .legs .now) (s .args .depot)) (b .loop .previous) (s .args .route .now) (b .loop .i) h),
+      omega (arith, next-to-go (legs-only (s .args .locations) (s .args .legs .now) (s .args .depot) (s .args .end)) (b .loop .previous) (s .args .route .now) (b .loop .i) h),
     )
 
 route-distance-requires-2 : tie.Need-route-distance-requires-2 Inv-loop μ-loop
@@ -72,7 +72,7 @@ returns c =
     let b = c .before .before in
     let s = b .before .before .before in
     record {
-      is = omega (arith, last-to-go (legs-only (s .args .locations) (s .args .legs .now) (s .args .depot)) (b .loop .previous) (s .args .route .now) (b .loop .i) (c .before .loop-test .left));
+      is = omega (arith, last-to-go (legs-only (s .args .locations) (s .args .legs .now) (s .args .depot) (s .args .end)) (b .loop .previous) (s .args .route .now) (b .loop .i) (c .before .loop-test .left));
       small = omega (arith, s .pre .stops .short);
     }
 

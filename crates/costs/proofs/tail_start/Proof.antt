@@ -20,7 +20,7 @@ tail-at-requires c κs = search needs
 returns : tie.Need-returns
 returns c =
     let s = c .before .before .before .before in
-    c .tail-at .ensures ∙ tail-is (s .args .cuts .now) (s .args .route .now) (s .pre) (s .args .depot)
+    c .tail-at .ensures ∙ tail-is (s .args .cuts .now) (s .args .route .now) (s .pre) (s .args .end)
 
 pub tail-start-spec : {M : Type 1} → statement M
 tail-start-spec =

@@ -24,7 +24,7 @@ left-at-requires c κs =
     let s = c .before .before .before .before .before in
     let h = positive (c .if1 .left) in
     record {
-      measurable = s .pre .measurable;
+      followable = s .pre .followable;
       forwards = s .pre .forwards;
       within = omega (arith, first-within (s .pre), h);
       places = s .pre .places;

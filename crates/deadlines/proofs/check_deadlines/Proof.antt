@@ -21,11 +21,11 @@ lent s = tables (s .args .locations) (s .args .legs .now) (s .args .latest .now)
 loop-holds : tie.Need-loop-holds Inv-loop μ-loop
 loop-holds c =
     let s = c .before .before .before .before in
-    (omega arith, s .pre .measurable .depot-known, omega arith, at-depot (timetable-by (lent s)) (s .args .depot) (s .args .route .now))
+    (omega arith, s .pre .followable .depot-known, omega arith, at-depot (timetable-by (lent s)) (s .args .depot) (s .args .route .now))
 
 -- The stop that a turn reads is a location.
 known : (c : tie.In-loop Inv-loop μ-loop) → getD (c .before .before .before .before .before .before .args .route .now) (c .before .loop .i) 0 < c .before .before .before .before .before .before .args .locations
-known c = c .before .before .before .before .before .before .pre .measurable .stops .known _ (c .loop-test .taken)
+known c = c .before .before .before .before .before .before .pre .followable .stops .known _ (c .loop-test .taken)
 
 mul-stop : tie.Need-mul-stop Inv-loop μ-loop
 mul-stop c = search needs
@@ -36,7 +36,7 @@ shared-slice-read-stop c = search needs
 route-distance-requires : tie.Need-route-distance-requires Inv-loop μ-loop
 route-distance-requires c κs =
     let s = c .before .before .before .before .before .before .before in
-    let m = s .pre .measurable in
+    let m = s .pre .followable in
     record { table = m .table; from-known = c .before .before .loop .inv .1; to-known = known (c .before) }
 
 add-clock : tie.Need-add-clock Inv-loop μ-loop
@@ -67,13 +67,13 @@ service-of-requires : tie.Need-service-of-requires Inv-loop μ-loop
 service-of-requires c κs =
     let s = c .before .before .before .before .before .before .before .before .before .before in
     let t = s .pre .times in
-    record { known = omega (arith, known (c .before .before .before .before), t .services); few = omega (arith, t .services, s .pre .measurable .table .few); brief = t .brief _ }
+    record { known = omega (arith, known (c .before .before .before .before), t .services); few = omega (arith, t .services, s .pre .followable .table .few); brief = t .brief _ }
 
 add-clock-2 : tie.Need-add-clock-2 Inv-loop μ-loop
 add-clock-2 c =
     let s = c .before .before .before .before .before .before .before .before .before .before .before in
     let l = c .before .before .before .before .before .before .loop in
-    omega (arith, c .service-of .ensures .small, c .before .before .before .route-distance .ensures .small, l .inv .2, c .before .before .before .before .before .loop-test .taken, s .pre .measurable .stops .short)
+    omega (arith, c .service-of .ensures .small, c .before .before .before .route-distance .ensures .small, l .inv .2, c .before .before .before .before .before .loop-test .taken, s .pre .followable .stops .short)
 
 add-i : tie.Need-add-i Inv-loop μ-loop
 add-i c = search needs

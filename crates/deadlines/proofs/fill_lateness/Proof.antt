@@ -22,15 +22,15 @@ abbrev lent : tie.Start Inv-loop μ-loop → Tables
 lent s = tables (s .args .locations) (s .args .legs .now) (s .args .latest .now) (s .args .service .now)
 
 mul-lateness : tie.Need-mul-lateness Inv-loop μ-loop
-mul-lateness c = omega (arith, c .before .before .before .before .pre .timed .measurable .stops .short)
+mul-lateness c = omega (arith, c .before .before .before .before .pre .clocked .followable .stops .short)
 
 element-write-lateness : tie.Need-element-write-lateness Inv-loop μ-loop
-element-write-lateness c = omega (arith, c .before .before .before .before .pre .timed .measurable .stops .short)
+element-write-lateness c = omega (arith, c .before .before .before .before .pre .clocked .followable .stops .short)
 
 loop-holds : tie.Need-loop-holds Inv-loop μ-loop
 loop-holds c =
     let s = c .before .before .before .before in
-    (omega arith, back-at-end (clock-by (lent s)) (s .args .depot) (s .args .route .now) (s .args .lateness .now) (s .pre .places) (s .pre .timed .measurable .stops .short))
+    (omega arith, back-at-end (clock-by (lent s)) (s .args .depot) (s .args .route .now) (s .args .lateness .now) (s .pre .places) (s .pre .clocked .followable .stops .short))
 
 sub-i : tie.Need-sub-i Inv-loop μ-loop
 sub-i c = omega (arith, c .loop-test .taken)
@@ -43,7 +43,7 @@ left-at-requires : tie.Need-left-at-requires Inv-loop μ-loop
 left-at-requires c κs =
     let s = c .before .before .before .before .before .before in
     record {
-      measurable = s .pre .timed .measurable;
+      followable = s .pre .clocked .followable;
       forwards = s .pre .forwards;
       within = within c;
       places = s .pre .stays .places;
@@ -53,8 +53,8 @@ left-at-requires c κs =
 until-at-requires : tie.Need-until-at-requires Inv-loop μ-loop
 until-at-requires c κs =
     let s = c .before .before .before .before .before .before .before in
-    let m = s .pre .timed .measurable in
-    let t = s .pre .timed .times in
+    let m = s .pre .clocked .followable in
+    let t = s .pre .clocked .times in
     let h = within (c .before) in
     let v = served (s .pre .stays) _ h in
     record {
@@ -75,10 +75,10 @@ later-requires c κs =
     record { few = c .before .before .before .before .before .loop .inv .1 .few; early = c .before .before .before .left-at .ensures .early; small = c .before .before .until-at .ensures .small }
 
 mul-lateness-2 : tie.Need-mul-lateness-2 Inv-loop μ-loop
-mul-lateness-2 c = omega (arith, within (c .before .before .before .before .before), c .before .before .before .before .before .before .before .before .before .before .before .pre .timed .measurable .stops .short)
+mul-lateness-2 c = omega (arith, within (c .before .before .before .before .before), c .before .before .before .before .before .before .before .before .before .before .before .pre .clocked .followable .stops .short)
 
 element-write-lateness-2 : tie.Need-element-write-lateness-2 Inv-loop μ-loop
-element-write-lateness-2 c = omega (arith, within (c .before .before .before .before .before), c .before .before .before .before .before .before .before .before .before .before .before .pre .timed .measurable .stops .short)
+element-write-lateness-2 c = omega (arith, within (c .before .before .before .before .before), c .before .before .before .before .before .before .before .before .before .before .before .pre .clocked .followable .stops .short)
 
 loop-less : tie.Need-loop-less Inv-loop μ-loop
 loop-less c = omega (arith, c .before .before .before .before .before .loop-test .taken)
@@ -97,8 +97,8 @@ loop-again c =
     let step : Back C (s .args .depot) (s .args .route .now) (set (l .lateness) (l .c - 1) (c .later .result)) (l .c - 1) (c .before .if1 .longest) (c .before .before .least .result) (c .later .result) =
     rw (c .later .ensures, c .before .before .least .ensures)
     (⊎-elim
-    (λ w. rw (w .1) (back-too-late C (s .args .depot) (s .args .route .now) (l .lateness) (l .c - 1) (l .c) (l .longest) (l .soonest) (l .most) _ _ (l .inv .1) e h (s .pre .timed .measurable .stops .short) at (a .early) by (d .small) (rw (c .before .before .least .ensures) at (w .0 .taken))))
-    (λ w. rw (w .1) (back-in-time C (s .args .depot) (s .args .route .now) (l .lateness) (l .c - 1) (l .c) (l .longest) (l .soonest) (l .most) _ _ (l .inv .1) e h (s .pre .timed .measurable .stops .short) at (a .early) by (d .small) (rw (c .before .before .least .ensures) at (w .0 .left))))
+    (λ w. rw (w .1) (back-too-late C (s .args .depot) (s .args .route .now) (l .lateness) (l .c - 1) (l .c) (l .longest) (l .soonest) (l .most) _ _ (l .inv .1) e h (s .pre .clocked .followable .stops .short) at (a .early) by (d .small) (rw (c .before .before .least .ensures) at (w .0 .taken))))
+    (λ w. rw (w .1) (back-in-time C (s .args .depot) (s .args .route .now) (l .lateness) (l .c - 1) (l .c) (l .longest) (l .soonest) (l .most) _ _ (l .inv .1) e h (s .pre .clocked .followable .stops .short) at (a .early) by (d .small) (rw (c .before .before .least .ensures) at (w .0 .left))))
     (c .before .if1 .came)) in
     (omega (arith, l .inv .0), step)
 

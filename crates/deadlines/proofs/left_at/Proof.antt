@@ -11,7 +11,7 @@ shared-slice-read-route-distance c = search needs
 route-distance-requires : tie.Need-route-distance-requires
 route-distance-requires c κs =
     let s = c .before .before .before in
-    let m = s .pre .measurable in
+    let m = s .pre .followable in
     record { table = m .table; from-known = m .depot-known; to-known = m .stops .known 0 (omega (arith, s .pre .within)) }
 
 mul-result : tie.Need-mul-result

@@ -27,7 +27,7 @@ unfolding early
 returns c =
     let a = c .before .before .before .delta in
     let s = c .before .before .before .before .before .before .before in
-    answer-written (delta-rules (s .args .k) (s .args .pattern) (s .args .cuts .now) (s .args .locations) (s .args .legs .now) (s .args .depot) (s .args .route .now)) refl (length-change (legs-only (s .args .locations) (s .args .legs .now) (s .args .depot)) (move-at (patterns (s .args .k)) (s .args .cuts .now) (s .args .pattern)) (s .args .route .now) ∷ []) (s .args .result .now) _ _ (delta-answer (a .result)) (a .ensures .reply-is) (c .before .put-delta .ensures)
+    answer-written (delta-rules (s .args .k) (s .args .pattern) (s .args .cuts .now) (s .args .locations) (s .args .legs .now) (s .args .depot) (s .args .route .now)) refl (length-change (legs-only (s .args .locations) (s .args .legs .now) (s .args .depot) (s .args .depot)) (move-at (patterns (s .args .k)) (s .args .cuts .now) (s .args .pattern)) (s .args .route .now) ∷ []) (s .args .result .now) _ _ (delta-answer (a .result)) (a .ensures .reply-is) (c .before .put-delta .ensures)
 
 pub mittenschist-delta-spec : {M : Type 1} → statement M
 mittenschist-delta-spec =

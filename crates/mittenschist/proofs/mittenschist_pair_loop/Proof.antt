@@ -1,12 +1,12 @@
 -- `mittenschist::mittenschist_pair_loop` meets its contract. Assumes nothing.
-use Rattle.theory.specs.Tables.{Trip, trip}
+use Rattle.theory.specs.Tables.{Tables, tables}
 use Rattle.mittenschist.proofs.PairLoopReply.{refused, fine, space, tried}
 use borrow.Author.Needs.{needs}
 use Rattle.mittenschist.proofs.mittenschist_pair_loop.Statement.{statement}
 use Rattle.mittenschist.proofs.mittenschist_pair_loop.Tie as tie
 
-abbrev trip-at : tie.Start → Trip
-trip-at s = trip (s .args .locations) (s .args .legs .now) (s .args .latest .now) (s .args .service .now) (s .args .depot)
+abbrev tables-at : tie.Start → Tables
+tables-at s = tables (s .args .locations) (s .args .legs .now) (s .args .latest .now) (s .args .service .now)
 
 pair-loop-refusal-requires : tie.Need-pair-loop-refusal-requires
 pair-loop-refusal-requires c κs = search needs
@@ -18,19 +18,19 @@ returns : tie.Need-returns
 returns c =
     let r = c .before .pair-loop-refusal in
     let s = c .before .before .before .before .before .before .before .before in
-    refused (s .args .allowance) (trip-at s) (s .args .route .now) (s .args .result .now) (r .result) (r .ensures) (c .if1 .taken)
+    refused (s .args .allowance) (tables-at s) (s .args .depot) (s .args .route .now) (s .args .result .now) (r .result) (r .ensures) (c .if1 .taken)
 
 pair-loop-requires : tie.Need-pair-loop-requires
 pair-loop-requires c κs =
     let r = c .before .before .pair-loop-refusal in
     let s = c .before .before .before .before .before .before .before .before .before in
-    fine (s .args .allowance) (trip-at s) (s .args .route .now) (s .args .result .now) (r .result) (r .ensures) (c .before .if1 .left)
+    fine (s .args .allowance) (tables-at s) (s .args .depot) (s .args .route .now) (s .args .result .now) (r .result) (r .ensures) (c .before .if1 .left)
 
 put-polished-requires : tie.Need-put-polished-requires
 put-polished-requires c κs =
     let r = c .before .before .before .before .before .before .pair-loop-refusal in
     let s = c .before .before .before .before .before .before .before .before .before .before .before .before .before in
-    space (s .args .allowance) (trip-at s) (s .args .route .now) (s .args .result .now) (r .result) (r .ensures) (c .before .before .before .before .before .if1 .left)
+    space (s .args .allowance) (tables-at s) (s .args .depot) (s .args .route .now) (s .args .result .now) (r .result) (r .ensures) (c .before .before .before .before .before .if1 .left)
 
 same-length-2 : tie.Need-same-length-2
 same-length-2 c = search needs
@@ -42,7 +42,7 @@ returns-2 : tie.Need-returns-2
 returns-2 c =
     let r = c .before .before .before .before .before .before .before .before .before .pair-loop-refusal in
     let s = c .before .before .before .before .before .before .before .before .before .before .before .before .before .before .before .before in
-    tried (s .args .allowance) (trip-at s) (s .args .route .now) (s .args .result .now) (r .result) (r .ensures) (c .before .before .before .before .before .before .before .before .if1 .left) _ _ _ (c .before .before .before .before .before .before .pair-loop .ensures) (c .before .before .put-polished .ensures)
+    tried (s .args .allowance) (tables-at s) (s .args .depot) (s .args .route .now) (s .args .result .now) (r .result) (r .ensures) (c .before .before .before .before .before .before .before .before .if1 .left) _ _ _ (c .before .before .before .before .before .before .pair-loop .ensures) (c .before .before .put-polished .ensures)
 
 pub mittenschist-pair-loop-spec : {M : Type 1} → statement M
 mittenschist-pair-loop-spec =

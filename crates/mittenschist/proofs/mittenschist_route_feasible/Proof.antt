@@ -1,7 +1,7 @@
 -- `mittenschist::mittenschist_route_feasible` meets its contract. Assumes nothing.
 use mathlib.Core.Path.{refl}
 use lib.ListN.{length}
-use Rattle.theory.specs.Tables.{Trip, trip}
+use Rattle.theory.specs.Tables.{Tables, tables}
 use Rattle.theory.specs.Refusals.{problem-rules}
 use Rattle.theory.specs.Answers.{feasibility-answer}
 use Rattle.theory.proofs.LastRule.{early}
@@ -11,8 +11,8 @@ use borrow.Author.Needs.{needs}
 use Rattle.mittenschist.proofs.mittenschist_route_feasible.Statement.{statement}
 use Rattle.mittenschist.proofs.mittenschist_route_feasible.Tie as tie
 
-abbrev trip-at : tie.Start → Trip
-trip-at s = trip (s .args .locations) (s .args .legs .now) (s .args .latest .now) (s .args .service .now) (s .args .depot)
+abbrev tables-at : tie.Start → Tables
+tables-at s = tables (s .args .locations) (s .args .legs .now) (s .args .latest .now) (s .args .service .now)
 
 route-feasible-requires : tie.Need-route-feasible-requires
 route-feasible-requires c κs = search needs
@@ -28,7 +28,7 @@ unfolding early
 returns c =
     let a = c .before .before .before .before .route-feasible in
     let s = c .before .before .before .before .before .before .before .before .before .before in
-    answer-written (problem-rules (trip-at s) (s .args .route .now)) refl (late-values (trip-at s) (s .args .route .now)) (s .args .result .now) _ _ (feasibility-answer (length (s .args .route .now)) (a .result)) (a .ensures .reply-is) (c .before .before .put-feasibility .ensures)
+    answer-written (problem-rules (tables-at s) (s .args .depot) (s .args .route .now)) refl (late-values (tables-at s) (s .args .depot) (s .args .route .now)) (s .args .result .now) _ _ (feasibility-answer (length (s .args .route .now)) (a .result)) (a .ensures .reply-is) (c .before .before .put-feasibility .ensures)
 
 pub mittenschist-route-feasible-spec : {M : Type 1} → statement M
 mittenschist-route-feasible-spec =

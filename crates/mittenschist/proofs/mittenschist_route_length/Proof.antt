@@ -25,7 +25,7 @@ unfolding early
 returns c =
     let a = c .before .before .before .before .route-length in
     let s = c .before .before .before .before .before .before .before .before in
-    answer-written (route-length-rules (s .args .locations) (s .args .legs .now) (s .args .depot) (s .args .route .now)) refl (tour-length (legs-only (s .args .locations) (s .args .legs .now) (s .args .depot)) (s .args .route .now) ∷ []) (s .args .result .now) _ _ (length-answer (a .result)) (a .ensures .reply-is) (c .before .before .put-length .ensures)
+    answer-written (route-length-rules (s .args .locations) (s .args .legs .now) (s .args .depot) (s .args .route .now)) refl (tour-length (legs-only (s .args .locations) (s .args .legs .now) (s .args .depot) (s .args .depot)) (s .args .route .now) ∷ []) (s .args .result .now) _ _ (length-answer (a .result)) (a .ensures .reply-is) (c .before .before .put-length .ensures)
 
 pub mittenschist-route-length-spec : {M : Type 1} → statement M
 mittenschist-route-length-spec =

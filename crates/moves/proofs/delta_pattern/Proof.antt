@@ -50,7 +50,7 @@ returns c =
     let f = c .before .before .before .before .before .before .before .before .before .pattern-at in
     let s = c .before .before .before .before .before .before .before .before .before .before .before .before .before in
     let same : toZ w64 (ofZ w64 (c .delta .result)) ≡ c .delta .result = search needs in
-    same ∙ c .delta .ensures ∙ same-move (s .args .k) (s .args .index) (s .args .cuts .now) (s .args .route .now) (s .pre .cut-set) (s .pre .listed) (f .result) (f .ensures) (λ o m. delta-of (legs-only (s .args .locations) (s .args .legs .now) (s .args .depot)) (s .args .route .now) (s .args .cuts .now) o m)
+    same ∙ c .delta .ensures ∙ same-move (s .args .k) (s .args .index) (s .args .cuts .now) (s .args .route .now) (s .pre .cut-set) (s .pre .listed) (f .result) (f .ensures) (λ o m. delta-of (legs-only (s .args .locations) (s .args .legs .now) (s .args .depot) (s .args .end)) (s .args .route .now) (s .args .cuts .now) o m)
 
 pub delta-pattern-spec : {M : Type 1} → statement M
 delta-pattern-spec =

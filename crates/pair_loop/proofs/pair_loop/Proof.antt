@@ -7,7 +7,7 @@ use Rattle.pair_loop.proofs.pair_loop.Statement.{statement}
 use Rattle.pair_loop.proofs.pair_loop.Tie as tie
 
 abbrev lent : tie.Start → Trip
-lent s = trip (s .args .locations) (s .args .legs .now) (s .args .latest .now) (s .args .service .now) (s .args .depot)
+lent s = trip (s .args .locations) (s .args .legs .now) (s .args .latest .now) (s .args .service .now) (s .args .depot) (s .args .depot)
 
 route-length-requires : tie.Need-route-length-requires
 route-length-requires c κs = search needs

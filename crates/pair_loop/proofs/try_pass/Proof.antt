@@ -16,17 +16,17 @@ use Rattle.pair_loop.proofs.try_pass.Tie as tie
 
 abbrev Inv-loop : tie.InvT-loop
 Inv-loop allowance locations legs latest service depot route₀ passed₀ i₀ route passed i =
-    Going allowance (trip locations legs latest service depot) passed route
+    Going allowance (trip locations legs latest service depot depot) passed route
     × (length route ≡ length route₀)
     × (i ≤ length route₀)
-    × (pass-left (problem (trip locations legs latest service depot)) allowance (length route₀) (reply-so-far passed route) i
-    ≡ pass (problem (trip locations legs latest service depot)) allowance (length route₀) (reply-so-far passed₀ route₀))
+    × (pass-left (problem (trip locations legs latest service depot depot)) allowance (length route₀) (reply-so-far passed route) i
+    ≡ pass (problem (trip locations legs latest service depot depot)) allowance (length route₀) (reply-so-far passed₀ route₀))
 
 abbrev μ-loop : tie.MeasureT-loop
 μ-loop allowance locations legs latest service depot route₀ passed₀ i₀ route passed i = length route₀ - i
 
 abbrev P : tie.Start Inv-loop μ-loop → Problem
-P s = problem (trip (s .args .locations) (s .args .legs .now) (s .args .latest .now) (s .args .service .now) (s .args .depot))
+P s = problem (trip (s .args .locations) (s .args .legs .now) (s .args .latest .now) (s .args .service .now) (s .args .depot) (s .args .depot))
 
 loop-holds : tie.Need-loop-holds Inv-loop μ-loop
 loop-holds c =

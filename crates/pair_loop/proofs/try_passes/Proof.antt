@@ -15,15 +15,15 @@ use Rattle.pair_loop.proofs.try_passes.Tie as tie
 
 abbrev Inv-loop : tie.InvT-loop
 Inv-loop allowance locations legs latest service depot route₀ so-far₀ route so-far =
-    Going allowance (trip locations legs latest service depot) so-far route
+    Going allowance (trip locations legs latest service depot depot) so-far route
     × (length route ≡ length route₀)
-    × (passes (problem (trip locations legs latest service depot)) allowance (length route₀) allowance (reply-so-far so-far route) ≡ pair-loop (problem (trip locations legs latest service depot)) allowance route₀)
+    × (passes (problem (trip locations legs latest service depot depot)) allowance (length route₀) allowance (reply-so-far so-far route) ≡ pair-loop (problem (trip locations legs latest service depot depot)) allowance route₀)
 
 abbrev μ-loop : tie.MeasureT-loop
 μ-loop allowance locations legs latest service depot route₀ so-far₀ route so-far = allowance - so-far .examined
 
 abbrev P : tie.Start Inv-loop μ-loop → Problem
-P s = problem (trip (s .args .locations) (s .args .legs .now) (s .args .latest .now) (s .args .service .now) (s .args .depot))
+P s = problem (trip (s .args .locations) (s .args .legs .now) (s .args .latest .now) (s .args .service .now) (s .args .depot) (s .args .depot))
 
 loop-holds : tie.Need-loop-holds Inv-loop μ-loop
 loop-holds c =

@@ -17,7 +17,7 @@ use Rattle.pair_loop.proofs.try_sweep.Tie as tie
 
 abbrev Inv-loop : tie.InvT-loop
 Inv-loop allowance locations legs latest service depot i route₀ examined₀ accepted₀ a b j₀ route examined accepted j =
-    Timed (trip locations legs latest service depot) route
+    Timed (trip locations legs latest service depot depot) route
     × (length route ≡ length route₀)
     × (i < j)
     × (j ≤ length route₀)
@@ -25,15 +25,15 @@ Inv-loop allowance locations legs latest service depot i route₀ examined₀ ac
     × (accepted ≤ examined)
     × (a < locations)
     × (b < locations)
-    × (sweep-left (problem (trip locations legs latest service depot)) allowance (length route₀) a b i (so-far examined accepted route) j
-    ≡ sweep (problem (trip locations legs latest service depot)) allowance (length route₀) (so-far examined₀ accepted₀ route₀) i)
+    × (sweep-left (problem (trip locations legs latest service depot depot)) allowance (length route₀) a b i (so-far examined accepted route) j
+    ≡ sweep (problem (trip locations legs latest service depot depot)) allowance (length route₀) (so-far examined₀ accepted₀ route₀) i)
 
 abbrev μ-loop : tie.MeasureT-loop
 μ-loop allowance locations legs latest service depot i route₀ examined₀ accepted₀ a b j₀ route examined accepted j =
     length route₀ - j
 
 abbrev P : tie.Start Inv-loop μ-loop → Problem
-P s = problem (trip (s .args .locations) (s .args .legs .now) (s .args .latest .now) (s .args .service .now) (s .args .depot))
+P s = problem (trip (s .args .locations) (s .args .legs .now) (s .args .latest .now) (s .args .service .now) (s .args .depot) (s .args .depot))
 
 -- The row from what was handed in.
 from-start : (s : tie.Start Inv-loop μ-loop) →

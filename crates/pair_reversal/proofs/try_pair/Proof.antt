@@ -5,6 +5,7 @@ use borrow.Author.Needs.{needs}
 use borrow.Author.Tests.{not-true, not-false}
 use Rattle.theory.specs.Route.{Problem, timetable-of}
 use Rattle.theory.specs.Tables.{problem, trip}
+use Rattle.theory.proofs.Judged.{clocked}
 use Rattle.deadlines.proofs.Answer.{kept-told, late-told}
 use Rattle.pair_reversal.proofs.Reading.{after-known}
 use Rattle.pair_reversal.proofs.Turning.{turned-lent, turned-again}
@@ -13,7 +14,7 @@ use Rattle.pair_reversal.proofs.try_pair.Statement.{statement}
 use Rattle.pair_reversal.proofs.try_pair.Tie as tie
 
 abbrev P : tie.Start → Problem
-P s = problem (trip (s .args .locations) (s .args .legs .now) (s .args .latest .now) (s .args .service .now) (s .args .depot))
+P s = problem (trip (s .args .locations) (s .args .legs .now) (s .args .latest .now) (s .args .service .now) (s .args .depot) (s .args .depot))
 
 mul-c : tie.Need-mul-c
 mul-c c = search needs
@@ -66,7 +67,7 @@ check-deadlines-requires : tie.Need-check-deadlines-requires
 check-deadlines-requires c κs =
     let s = c .before .before .before .before .before .before .before .before .before .before .before .before .before .before in
     let h : s .args .i ≤ s .args .j = omega (arith, s .pre .rising) in
-    turned-timed (s .args .i) (s .args .j) (s .args .route .now) h (turned-lent (s .args .i) (s .args .j) (s .args .route .now) h (s .pre .inside) (c .before .before .before .reverse .ensures)) (s .pre .timed)
+    clocked (turned-timed (s .args .i) (s .args .j) (s .args .route .now) h (turned-lent (s .args .i) (s .args .j) (s .args .route .now) h (s .pre .inside) (c .before .before .before .reverse .ensures)) (s .pre .timed))
 
 enum-told : tie.Need-enum-told
 enum-told c = search needs

@@ -6,7 +6,7 @@ use Rattle.polishing.proofs.polish_rows.Statement.{statement}
 use Rattle.polishing.proofs.polish_rows.Tie as tie
 
 abbrev lent : tie.Start → Trip
-lent s = trip (s .args .locations) (s .args .legs .now) (s .args .latest .now) (s .args .service .now) (s .args .depot)
+lent s = trip (s .args .locations) (s .args .legs .now) (s .args .latest .now) (s .args .service .now) (s .args .depot) (s .args .end)
 
 route-length-requires : tie.Need-route-length-requires
 route-length-requires c κs = search needs

@@ -8,7 +8,7 @@ use Rattle.polishing.proofs.scanned_with.Statement.{statement}
 use Rattle.polishing.proofs.scanned_with.Tie as tie
 
 abbrev lent : tie.Start → Trip
-lent s = trip (s .args .locations) (s .args .legs .now) (s .args .latest .now) (s .args .service .now) (s .args .depot)
+lent s = trip (s .args .locations) (s .args .legs .now) (s .args .latest .now) (s .args .service .now) (s .args .depot) (s .args .end)
 
 add-if1 : tie.Need-add-if1
 add-if1 c = search needs

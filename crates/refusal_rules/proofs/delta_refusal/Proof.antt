@@ -36,7 +36,7 @@ returns-2 c =
     let s = c .before .before .before .before .before .before .before .before .before .before in
     c .first2 .ensures
     ∙ ap₂ either (c .before .before .before .before .route-length-refusal .ensures) (c .before .first .ensures ∙ ap₂ either (c .before .before .before .check-pattern-index .ensures) (c .before .before .check-cut-positions .ensures ∙ sym (either-zero _)))
-    ∙ route-then (s .args .locations) (s .args .legs .now) (s .args .depot) (s .args .route .now) _
+    ∙ route-then (s .args .locations) (s .args .legs .now) (s .args .depot) (s .args .end) (s .args .route .now) _
     ∙ passed-over _ _ _ (c .before .before .before .before .before .before .check-cut-count .ensures) (c .before .before .before .before .before .if1 .left)
 
 pub delta-refusal-spec : {M : Type 1} → statement M

@@ -2,7 +2,7 @@
 use mathlib.Core.Path.{refl, _∙_}
 use mathlib.Core.List.{_∷_}
 use Rattle.theory.specs.Tables.{trip}
-use Rattle.theory.specs.Refusals.{cut-count, problem-rules}
+use Rattle.theory.specs.Refusals.{cut-count, trip-rules}
 use Rattle.theory.proofs.LastRule.{early}
 use Rattle.refusal_rules.proofs.Parts.{then-room}
 use borrow.Author.Needs.{needs}
@@ -22,7 +22,7 @@ returns : tie.Need-returns
 unfolding early
 returns c =
     let s = c .before .before .before .before .before .before .before in
-    c .first .ensures ∙ then-room (cut-count (s .args .k) ∷ problem-rules (trip (s .args .locations) (s .args .legs .now) (s .args .latest .now) (s .args .service .now) (s .args .depot)) (s .args .route .now)) refl 6 (s .args .lent) _ _ (c .before .before .question-refusal .ensures) (c .before .check-room .ensures)
+    c .first .ensures ∙ then-room (cut-count (s .args .k) ∷ trip-rules (trip (s .args .locations) (s .args .legs .now) (s .args .latest .now) (s .args .service .now) (s .args .depot) (s .args .end)) (s .args .route .now)) refl 6 (s .args .lent) _ _ (c .before .before .question-refusal .ensures) (c .before .check-room .ensures)
 
 pub polish-refusal-spec : {M : Type 1} → statement M
 polish-refusal-spec =

@@ -15,6 +15,9 @@ check-leg-sizes-requires c κs = search needs
 check-known-stops-requires : tie.Need-check-known-stops-requires
 check-known-stops-requires c κs = search needs
 
+check-known-end-requires : tie.Need-check-known-end-requires
+check-known-end-requires c κs = search needs
+
 check-stop-count-requires : tie.Need-check-stop-count-requires
 check-stop-count-requires c κs = search needs
 
@@ -27,9 +30,20 @@ first-requires-2 c κs = search needs
 first-requires-3 : tie.Need-first-requires-3
 first-requires-3 c κs = search needs
 
+first-requires-4 : tie.Need-first-requires-4
+first-requires-4 c κs = search needs
+
 returns : tie.Need-returns
 unfolding refusal
-returns c = c .first3 .ensures ∙ ap₂ either (c .before .before .before .before .before .before .check-leg-table .ensures) (c .before .first2 .ensures ∙ ap₂ either (c .before .before .before .before .before .check-leg-sizes .ensures) (c .before .before .first .ensures ∙ ap₂ either (c .before .before .before .before .check-known-stops .ensures) (c .before .before .before .check-stop-count .ensures ∙ sym (either-zero _))))
+returns c =
+    let n = c .before .before .before .before in
+    c .first4 .ensures
+    ∙ ap₂ either (n .before .before .before .before .check-leg-table .ensures)
+    (c .before .first3 .ensures
+    ∙ ap₂ either (n .before .before .before .check-leg-sizes .ensures)
+    (c .before .before .first2 .ensures
+    ∙ ap₂ either (n .before .before .check-known-stops .ensures)
+    (c .before .before .before .first .ensures ∙ ap₂ either (n .before .check-known-end .ensures) (n .check-stop-count .ensures ∙ sym (either-zero _)))))
 
 pub route-length-refusal-spec : {M : Type 1} → statement M
 route-length-refusal-spec =
@@ -38,8 +52,10 @@ route-length-refusal-spec =
     check-leg-table-requires
     check-leg-sizes-requires
     check-known-stops-requires
+    check-known-end-requires
     check-stop-count-requires
     first-requires
     first-requires-2
     first-requires-3
+    first-requires-4
     returns)

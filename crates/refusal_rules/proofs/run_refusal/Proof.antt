@@ -24,10 +24,10 @@ first-requires-2 c κs = search needs
 
 returns : tie.Need-returns
 returns c =
-    let s = c .before .before .before .before .before .before .before .before .before .before .before .before in
+    let s = c .before .before .before .before .before .before .before .before .before .before .before .before .before in
     c .first2 .ensures
     ∙ ap (either _) (c .before .first .ensures)
-    ∙ run-parts (s .args .k) (tables (s .args .locations) (s .args .legs .now) (s .args .latest .now) (s .args .service .now)) (fleet (s .args .stops .now) (s .args .lengths .now) (s .args .depots .now) (s .args .pins .now)) (s .args .lent) _ _ _ (c .before .before .before .before .check-cut-count .ensures) (c .before .before .before .check-tables .ensures) (c .before .before .rounds-refusal .ensures)
+    ∙ run-parts (s .args .k) (tables (s .args .locations) (s .args .legs .now) (s .args .latest .now) (s .args .service .now)) (fleet (s .args .stops .now) (s .args .lengths .now) (s .args .depots .now) (s .args .ends .now) (s .args .pins .now)) (s .args .lent) _ _ _ (c .before .before .before .before .check-cut-count .ensures) (c .before .before .before .check-tables .ensures) (c .before .before .rounds-refusal .ensures)
 
 pub run-refusal-spec : {M : Type 1} → statement M
 run-refusal-spec =

@@ -1,6 +1,6 @@
 -- `refusals::check_problem` meets its contract: the tables, and then the depot and the route. Assumes nothing.
 use mathlib.Core.Path.{ap, _∙_}
-use Rattle.theory.specs.Tables.{trip}
+use Rattle.theory.specs.Tables.{tables}
 use Rattle.theory.specs.Refusals.{either}
 use borrow.Author.Needs.{needs}
 use Rattle.refusals.proofs.Either.{problem-parts}
@@ -27,7 +27,7 @@ returns c =
     let s = c .before .before .before .before .before .before .before .before .before in
     c .first2 .ensures
     ∙ ap (either _) (c .before .first .ensures)
-    ∙ problem-parts (trip (s .args .locations) (s .args .legs .now) (s .args .latest .now) (s .args .service .now) (s .args .depot)) (s .args .route .now) _ _ _ (c .before .before .before .before .check-tables .ensures) (c .before .before .before .check-known-stops .ensures) (c .before .before .check-stop-count .ensures)
+    ∙ problem-parts (tables (s .args .locations) (s .args .legs .now) (s .args .latest .now) (s .args .service .now)) (s .args .depot) (s .args .route .now) _ _ _ (c .before .before .before .before .check-tables .ensures) (c .before .before .before .check-known-stops .ensures) (c .before .before .check-stop-count .ensures)
 
 pub check-problem-spec : {M : Type 1} → statement M
 check-problem-spec =

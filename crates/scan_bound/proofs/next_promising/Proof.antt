@@ -9,10 +9,10 @@ use Rattle.scan_bound.proofs.next_promising.Statement.{statement}
 use Rattle.scan_bound.proofs.next_promising.Tie as tie
 
 abbrev Inv-loop : tie.InvT-loop
-Inv-loop locations legs depot route forward backward cuts entries exits inside low zero head c₀ c = NextPromising locations legs depot route cuts entries exits inside low c
+Inv-loop locations legs depot end route forward backward cuts entries exits inside low zero head c₀ c = NextPromising locations legs depot end route cuts entries exits inside low c
 
 abbrev μ-loop : tie.MeasureT-loop
-μ-loop locations legs depot route forward backward cuts entries exits inside low zero head c₀ c = length route + 1 - c
+μ-loop locations legs depot end route forward backward cuts entries exits inside low zero head c₀ c = length route + 1 - c
 
 head-end-requires : tie.Need-head-end-requires Inv-loop μ-loop
 head-end-requires c κs = search needs

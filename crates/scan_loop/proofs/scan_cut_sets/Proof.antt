@@ -8,7 +8,8 @@ use lib.Seq.{take-at}
 use borrow.Author.Tests.{not-true, not-false}
 use borrow.Author.Needs.{needs}
 use native.Mathlib.Omega.{arith}
-use Rattle.theory.specs.Tables.{problem, pattern-rows, trip, Trip}
+use Rattle.theory.specs.Tables.{problem, pattern-rows, trip, tables, Trip}
+use Rattle.theory.proofs.Judged.{clocked}
 use Rattle.theory.proofs.Polishing.{Polishing}
 use Rattle.scan_joints.specs.JointTable.{Padded}
 use Rattle.scan_shared.specs.Prepared.{Opened}
@@ -21,23 +22,23 @@ use Rattle.scan_loop.proofs.scan_cut_sets.Statement.{statement}
 use Rattle.scan_loop.proofs.scan_cut_sets.Tie as tie
 
 abbrev Inv-loop : tie.InvT-loop
-Inv-loop k allowance locations legs latest service depot orders masks rows route₀ forward₀ backward₀ joint₀ stayed₀ lateness₀ longest₀ cut₀ examined₀ accepted₀ route forward backward joint stayed lateness longest cut examined accepted =
+Inv-loop k allowance locations legs latest service depot end orders masks rows route₀ forward₀ backward₀ joint₀ stayed₀ lateness₀ longest₀ cut₀ examined₀ accepted₀ route forward backward joint stayed lateness longest cut examined accepted =
     (length cut ≡ 5)
-    × Polishing (problem (trip locations legs latest service depot)) (pattern-rows k orders masks) k allowance route₀ (take k cut) examined accepted route
-    × Measured (trip locations legs latest service depot) route forward backward stayed longest lateness
+    × Polishing (problem (trip locations legs latest service depot end)) (pattern-rows k orders masks) k allowance route₀ (take k cut) examined accepted route
+    × Measured (tables locations legs latest service) depot route forward backward stayed longest lateness
     × Padded joint
     × Opened (take k cut)
 
 abbrev μ-loop : tie.MeasureT-loop
-μ-loop k allowance locations legs latest service depot orders masks rows route₀ forward₀ backward₀ joint₀ stayed₀ lateness₀ longest₀ cut₀ examined₀ accepted₀ route forward backward joint stayed lateness longest cut examined accepted = allowance - examined
+μ-loop k allowance locations legs latest service depot end orders masks rows route₀ forward₀ backward₀ joint₀ stayed₀ lateness₀ longest₀ cut₀ examined₀ accepted₀ route forward backward joint stayed lateness longest cut examined accepted = allowance - examined
 
 abbrev lent : tie.Start Inv-loop μ-loop → Trip
-lent s = trip (s .args .locations) (s .args .legs .now) (s .args .latest .now) (s .args .service .now) (s .args .depot)
+lent s = trip (s .args .locations) (s .args .legs .now) (s .args .latest .now) (s .args .service .now) (s .args .depot) (s .args .end)
 
 measure-requires : tie.Need-measure-requires Inv-loop μ-loop
 measure-requires c κs =
     let s = c .before .before .before .before .before .before .before .before .before .before .before in
-    record { timed = s .pre .timed; forward-places = refl; backward-places = refl; stay-places = refl; late-places = refl }
+    record { clocked = clocked (s .pre .timed); forward-places = refl; backward-places = refl; stay-places = refl; late-places = refl }
 
 loop-holds : tie.Need-loop-holds Inv-loop μ-loop
 loop-holds c =
@@ -75,13 +76,13 @@ array-share-prefix-cut : tie.Need-array-share-prefix-cut Inv-loop μ-loop
 array-share-prefix-cut c =
     let s = c .before .before .before .before .before .before .before .before .before .before .before .before .before .before .before .before .before .before .before .before .before .before .before .before in
     let l = c .before .before .before .before .before .before .before .before .before .before .before .loop in
-    simp (length-append, length-drop) (omega (arith, c .before .before .before .scan-stretch .kept .1 .1 .1 .1 .1 .1 .1 .1 .1 .1 .1 .1 .1 .0, l .inv .1 .cut-set .many, l .inv .0, s .pre .most))
+    simp (length-append, length-drop) (omega (arith, c .before .before .before .scan-stretch .kept .1 .1 .1 .1 .1 .1 .1 .1 .1 .1 .1 .1 .1 .1 .0, l .inv .1 .cut-set .many, l .inv .0, s .pre .most))
 
 slice-aggregate-take-gain : tie.Need-slice-aggregate-take-gain Inv-loop μ-loop
 slice-aggregate-take-gain c =
     let s = c .before .before .before .before .before .before .before .before .before .before .before .before .before .before .before .before .before .before .before .before .before .before .before .before .before in
     let l = c .before .before .before .before .before .before .before .before .before .before .before .before .loop in
-    rw (take-at (c .before .before .before .before .scan-stretch .last .1 .1 .1 .1 .1 .1 .1 .1 .1 .1 .1 .1 .1 .0) (drop (s .args .k) (l .cut)) (s .args .k) (c .before .before .before .before .scan-stretch .kept .1 .1 .1 .1 .1 .1 .1 .1 .1 .1 .1 .1 .1 .0 ∙ l .inv .1 .cut-set .many)) (sym (c .before .before .before .before .scan-stretch .kept .1 .1 .1 .1 .1 .1 .1 .1 .1 .1 .1 .1 .1 .0 ∙ l .inv .1 .cut-set .many))
+    rw (take-at (c .before .before .before .before .scan-stretch .last .1 .1 .1 .1 .1 .1 .1 .1 .1 .1 .1 .1 .1 .1 .0) (drop (s .args .k) (l .cut)) (s .args .k) (c .before .before .before .before .scan-stretch .kept .1 .1 .1 .1 .1 .1 .1 .1 .1 .1 .1 .1 .1 .1 .0 ∙ l .inv .1 .cut-set .many)) (sym (c .before .before .before .before .scan-stretch .kept .1 .1 .1 .1 .1 .1 .1 .1 .1 .1 .1 .1 .1 .1 .0 ∙ l .inv .1 .cut-set .many))
 
 take-gain-requires : tie.Need-take-gain-requires Inv-loop μ-loop
 take-gain-requires c κs =
@@ -94,7 +95,7 @@ take-gain-requires c κs =
       services = t .times .services;
       brief = t .times .brief;
       stops = t .measurable .stops;
-      of = rw (take-at (c .before .before .before .before .before .before .before .before .before .scan-stretch .last .1 .1 .1 .1 .1 .1 .1 .1 .1 .1 .1 .1 .1 .0) (drop (s .args .k) (l .cut)) (s .args .k) (c .before .before .before .before .before .before .before .before .before .scan-stretch .kept .1 .1 .1 .1 .1 .1 .1 .1 .1 .1 .1 .1 .1 .0 ∙ l .inv .1 .cut-set .many)) (takeable (s .args .k) (lent s) (s .args .orders .now) (s .args .masks .now) (s .args .rows .now) (s .args .route .now) (s .args .allowance) (s .pre) (take (s .args .k) (l .cut)) (l .examined) (l .accepted) (l .route) (l .inv .1) e (c .before .before .before .before .before .before .if1 .taken));
+      of = rw (take-at (c .before .before .before .before .before .before .before .before .before .scan-stretch .last .1 .1 .1 .1 .1 .1 .1 .1 .1 .1 .1 .1 .1 .1 .0) (drop (s .args .k) (l .cut)) (s .args .k) (c .before .before .before .before .before .before .before .before .before .scan-stretch .kept .1 .1 .1 .1 .1 .1 .1 .1 .1 .1 .1 .1 .1 .1 .0 ∙ l .inv .1 .cut-set .many)) (takeable (s .args .k) (lent s) (s .args .orders .now) (s .args .masks .now) (s .args .rows .now) (s .args .route .now) (s .args .allowance) (s .pre) (take (s .args .k) (l .cut)) (l .examined) (l .accepted) (l .route) (l .inv .1) e (c .before .before .before .before .before .before .if1 .taken));
       forward-places = l .inv .2 .forwards .places;
       backward-places = l .inv .2 .backwards .places;
       stay-places = l .inv .2 .stays .places;
@@ -128,7 +129,7 @@ loop-again c =
     let l = c .before .before .before .before .before .before .before .before .before .before .before .before .before .before .before .before .before .before .before .before .loop in
     let e = c .before .before .before .before .before .before .before .before .before .before .before .before .scan-stretch .ensures in
     let t = c .before .before .take-gain .ensures in
-    let is = t .route-is ∙ ap (λ cs. candidate (l .route) cs (s .args .orders .now) (s .args .masks .now) (c .before .before .before .before .before .before .before .before .before .before .before .before .scan-stretch .result .pattern)) (take-at (c .before .before .before .before .before .before .before .before .before .before .before .before .scan-stretch .last .1 .1 .1 .1 .1 .1 .1 .1 .1 .1 .1 .1 .1 .0) (drop (s .args .k) (l .cut)) (s .args .k) (c .before .before .before .before .before .before .before .before .before .before .before .before .scan-stretch .kept .1 .1 .1 .1 .1 .1 .1 .1 .1 .1 .1 .1 .1 .0 ∙ l .inv .1 .cut-set .many)) in (
+    let is = t .route-is ∙ ap (λ cs. candidate (l .route) cs (s .args .orders .now) (s .args .masks .now) (c .before .before .before .before .before .before .before .before .before .before .before .before .scan-stretch .result .pattern)) (take-at (c .before .before .before .before .before .before .before .before .before .before .before .before .scan-stretch .last .1 .1 .1 .1 .1 .1 .1 .1 .1 .1 .1 .1 .1 .1 .0) (drop (s .args .k) (l .cut)) (s .args .k) (c .before .before .before .before .before .before .before .before .before .before .before .before .scan-stretch .kept .1 .1 .1 .1 .1 .1 .1 .1 .1 .1 .1 .1 .1 .1 .0 ∙ l .inv .1 .cut-set .many)) in (
       refl,
       begins-again (s .args .k) (lent s) (s .args .orders .now) (s .args .masks .now) (s .args .rows .now) (s .args .route .now) (s .args .allowance) (s .pre) (take (s .args .k) (l .cut)) (l .examined) (l .accepted) (l .route) (l .inv .1) e (c .before .before .before .before .before .before .before .before .before .if1 .taken) _ is,
       measured-anew (s .args .k) (lent s) (s .args .orders .now) (s .args .masks .now) (s .args .rows .now) (s .args .route .now) (s .args .allowance) (s .pre) (take (s .args .k) (l .cut)) (l .examined) (l .accepted) (l .route) (l .inv .1) e (c .before .before .before .before .before .before .before .before .before .if1 .taken) _ is (l .inv .2 .latenesses) (t .cleared) (c .before .before .take-gain .kept .1 .1 .1 .1 .1 .1 .1 .0) (t .forwards) (t .backwards) (t .stays (l .inv .2 .stays)),
@@ -136,8 +137,8 @@ loop-again c =
       first-opened (s .args .k) (s .pre .least) (s .pre .most),
     )
 
-array-read-t52 : tie.Need-array-read-t52 Inv-loop μ-loop
-array-read-t52 c = search needs
+array-read-t53 : tie.Need-array-read-t53 Inv-loop μ-loop
+array-read-t53 c = search needs
 
 same-length : tie.Need-same-length Inv-loop μ-loop
 same-length c =
@@ -156,23 +157,23 @@ array-borrow-prefix-cut-2 : tie.Need-array-borrow-prefix-cut-2 Inv-loop μ-loop
 array-borrow-prefix-cut-2 c =
     let s = c .before .before .before .before .before .before .before .before .before .before .before .before .before .before .before .before .before .before .before .before .before .before .before .before .before .before in
     let l = c .before .before .before .before .before .before .before .before .before .before .before .before .before .loop in
-    simp (length-append, length-drop) (omega (arith, c .before .before .before .before .before .scan-stretch .kept .1 .1 .1 .1 .1 .1 .1 .1 .1 .1 .1 .1 .1 .0, l .inv .1 .cut-set .many, l .inv .0, s .pre .most))
+    simp (length-append, length-drop) (omega (arith, c .before .before .before .before .before .scan-stretch .kept .1 .1 .1 .1 .1 .1 .1 .1 .1 .1 .1 .1 .1 .1 .0, l .inv .1 .cut-set .many, l .inv .0, s .pre .most))
 
 slice-aggregate-next-cut-set : tie.Need-slice-aggregate-next-cut-set Inv-loop μ-loop
 slice-aggregate-next-cut-set c =
     let s = c .before .before .before .before .before .before .before .before .before .before .before .before .before .before .before .before .before .before .before .before .before .before .before .before .before .before .before in
     let l = c .before .before .before .before .before .before .before .before .before .before .before .before .before .before .loop in
-    rw (take-at (c .before .before .before .before .before .before .scan-stretch .last .1 .1 .1 .1 .1 .1 .1 .1 .1 .1 .1 .1 .1 .0) (drop (s .args .k) (l .cut)) (s .args .k) (c .before .before .before .before .before .before .scan-stretch .kept .1 .1 .1 .1 .1 .1 .1 .1 .1 .1 .1 .1 .1 .0 ∙ l .inv .1 .cut-set .many)) (sym (c .before .before .before .before .before .before .scan-stretch .kept .1 .1 .1 .1 .1 .1 .1 .1 .1 .1 .1 .1 .1 .0 ∙ l .inv .1 .cut-set .many))
+    rw (take-at (c .before .before .before .before .before .before .scan-stretch .last .1 .1 .1 .1 .1 .1 .1 .1 .1 .1 .1 .1 .1 .1 .0) (drop (s .args .k) (l .cut)) (s .args .k) (c .before .before .before .before .before .before .scan-stretch .kept .1 .1 .1 .1 .1 .1 .1 .1 .1 .1 .1 .1 .1 .1 .0 ∙ l .inv .1 .cut-set .many)) (sym (c .before .before .before .before .before .before .scan-stretch .kept .1 .1 .1 .1 .1 .1 .1 .1 .1 .1 .1 .1 .1 .1 .0 ∙ l .inv .1 .cut-set .many))
 
 next-cut-set-requires : tie.Need-next-cut-set-requires Inv-loop μ-loop
 next-cut-set-requires c κs =
     let s = c .before .before .before .before .before .before .before .before .before .before .before .before .before .before .before .before .before .before .before .before .before .before .before .before .before .before .before in
     let l = c .before .before .before .before .before .before .before .before .before .before .before .before .before .before .loop in
     let e = c .before .before .before .before .before .before .scan-stretch .ensures in
-    rw (take-at (c .before .before .before .before .before .before .scan-stretch .last .1 .1 .1 .1 .1 .1 .1 .1 .1 .1 .1 .1 .1 .0) (drop (s .args .k) (l .cut)) (s .args .k) (c .before .before .before .before .before .before .scan-stretch .kept .1 .1 .1 .1 .1 .1 .1 .1 .1 .1 .1 .1 .1 .0 ∙ l .inv .1 .cut-set .many)) (cuts-then (s .args .k) (lent s) (s .args .orders .now) (s .args .masks .now) (s .args .rows .now) (s .args .route .now) (s .args .allowance) (s .pre) (take (s .args .k) (l .cut)) (l .examined) (l .accepted) (l .route) (l .inv .1) e (not-false _ (c .before .if2 .left)))
+    rw (take-at (c .before .before .before .before .before .before .scan-stretch .last .1 .1 .1 .1 .1 .1 .1 .1 .1 .1 .1 .1 .1 .1 .0) (drop (s .args .k) (l .cut)) (s .args .k) (c .before .before .before .before .before .before .scan-stretch .kept .1 .1 .1 .1 .1 .1 .1 .1 .1 .1 .1 .1 .1 .1 .0 ∙ l .inv .1 .cut-set .many)) (cuts-then (s .args .k) (lent s) (s .args .orders .now) (s .args .masks .now) (s .args .rows .now) (s .args .route .now) (s .args .allowance) (s .pre) (take (s .args .k) (l .cut)) (l .examined) (l .accepted) (l .route) (l .inv .1) e (not-false _ (c .before .if2 .left)))
 
-array-read-t60 : tie.Need-array-read-t60 Inv-loop μ-loop
-array-read-t60 c = search needs
+array-read-t61 : tie.Need-array-read-t61 Inv-loop μ-loop
+array-read-t61 c = search needs
 
 same-length-2 : tie.Need-same-length-2 Inv-loop μ-loop
 same-length-2 c =
@@ -186,7 +187,7 @@ returns-2 c =
     let l = c .before .before .before .before .before .before .before .before .before .before .before .before .before .before .before .before .before .loop in
     let e = c .before .before .before .before .before .before .before .before .before .scan-stretch .ensures in
     let n = c .before .before .next-cut-set in
-    record { scan = ends-now (s .args .k) (lent s) (s .args .orders .now) (s .args .masks .now) (s .args .rows .now) (s .args .route .now) (s .args .allowance) (s .pre) (take (s .args .k) (l .cut)) (l .examined) (l .accepted) (l .route) (l .inv .1) e (not-false _ (c .before .before .before .before .if2 .left)) _ (rw (not-true (n .result) (c .if3 .taken), take-at (c .before .before .before .before .before .before .before .before .before .scan-stretch .last .1 .1 .1 .1 .1 .1 .1 .1 .1 .1 .1 .1 .1 .0) (drop (s .args .k) (l .cut)) (s .args .k) (c .before .before .before .before .before .before .before .before .before .scan-stretch .kept .1 .1 .1 .1 .1 .1 .1 .1 .1 .1 .1 .1 .1 .0 ∙ l .inv .1 .cut-set .many)) at (n .ensures)); kept-is = kept-measured (lent s) (l .route) _ _ _ _ (l .lateness) (l .inv .2) }
+    record { scan = ends-now (s .args .k) (lent s) (s .args .orders .now) (s .args .masks .now) (s .args .rows .now) (s .args .route .now) (s .args .allowance) (s .pre) (take (s .args .k) (l .cut)) (l .examined) (l .accepted) (l .route) (l .inv .1) e (not-false _ (c .before .before .before .before .if2 .left)) _ (rw (not-true (n .result) (c .if3 .taken), take-at (c .before .before .before .before .before .before .before .before .before .scan-stretch .last .1 .1 .1 .1 .1 .1 .1 .1 .1 .1 .1 .1 .1 .1 .0) (drop (s .args .k) (l .cut)) (s .args .k) (c .before .before .before .before .before .before .before .before .before .scan-stretch .kept .1 .1 .1 .1 .1 .1 .1 .1 .1 .1 .1 .1 .1 .1 .0 ∙ l .inv .1 .cut-set .many)) at (n .ensures)); kept-is = kept-measured (lent s) (l .route) _ _ _ _ (l .lateness) (l .inv .2) }
 
 loop-less-2 : tie.Need-loop-less-2 Inv-loop μ-loop
 loop-less-2 c =
@@ -202,10 +203,10 @@ loop-again-2 c =
     let l = c .before .before .before .before .before .before .before .before .before .before .before .before .before .before .before .before .before .loop in
     let e = c .before .before .before .before .before .before .before .before .before .scan-stretch .ensures in
     let n = c .before .before .next-cut-set in
-    let size = c .before .before .before .before .before .before .before .before .before .scan-stretch .kept .1 .1 .1 .1 .1 .1 .1 .1 .1 .1 .1 .1 .1 .0 ∙ l .inv .1 .cut-set .many in
-    let long : length (n .last .0) ≡ s .args .k = n .kept .0 ∙ ap length (take-at (c .before .before .before .before .before .before .before .before .before .scan-stretch .last .1 .1 .1 .1 .1 .1 .1 .1 .1 .1 .1 .1 .1 .0) (drop (s .args .k) (l .cut)) (s .args .k) size) ∙ size in
-    let cuts-are = take-at (n .last .0) (drop (s .args .k) (c .before .before .before .before .before .before .before .before .before .scan-stretch .last .1 .1 .1 .1 .1 .1 .1 .1 .1 .1 .1 .1 .1 .0 ++ drop (s .args .k) (l .cut))) (s .args .k) long in
-    let m = moves-on (s .args .k) (lent s) (s .args .orders .now) (s .args .masks .now) (s .args .rows .now) (s .args .route .now) (s .args .allowance) (s .pre) (take (s .args .k) (l .cut)) (l .examined) (l .accepted) (l .route) (l .inv .1) e (not-false _ (c .before .before .before .before .if2 .left)) _ (rw (not-false (n .result) (c .if3 .left), take-at (c .before .before .before .before .before .before .before .before .before .scan-stretch .last .1 .1 .1 .1 .1 .1 .1 .1 .1 .1 .1 .1 .1 .0) (drop (s .args .k) (l .cut)) (s .args .k) (c .before .before .before .before .before .before .before .before .before .scan-stretch .kept .1 .1 .1 .1 .1 .1 .1 .1 .1 .1 .1 .1 .1 .0 ∙ l .inv .1 .cut-set .many)) at (n .ensures)) in (
+    let size = c .before .before .before .before .before .before .before .before .before .scan-stretch .kept .1 .1 .1 .1 .1 .1 .1 .1 .1 .1 .1 .1 .1 .1 .0 ∙ l .inv .1 .cut-set .many in
+    let long : length (n .last .0) ≡ s .args .k = n .kept .0 ∙ ap length (take-at (c .before .before .before .before .before .before .before .before .before .scan-stretch .last .1 .1 .1 .1 .1 .1 .1 .1 .1 .1 .1 .1 .1 .1 .0) (drop (s .args .k) (l .cut)) (s .args .k) size) ∙ size in
+    let cuts-are = take-at (n .last .0) (drop (s .args .k) (c .before .before .before .before .before .before .before .before .before .scan-stretch .last .1 .1 .1 .1 .1 .1 .1 .1 .1 .1 .1 .1 .1 .1 .0 ++ drop (s .args .k) (l .cut))) (s .args .k) long in
+    let m = moves-on (s .args .k) (lent s) (s .args .orders .now) (s .args .masks .now) (s .args .rows .now) (s .args .route .now) (s .args .allowance) (s .pre) (take (s .args .k) (l .cut)) (l .examined) (l .accepted) (l .route) (l .inv .1) e (not-false _ (c .before .before .before .before .if2 .left)) _ (rw (not-false (n .result) (c .if3 .left), take-at (c .before .before .before .before .before .before .before .before .before .scan-stretch .last .1 .1 .1 .1 .1 .1 .1 .1 .1 .1 .1 .1 .1 .1 .0) (drop (s .args .k) (l .cut)) (s .args .k) (c .before .before .before .before .before .before .before .before .before .scan-stretch .kept .1 .1 .1 .1 .1 .1 .1 .1 .1 .1 .1 .1 .1 .1 .0 ∙ l .inv .1 .cut-set .many)) at (n .ensures)) in (
       simp (length-append, length-drop) (omega (arith, long, size, l .inv .0, s .pre .most)),
       rw cuts-are (m .0),
       l .inv .2,
@@ -233,13 +234,13 @@ scan-cut-sets-spec =
     add-accepted
     loop-less
     loop-again
-    array-read-t52
+    array-read-t53
     same-length
     returns
     array-borrow-prefix-cut-2
     slice-aggregate-next-cut-set
     next-cut-set-requires
-    array-read-t60
+    array-read-t61
     same-length-2
     returns-2
     loop-less-2

@@ -16,12 +16,12 @@ use Rattle.scan_stretch.proofs.scan_last_cuts.Statement.{statement}
 use Rattle.scan_stretch.proofs.scan_last_cuts.Tie as tie
 
 abbrev Inv-loop : tie.InvT-loop
-Inv-loop locations legs latest service depot rows patterns route forward backward stayed lateness cuts₀ joint₀ left entries exits inside low dues₀ zero examined₀ cuts joint dues examined =
-    ((ps : List Pattern) → Listed (length cuts₀) patterns rows ps → Going (trip locations legs latest service depot) ps route cuts₀ left cuts joint dues examined)
+Inv-loop locations legs latest service depot end rows patterns route forward backward stayed lateness cuts₀ joint₀ left entries exits inside low dues₀ zero examined₀ cuts joint dues examined =
+    ((ps : List Pattern) → Listed (length cuts₀) patterns rows ps → Going (trip locations legs latest service depot end) ps route cuts₀ left cuts joint dues examined)
     × PreparedNow locations legs depot route cuts₀ rows patterns entries exits inside low
 
 abbrev μ-loop : tie.MeasureT-loop
-μ-loop locations legs latest service depot rows patterns route forward backward stayed lateness cuts₀ joint₀ left entries exits inside low dues₀ zero examined₀ cuts joint dues examined = length route + 1 - last-cut cuts
+μ-loop locations legs latest service depot end rows patterns route forward backward stayed lateness cuts₀ joint₀ left entries exits inside low dues₀ zero examined₀ cuts joint dues examined = length route + 1 - last-cut cuts
 
 prepare-requires : tie.Need-prepare-requires Inv-loop μ-loop
 prepare-requires c κs = preparable (c .before .before .before .before .before .before .before .before .before .before .pre .hopeful) (c .before .before .before .before .before .before .before .before .before .before .pre .first)
@@ -46,7 +46,7 @@ same-length c =
     let l = c .before .before .before .before .before .before .before .before .before .before .before .before .before .before .loop in
     let t = c .before .before .before .before .before .take-step in
     let h = s .pre .hopeful in
-    t .kept .1 .1 .1 .1 .1 .1 .1 .1 .1 .1 .1 .1 .0 ∙ l .inv .0 (h .list) (h .listed) .many
+    t .kept .1 .1 .1 .1 .1 .1 .1 .1 .1 .1 .1 .1 .1 .0 ∙ l .inv .0 (h .list) (h .listed) .many
 
 returns : tie.Need-returns Inv-loop μ-loop
 returns c =

@@ -64,7 +64,7 @@ try-cut-set-requires : tie.Need-try-cut-set-requires
 try-cut-set-requires c κs = hit-triable (c .before .before .before .before .before .before .before .before .before .before .before .before .before .before .pre) (c .before .before .before .before .before .before .before .next-promising .ensures) (c .before .before .before .before .before .passed-patterns .ensures) (c .before .before .before .before .if1 .left) (c .before .before .before .if2 .left)
 
 same-length-3 : tie.Need-same-length-3
-same-length-3 c = simp length-set at (c .before .before .try-cut-set .kept .1 .1 .1 .1 .1 .1 .1 .1 .1 .1 .1 .1 .0)
+same-length-3 c = simp length-set at (c .before .before .try-cut-set .kept .1 .1 .1 .1 .1 .1 .1 .1 .1 .1 .1 .1 .1 .0)
 
 returns-3 : tie.Need-returns-3
 returns-3 c = λ first ps w g.

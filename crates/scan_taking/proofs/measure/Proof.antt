@@ -11,7 +11,7 @@ backward-sums-requires : tie.Need-backward-sums-requires
 backward-sums-requires c κs = search needs
 
 fill-stays-requires : tie.Need-fill-stays-requires
-fill-stays-requires c κs = let s = c .before .before .before .before .before .before .before .before .before in stays-fillable (s .pre .timed) (s .pre .stay-places)
+fill-stays-requires c κs = let s = c .before .before .before .before .before .before .before .before .before in stays-fillable (s .pre .clocked) (s .pre .stay-places)
 
 fill-lateness-requires : tie.Need-fill-lateness-requires
 fill-lateness-requires c κs = search needs

@@ -8,7 +8,7 @@ use Rattle.text.proofs.answer_question.Statement.{statement}
 use Rattle.text.proofs.answer_question.Tie as tie
 
 abbrev question-at : tie.Start → Question
-question-at s = question (s .args .k) (s .args .allowance) (s .args .locations) (s .args .legs .now) (s .args .latest .now) (s .args .service .now) (s .args .depot) (s .args .stops .now)
+question-at s = question (s .args .k) (s .args .allowance) (s .args .locations) (s .args .legs .now) (s .args .latest .now) (s .args .service .now) (s .args .depot) (s .args .end) (s .args .stops .now)
 
 question-refusal-requires : tie.Need-question-refusal-requires
 question-refusal-requires c κs = search needs
@@ -42,7 +42,7 @@ print-polished-requires c κs =
     let r = c .before .before .before .before .before .before .before .question-refusal in
     let s = c .before .before .before .before .before .before .before .before .before .before .before .before .before .before in
     let f = fine (question-at s) (r .result) (r .ensures) (c .before .before .before .before .before .before .if1 .left) in
-    record { few = omega (arith, c .before .before .before .before .polish-route .kept .1 .1 .1 .1 .1 .1 .1 .0, f .timed .measurable .stops .short); room = s .pre }
+    record { few = omega (arith, c .before .before .before .before .polish-route .kept .1 .1 .1 .1 .1 .1 .1 .1 .0, f .timed .measurable .stops .short); room = s .pre }
 
 same-length-3 : tie.Need-same-length-3
 same-length-3 c = search needs

@@ -87,7 +87,9 @@ slice-aggregate-answer-question-4 : tie.Need-slice-aggregate-answer-question-4
 slice-aggregate-answer-question-4 c = sym (length-take-le _ _ (fits-at (c .before .before .before .before .before .before .before) .stops-fit))
 
 answer-question-requires : tie.Need-answer-question-requires
-answer-question-requires c κs = search needs
+answer-question-requires c κs =
+    let s = c .before .before .before .before .before .before .before .before .before .before .before .before .before .before .before .before .before .before .before .before .before .before .before .before .before .before .before .before .before in
+    s .pre .room
 
 same-length-6 : tie.Need-same-length-6
 same-length-6 c = search needs

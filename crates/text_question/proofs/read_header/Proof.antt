@@ -4,7 +4,7 @@ use mathlib.Core.Option.{some}
 use lib.ListN.{drop}
 use Rattle.text_decimal.specs.Text.{ascii}
 use Rattle.text_lines.specs.Reading.{value}
-use Rattle.text_question.proofs.Heading.{k-missing, allowance-missing, locations-missing, depot-missing, no-location, many-locations, header-read}
+use Rattle.text_question.proofs.Heading.{k-missing, allowance-missing, locations-missing, depot-missing, end-missing, no-location, many-locations, header-read}
 use borrow.Author.Needs.{needs}
 use Rattle.text_question.proofs.read_header.Statement.{statement}
 use Rattle.text_question.proofs.read_header.Tie as tie
@@ -20,6 +20,9 @@ locations-read c = rw (c .locations .given .1) at (c .before .before .read-value
 
 depot-read : (c : tie.After-depot) → value (ascii "depot=") (drop (c .before .before .before .before .before .locations .given .0 .1 .0) (c .before .before .before .before .before .before .before .before .before .before .before .before .before .before .before .before .before .before .before .before .args .text .now)) ≡ some (c .depot .given .0 .0, drop (c .depot .given .0 .1 .0) (c .before .before .before .before .before .before .before .before .before .before .before .before .before .before .before .before .before .before .before .before .args .text .now))
 depot-read c = rw (c .depot .given .1) at (c .before .before .read-value4 .ensures)
+
+end-read : (c : tie.After-end) → value (ascii "end=") (drop (c .before .before .before .before .before .depot .given .0 .1 .0) (c .before .before .before .before .before .before .before .before .before .before .before .before .before .before .before .before .before .before .before .before .before .before .before .before .before .args .text .now)) ≡ some (c .end .given .0 .0, drop (c .end .given .0 .1 .0) (c .before .before .before .before .before .before .before .before .before .before .before .before .before .before .before .before .before .before .before .before .before .before .before .before .before .args .text .now))
+end-read c = rw (c .end .given .1) at (c .before .before .read-value5 .ensures)
 
 slice-aggregate-read-value : tie.Need-slice-aggregate-read-value
 slice-aggregate-read-value c = search needs
@@ -81,17 +84,32 @@ enum-told-4 c = search needs
 returns-4 : tie.Need-returns-4
 returns-4 c = depot-missing (c .before .before .before .before .before .before .before .before .before .before .before .before .before .before .before .before .before .before .before .before .args .text .now) (k-read (c .before .before .before .before .before .before .before .before .before .before .before .before .before .before .before)) (allowance-read (c .before .before .before .before .before .before .before .before .before .before)) (locations-read (c .before .before .before .before .before)) (rw (c .enum-told4 .given .1) at (c .before .before .read-value4 .ensures))
 
+slice-aggregate-read-value-5 : tie.Need-slice-aggregate-read-value-5
+slice-aggregate-read-value-5 c = search needs
+
+read-value-requires-5 : tie.Need-read-value-requires-5
+read-value-requires-5 c κs = search needs
+
+enum-known-end : tie.Need-enum-known-end
+enum-known-end c = search needs
+
+enum-told-5 : tie.Need-enum-told-5
+enum-told-5 c = search needs
+
 returns-5 : tie.Need-returns-5
-returns-5 c = no-location (c .before .before .before .before .before .before .before .before .before .before .before .before .before .before .before .before .before .before .before .before .before .before .args .text .now) (k-read (c .before .before .before .before .before .before .before .before .before .before .before .before .before .before .before .before .before)) (allowance-read (c .before .before .before .before .before .before .before .before .before .before .before .before)) (locations-read (c .before .before .before .before .before .before .before)) (depot-read (c .before .before)) (c .if1 .taken)
+returns-5 c = end-missing (c .before .before .before .before .before .before .before .before .before .before .before .before .before .before .before .before .before .before .before .before .before .before .before .before .before .args .text .now) (k-read (c .before .before .before .before .before .before .before .before .before .before .before .before .before .before .before .before .before .before .before .before)) (allowance-read (c .before .before .before .before .before .before .before .before .before .before .before .before .before .before .before)) (locations-read (c .before .before .before .before .before .before .before .before .before .before)) (depot-read (c .before .before .before .before .before)) (rw (c .enum-told5 .given .1) at (c .before .before .read-value5 .ensures))
 
 returns-6 : tie.Need-returns-6
-returns-6 c = many-locations (c .before .before .before .before .before .before .before .before .before .before .before .before .before .before .before .before .before .before .before .before .before .before .before .args .text .now) (k-read (c .before .before .before .before .before .before .before .before .before .before .before .before .before .before .before .before .before .before)) (allowance-read (c .before .before .before .before .before .before .before .before .before .before .before .before .before)) (locations-read (c .before .before .before .before .before .before .before .before)) (depot-read (c .before .before .before)) (c .if2 .taken)
+returns-6 c = no-location (c .before .before .before .before .before .before .before .before .before .before .before .before .before .before .before .before .before .before .before .before .before .before .before .before .before .before .before .args .text .now) (k-read (c .before .before .before .before .before .before .before .before .before .before .before .before .before .before .before .before .before .before .before .before .before .before)) (allowance-read (c .before .before .before .before .before .before .before .before .before .before .before .before .before .before .before .before .before)) (locations-read (c .before .before .before .before .before .before .before .before .before .before .before .before)) (depot-read (c .before .before .before .before .before .before .before)) (end-read (c .before .before)) (c .if1 .taken)
+
+returns-7 : tie.Need-returns-7
+returns-7 c = many-locations (c .before .before .before .before .before .before .before .before .before .before .before .before .before .before .before .before .before .before .before .before .before .before .before .before .before .before .before .before .args .text .now) (k-read (c .before .before .before .before .before .before .before .before .before .before .before .before .before .before .before .before .before .before .before .before .before .before .before)) (allowance-read (c .before .before .before .before .before .before .before .before .before .before .before .before .before .before .before .before .before .before)) (locations-read (c .before .before .before .before .before .before .before .before .before .before .before .before .before)) (depot-read (c .before .before .before .before .before .before .before .before)) (end-read (c .before .before .before)) (c .if2 .taken)
 
 cast-locations : tie.Need-cast-locations
 cast-locations c = search needs
 
-returns-7 : tie.Need-returns-7
-returns-7 c = header-read (c .before .before .before .before .before .before .before .before .before .before .before .before .before .before .before .before .before .before .before .before .before .before .before .args .text .now) (k-read (c .before .before .before .before .before .before .before .before .before .before .before .before .before .before .before .before .before .before)) (allowance-read (c .before .before .before .before .before .before .before .before .before .before .before .before .before)) (locations-read (c .before .before .before .before .before .before .before .before)) (depot-read (c .before .before .before)) (c .before .if1 .left) (c .if2 .left)
+returns-8 : tie.Need-returns-8
+returns-8 c = header-read (c .before .before .before .before .before .before .before .before .before .before .before .before .before .before .before .before .before .before .before .before .before .before .before .before .before .before .before .before .args .text .now) (k-read (c .before .before .before .before .before .before .before .before .before .before .before .before .before .before .before .before .before .before .before .before .before .before .before)) (allowance-read (c .before .before .before .before .before .before .before .before .before .before .before .before .before .before .before .before .before .before)) (locations-read (c .before .before .before .before .before .before .before .before .before .before .before .before .before)) (depot-read (c .before .before .before .before .before .before .before .before)) (end-read (c .before .before .before)) (c .before .if1 .left) (c .if2 .left)
 
 pub read-header-spec : {M : Type 1} → statement M
 read-header-spec =
@@ -117,7 +135,12 @@ read-header-spec =
     enum-known-depot
     enum-told-4
     returns-4
+    slice-aggregate-read-value-5
+    read-value-requires-5
+    enum-known-end
+    enum-told-5
     returns-5
     returns-6
+    returns-7
     cast-locations
-    returns-7)
+    returns-8)

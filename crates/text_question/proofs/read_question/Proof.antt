@@ -19,7 +19,7 @@ use Rattle.text_question.proofs.read_question.Tie as tie
 header-is : (c : tie.After-header) →
     let h = c .header .given .0 .0 in
     let t = c .before .before .before .before .before .before .before .before .before .args .text .now in
-    header t ≡ some (record { k = h .k; allowance = h .allowance; locations = h .locations; depot = h .depot }, drop (c .header .given .0 .1 .0) t)
+    header t ≡ some (record { k = h .k; allowance = h .allowance; locations = h .locations; depot = h .depot; end = h .end }, drop (c .header .given .0 .1 .0) t)
 header-is c = rw (c .header .given .1) at (c .before .before .read-header .ensures)
 
 few : (c : tie.After-header) → c .header .given .0 .0 .locations ≤ 96

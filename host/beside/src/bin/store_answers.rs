@@ -1,11 +1,12 @@
 //! Prints the Rust's answers to the questions of crates/replay_answers, or with the argument `moves` of crates/replay_moves, in that program's
 //! words: its file stdout. The questions are drawn by the same rule on both sides (`next`, `draw`, `filled`; crates/replay_drawing), and the
-//! library is not called. The late position, of which the Rust knows only yes or no, is the harness's own. The pair loop's are of the Rust's run with two
+//! library is not called. The late position, of which the Rust knows only yes or no, is the harness's own. To an end harbour the Rust is asked over one more
+//! location, which stands for depot and end. The pair loop's are of the Rust's run with two
 //! cuts, the run's with two cuts of its `polish_route`.
 
 #![forbid(unsafe_code)]
 
-use beside::cases::{nearby, pairs, polish, run};
+use beside::cases::{ends, nearby, pairs, polish, run};
 use beside::checks;
 use beside::moves::apply::Apply;
 use beside::moves::case::Cutting;
@@ -45,6 +46,9 @@ fn searches() {
         say_polished(&polishing(seed, 5));
         say_paired(seed, polish::RESULT_PLACES + 1);
         ran(seed, 7);
+        let end = u32::from(seed % 10);
+        say_ended(seed, end);
+        ran_to(seed, &[end, 9 - end]);
         listed(seed);
     }
     refused_searches();
@@ -71,6 +75,8 @@ fn refused_searches() {
     }
     say_paired(1, polish::RESULT_PLACES - 1);
     ran(1, 8);
+    say_ended(1, 10);
+    ran_to(1, &[0]);
     listed(29);
 }
 
@@ -162,6 +168,21 @@ fn say_polished(case: &polish::Case) {
     say("polish", &reply, &result, "route", &reply.lent[0].1);
 }
 
+/// Seven stops from location 0 to an end harbour.
+fn say_ended(seed: u16, end: u32) {
+    let closed = polish::Case {
+        k: cuts_of(seed),
+        allowance: allowance_of(seed),
+        tables: tables(seed),
+        depot: 0,
+        route: filled(seed, 9, 7),
+        room: polish::RESULT_PLACES + 1,
+    };
+    let reply = ends::Case { closed, end }.expected();
+    let result = seen(&reply, 1, polish::RESULT_PLACES, 7, RESULT);
+    say("ended", &reply, &result, "route", &reply.lent[0].1);
+}
+
 fn say_paired(seed: u16, room: usize) {
     let case = pairs::Case::new(polish::Case {
         k: 2,
@@ -184,12 +205,31 @@ fn ran(seed: u16, last: usize) {
         stops: filled(seed, 9, 16),
         lengths: vec![6, 3, last],
         depots: vec![0, 1, 2],
+        ends: None,
         pins: vec![0, (seed / 4 % 2) as u8, 0],
         room: 13,
     };
     let reply = case.expected();
     let result = seen(&reply, 1, 12, case.room, RESULT);
     say("run", &reply, &result, "stops", &reply.lent[0].1);
+}
+
+/// Two rounds, each to its own end.
+fn ran_to(seed: u16, ends: &[u32]) {
+    let case = run::Case {
+        k: cuts_of(seed),
+        allowance: allowance_of(seed),
+        tables: tables(seed),
+        stops: filled(seed, 9, 11),
+        lengths: vec![6, 5],
+        depots: vec![0, 1],
+        ends: Some(ends.to_vec()),
+        pins: vec![0, 0],
+        room: 9,
+    };
+    let reply = case.expected();
+    let result = seen(&reply, 1, 8, case.room, RESULT);
+    say("ran", &reply, &result, "stops", &reply.lent[0].1);
 }
 
 fn listed(seed: u16) {

@@ -40,7 +40,7 @@ impl Case {
         ])
     }
 
-    fn unknown_place(&self) -> bool {
+    pub fn unknown_place(&self) -> bool {
         self.tables.unknown(&[self.depot]) || self.tables.unknown(&self.route)
     }
 }

@@ -22,6 +22,8 @@ pub struct Case {
     pub stops: Vec<u32>,
     pub lengths: Vec<usize>,
     pub depots: Vec<u32>,
+    /// None where each round ends at its depot: another entry is called then.
+    pub ends: Option<Vec<u32>>,
     pub pins: Vec<u8>,
     /// Length of the lent result.
     pub room: usize,
@@ -37,6 +39,7 @@ impl Case {
             stops: rounds.iter().flat_map(|round| round.1.clone()).collect(),
             lengths: rounds.iter().map(|round| round.1.len()).collect(),
             depots: rounds.iter().map(|round| round.0).collect(),
+            ends: None,
             pins: vec![0; rounds.len()],
             room: rounds.len() * NUMBERS_A_ROUND,
         }
@@ -63,9 +66,14 @@ impl Case {
             leg,
             service,
             (4, self.unknown_place()),
+            (24, self.tables.unknown(self.ends())),
             (5, self.bad_rounds()),
             (21, self.room < self.lengths.len() * NUMBERS_A_ROUND),
         ])
+    }
+
+    pub fn ends(&self) -> &[u32] {
+        self.ends.as_ref().unwrap_or(&self.depots)
     }
 
     /// Every stop and every depot counts, whichever round holds it.
@@ -79,6 +87,7 @@ impl Case {
         rounds > MOST_ROUNDS
             || self.lengths.iter().any(|&length| too_many_stops(length))
             || self.depots.len() != rounds
+            || self.ends().len() != rounds
             || self.pins.len() != rounds
             || whole != self.stops.len() as u128
     }
@@ -92,6 +101,9 @@ impl Display for Case {
         writeln!(out, "stops={}", listed(&self.stops))?;
         writeln!(out, "lengths={}", listed(&self.lengths))?;
         writeln!(out, "depots={}", listed(&self.depots))?;
+        if let Some(ends) = &self.ends {
+            writeln!(out, "ends={}", listed(ends))?;
+        }
         writeln!(out, "pins={}", listed(&self.pins))
     }
 }

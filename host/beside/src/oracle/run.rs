@@ -46,6 +46,7 @@ pub type Ran = (Vec<u32>, Vec<u64>);
 /// What the library's run is held to.
 pub fn run(case: &Case, allowance: u64) -> Ran {
     match case.k {
+        _ if case.ends.is_some() => run_by_polishing(case, allowance),
         2 => run_by_polishing(case, allowance),
         _ => run_by_rust(case, allowance),
     }
@@ -54,7 +55,7 @@ pub fn run(case: &Case, allowance: u64) -> Ran {
 /// The candidates that it examines in all.
 pub fn examined(case: &Case, allowance: u64) -> u64 {
     match case.k {
-        2 => run_by_polishing(case, allowance)
+        k if k == 2 || case.ends.is_some() => run_by_polishing(case, allowance)
             .1
             .chunks(NUMBERS_A_ROUND)
             .map(|round| round[1])
@@ -93,7 +94,13 @@ fn round_by_polishing(
         return passed_over(SHORT);
     }
     let mut order = stops(round);
-    let counts = polish_with(case.k, left, &case.tables, case.depots[index], &mut order);
+    let (depot, end) = (case.depots[index], case.ends()[index]);
+    let counts = if depot == end {
+        polish_with(case.k, left, &case.tables, depot, &mut order)
+    } else {
+        let (tables, depot) = case.tables.with_both_ends(depot, end);
+        polish_with(case.k, left, &tables, depot, &mut order)
+    };
     let (examined, accepted) = (counts.examined, counts.accepted);
     let order = order.into_iter().map(|stop| stop as u32).collect();
     match (counts.spent, accepted) {

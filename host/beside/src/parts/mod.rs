@@ -4,13 +4,13 @@
 //! `k_opt_do_move`, cut sets and delta with a plain brute force written from document 01. Length and deadlines have no function
 //! in the Rust: they are compared with document 01's own words.
 
-mod cut_sets;
+pub mod cut_sets;
 mod deltas;
 mod feasible;
 mod lengths;
 mod patterns;
 mod rejoining;
-mod route;
+pub mod route;
 
 use crate::trial::{Family, Source};
 

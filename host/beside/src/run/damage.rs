@@ -13,24 +13,31 @@ const NUMBERS: [u32; 7] = [21, 5, 4, 23, 3, 2, 1];
 pub const SETS: u64 = 1 << NUMBERS.len();
 
 pub fn draw(random: &mut Random, index: u64) -> Drawn {
-    let mut case = random_run(random);
-    if case.lengths.is_empty() {
-        add_round(&mut case, 2);
-    }
+    let case = with_a_round(random_run(random));
     damaged(case, &NUMBERS, index, |case, number| {
         damage(random, case, number)
     })
+}
+
+pub fn with_a_round(mut case: Case) -> Case {
+    if case.lengths.is_empty() {
+        add_round(&mut case, 2);
+    }
+    case
 }
 
 fn add_round(case: &mut Case, stops: usize) {
     case.lengths.push(stops);
     case.stops.resize(case.stops.len() + stops, 0);
     case.depots.push(0);
+    if let Some(ends) = &mut case.ends {
+        ends.push(0);
+    }
     case.pins.push(0);
     case.room += NUMBERS_A_ROUND;
 }
 
-fn damage(random: &mut Random, case: &mut Case, number: u32) {
+pub fn damage(random: &mut Random, case: &mut Case, number: u32) {
     match number {
         1 => case.k = damage::wrong_k(random),
         2 => damage::sizes(random, &mut case.tables),

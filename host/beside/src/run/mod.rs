@@ -2,8 +2,8 @@
 
 mod allowances;
 mod bounds;
-mod damage;
-mod generate;
+pub mod damage;
+pub mod generate;
 pub mod pair_case;
 mod planted;
 mod replies;

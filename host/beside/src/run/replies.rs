@@ -14,7 +14,10 @@ impl Trial for Case {
             return Reply::new(code, [("stops", bits(&self.stops)), ("result", result)]);
         }
         let ran = oracle::run::run(self, self.allowance);
-        if self.k > 2 && ran != oracle::run::run_by_polishing(self, self.allowance) {
+        if self.k > 2
+            && self.ends.is_none()
+            && ran != oracle::run::run_by_polishing(self, self.allowance)
+        {
             code = NO_ANSWER;
         }
         let (stops, numbers) = ran;
@@ -32,24 +35,42 @@ impl Trial for Case {
         let mut depots = Lent::new("depots", &self.depots);
         let mut pins = Lent::new("pins", &self.pins);
         let mut result = Lent::new("result", &room);
-        let code = ffi::run_list_k_opt(
-            self.k,
-            self.allowance,
-            self.tables.locations,
-            legs.slice(),
-            latest.slice(),
-            service.slice(),
-            stops.slice(),
-            lengths.slice(),
-            depots.slice(),
-            pins.slice(),
-            result.slice(),
-        );
+        let mut ends = Lent::new("ends", self.ends());
+        let code = match self.ends {
+            None => ffi::run_list_k_opt(
+                self.k,
+                self.allowance,
+                self.tables.locations,
+                legs.slice(),
+                latest.slice(),
+                service.slice(),
+                stops.slice(),
+                lengths.slice(),
+                depots.slice(),
+                pins.slice(),
+                result.slice(),
+            ),
+            Some(_) => ffi::run_list_k_opt_to_ends(
+                self.k,
+                self.allowance,
+                self.tables.locations,
+                legs.slice(),
+                latest.slice(),
+                service.slice(),
+                stops.slice(),
+                lengths.slice(),
+                depots.slice(),
+                ends.slice(),
+                pins.slice(),
+                result.slice(),
+            ),
+        };
         legs.kept()?;
         latest.kept()?;
         service.kept()?;
         lengths.kept()?;
         depots.kept()?;
+        ends.kept()?;
         pins.kept()?;
         Ok(Reply::new(code, [stops.written()?, result.written()?]))
     }

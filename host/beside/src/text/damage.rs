@@ -72,9 +72,9 @@ fn replace_number(random: &mut Random, text: &mut Vec<u8>) {
     replace_at(random, text, start);
 }
 
-/// One of the four numbers before the tables, which are few among many.
+/// One of the five numbers before the tables, which are few among many.
 fn replace_number_of_the_head(random: &mut Random, text: &mut Vec<u8>) {
-    let line = random.below(4) as usize;
+    let line = random.below(5) as usize;
     let ends = text.iter().enumerate().filter(|byte| *byte.1 == b'=');
     if let Some(start) = ends.map(|byte| byte.0 + 1).nth(line) {
         replace_at(random, text, start);

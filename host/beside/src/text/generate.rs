@@ -1,11 +1,12 @@
 //! Texts of the form, and those at its bounds.
 
 use super::case::Text;
+use crate::cases::ends;
 use crate::cases::polish::{Case, RESULT_PLACES};
-use crate::damage::a_service_time;
+use crate::damage::{a_service_time, unknown};
+use crate::ends::generate::random_ended;
 use crate::polish::bounds::{late_text_case, served_text_case, text_case};
 use crate::polish::damage::damage;
-use crate::polish::generate::random_case;
 use crate::random::Random;
 use crate::tables::{listed, Tables};
 use crate::trial::{Drawn, Visit};
@@ -15,33 +16,43 @@ pub fn draw(random: &mut Random, _index: u64) -> Drawn {
 }
 
 /// Refusal numbers of what a text holds, the last of the stated order first.
-const NUMBERS: [u32; 5] = [5, 4, 23, 3, 1];
+const NUMBERS: [u32; 6] = [5, 24, 4, 23, 3, 1];
 
 /// How many sets of them there are.
 pub const SETS: u64 = 1 << NUMBERS.len();
 
 /// A text of the form whose values are refused: a set of damages to them.
 pub fn draw_refused(random: &mut Random, index: u64) -> Drawn {
-    let mut case = random_case(random);
+    let mut case = random_ended(random);
     for (bit, &number) in NUMBERS.iter().enumerate() {
         if (index >> bit) & 1 == 1 {
             match number {
                 // Another number of entries would be 10.
-                23 => a_service_time(random, &mut case.tables),
-                _ => damage(random, &mut case, number),
+                23 => a_service_time(random, &mut case.closed.tables),
+                24 => case.end = unknown(random, &case.closed.tables),
+                _ => damage(random, &mut case.closed, number),
             }
         }
     }
-    (Box::new(Text(written(&case))), None)
+    (Box::new(Text(written_to(&case))), None)
 }
 
 /// A text that is read, as long as its locations are few enough.
 pub fn good(random: &mut Random) -> Vec<u8> {
-    written(&random_case(random))
+    written_to(&random_ended(random))
+}
+
+/// A closed tour.
+fn written(case: &Case) -> Vec<u8> {
+    written_to(&ends::Case {
+        closed: case.clone(),
+        end: case.depot,
+    })
 }
 
 /// A case as the program reads it; an allowance that no text can hold becomes the largest.
-pub fn written(case: &Case) -> Vec<u8> {
+fn written_to(ended: &ends::Case) -> Vec<u8> {
+    let case = &ended.closed;
     let allowance = case.allowance.min(u64::from(u32::MAX));
     let Tables {
         locations,
@@ -50,8 +61,8 @@ pub fn written(case: &Case) -> Vec<u8> {
         service,
     } = &case.tables;
     let mut text = format!(
-        "k={}\nallowance={allowance}\nlocations={locations}\ndepot={}\n",
-        case.k, case.depot
+        "k={}\nallowance={allowance}\nlocations={locations}\ndepot={}\nend={}\n",
+        case.k, case.depot, ended.end
     );
     for row in legs.chunks(*locations) {
         text += &format!("legs={}\n", listed(row));
@@ -62,6 +73,10 @@ pub fn written(case: &Case) -> Vec<u8> {
 }
 
 pub fn each_bound(random: &mut Random, visit: Visit) {
+    for end in 0..4 {
+        let closed = text_case(100);
+        visit(Box::new(Text(written_to(&ends::Case { closed, end }))));
+    }
     let mut visit = |case: &Case| visit(Box::new(Text(written(case))));
     for allowance in [0, 3, 10, 11, 100, u64::MAX] {
         visit(&text_case(allowance));

@@ -1,7 +1,8 @@
 //! A text's meaning, written from document 01's "Text program" and the lines that document 02 adds: a reader that takes the lines apart, over the
 //! unchanged Rust.
 
-use crate::cases::polish::{Case, RESULT_PLACES};
+use crate::cases::ends::Case;
+use crate::cases::polish::{self, RESULT_PLACES};
 use crate::oracle::polish::{polish, Counts};
 use crate::tables::{listed, Tables};
 
@@ -24,21 +25,22 @@ fn refused(number: u32) -> String {
 }
 
 fn answered(case: &Case) -> String {
-    let mut route = case.route.clone();
+    let mut route = case.closed.route.clone();
     let Counts {
         spent,
         examined,
         accepted,
-    } = polish(case, case.allowance, &mut route);
+    } = polish(&case.as_closed(), case.closed.allowance, &mut route);
     let answer = if spent { "spent" } else { "finished" };
-    let (before, after) = (case.length(), case.tables.length(case.depot, &route));
+    let (before, after) = (case.length(&case.closed.route), case.length(&route));
     let (round, late) = (listed(&route), late(case, &route));
     format!("answer={answer}\nexamined={examined}\naccepted={accepted}\nbefore={before}\nafter={after}\nround={round}\nlate={late}\n")
 }
 
 /// The position, from 0, of the first late stop in the round that is printed.
 fn late(case: &Case, round: &[u32]) -> String {
-    let position = case.tables.late_position(case.depot, round);
+    let Case { closed, .. } = case;
+    let position = closed.tables.late_position(closed.depot, round);
     if position == round.len() as u64 {
         return String::from("none");
     }
@@ -56,6 +58,7 @@ fn read(text: &[u8]) -> Option<Case> {
     let allowance = number(value(lines.next(), "allowance")?)?;
     let locations = number(value(lines.next(), "locations")?)? as usize;
     let depot = number(value(lines.next(), "depot")?)?;
+    let end = number(value(lines.next(), "end")?)?;
     if !(1..=MOST_LOCATIONS).contains(&locations) {
         return None;
     }
@@ -72,7 +75,7 @@ fn read(text: &[u8]) -> Option<Case> {
     if lines.next().is_some() {
         return None;
     }
-    Some(Case {
+    let closed = polish::Case {
         k: k as usize,
         allowance: u64::from(allowance),
         tables: Tables {
@@ -84,7 +87,8 @@ fn read(text: &[u8]) -> Option<Case> {
         depot,
         route,
         room: RESULT_PLACES,
-    })
+    };
+    Some(Case { closed, end })
 }
 
 fn value<'t>(line: Option<&'t str>, name: &str) -> Option<&'t str> {

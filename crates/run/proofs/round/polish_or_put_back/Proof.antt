@@ -21,7 +21,7 @@ slice-aggregate-keep-or-put-back : tie.Need-slice-aggregate-keep-or-put-back
 slice-aggregate-keep-or-put-back c = copy-size (c .before .before .before .before .before .before .before .before .before .before .before .before .before .args .route .now) _ _ (c .before .before .before .before .before .before .copy-in .ensures)
 
 keep-or-put-back-requires : tie.Need-keep-or-put-back-requires
-keep-or-put-back-requires c κs = sym (copy-size (c .before .before .before .before .before .before .before .before .before .before .before .before .before .before .args .route .now) _ _ (c .before .before .before .before .before .before .before .copy-in .ensures)) ∙ sym (c .before .before .before .before .polish-round .kept .1 .1 .1 .1 .1 .1 .1 .0)
+keep-or-put-back-requires c κs = sym (copy-size (c .before .before .before .before .before .before .before .before .before .before .before .before .before .before .args .route .now) _ _ (c .before .before .before .before .before .before .before .copy-in .ensures)) ∙ sym (c .before .before .before .before .polish-round .kept .1 .1 .1 .1 .1 .1 .1 .1 .0)
 
 state-after-requires : tie.Need-state-after-requires
 state-after-requires c κs = search needs

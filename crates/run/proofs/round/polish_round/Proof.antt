@@ -6,7 +6,7 @@ use Rattle.run.proofs.round.polish_round.Statement.{statement}
 use Rattle.run.proofs.round.polish_round.Tie as tie
 
 abbrev lent : tie.Start → Trip
-lent s = trip (s .args .locations) (s .args .legs .now) (s .args .latest .now) (s .args .service .now) (s .args .depot)
+lent s = trip (s .args .locations) (s .args .legs .now) (s .args .latest .now) (s .args .service .now) (s .args .depot) (s .args .end)
 
 polish-route-requires : tie.Need-polish-route-requires
 polish-route-requires c κs = search needs

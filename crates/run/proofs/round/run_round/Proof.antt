@@ -6,7 +6,7 @@ use Rattle.run.proofs.round.run_round.Statement.{statement}
 use Rattle.run.proofs.round.run_round.Tie as tie
 
 abbrev lent : tie.Start → Trip
-lent s = trip (s .args .locations) (s .args .legs .now) (s .args .latest .now) (s .args .service .now) (s .args .depot)
+lent s = trip (s .args .locations) (s .args .legs .now) (s .args .latest .now) (s .args .service .now) (s .args .depot) (s .args .end)
 
 returns : tie.Need-returns
 returns c =

@@ -1,0 +1,35 @@
+-- A call of before refuses what the call to an end harbour refuses whose end is the depot. Assumes nothing.
+use mathlib.Core.Path.{_≡_, _∙_}
+use mathlib.Core.List.{List, [], _∷_, _++_}
+use Prim.Native.Nat.{ℕ, _*_}
+use lib.ListN.{length}
+use Rattle.theory.specs.Tables.{Tables, fleet}
+use Rattle.theory.specs.Question.{question}
+use Rattle.theory.specs.Refusals.{Rule, refusal, cut-count, leg-table, leg-sizes, stop-count, known-rounds, round-lists, end-list, room, table-rules}
+use Rattle.theory.proofs.Implied.{end-at-depot, ends-at-depots, ends-of-depots}
+use Rattle.refusal_rules.specs.Rules.{route-length-rules, route-length-to-end-rules, move-rules, delta-rules, delta-to-end-rules, polish-rules, polish-to-end-rules, run-rules, run-to-ends-rules}
+
+module _ (locations : ℕ) (legs : List ℕ) (depot : ℕ) (route : List ℕ) where
+  abbrev front : List Rule
+  front = leg-table locations legs ∷ leg-sizes legs ∷ []
+
+  pub route-length-closed : refusal (route-length-to-end-rules locations legs depot depot route) ≡ refusal (route-length-rules locations legs depot route)
+  route-length-closed = end-at-depot front (stop-count (length route) ∷ []) locations depot route
+
+  pub delta-closed : (k pattern : ℕ) (cuts : List ℕ) →
+      refusal (delta-to-end-rules k pattern cuts locations legs depot depot route) ≡ refusal (delta-rules k pattern cuts locations legs depot route)
+  delta-closed k pattern cuts = end-at-depot front (stop-count (length route) ∷ move-rules k pattern cuts (length route)) locations depot route
+
+pub polish-closed : (k allowance : ℕ) (T : Tables) (depot : ℕ) (route : List ℕ) (lent : ℕ) →
+    refusal (polish-to-end-rules (question k allowance (T .locations) (T .legs) (T .latest) (T .service) depot depot route) lent)
+    ≡ refusal (polish-rules (question k allowance (T .locations) (T .legs) (T .latest) (T .service) depot depot route) lent)
+polish-closed k allowance T depot route lent = end-at-depot (cut-count k ∷ table-rules T) (stop-count (length route) ∷ room 6 lent ∷ []) (T .locations) depot route
+
+pub run-closed : (k : ℕ) (T : Tables) (stops lengths depots pins : List ℕ) (lent : ℕ) →
+    refusal (run-to-ends-rules k T (fleet stops lengths depots depots pins) lent) ≡ refusal (run-rules k T (fleet stops lengths depots depots pins) lent)
+run-closed k T stops lengths depots pins lent =
+    let first = cut-count k ∷ table-rules T in
+    let last = room (4 * length lengths) lent ∷ [] in
+    let lists = round-lists lengths depots pins (length stops) in
+    ends-at-depots first (lists ∷ end-list lengths depots ∷ last) (T .locations) depots stops
+    ∙ ends-of-depots (first ++ (known-rounds (T .locations) depots stops ∷ [])) last lengths depots pins (length stops)
