@@ -1,5 +1,5 @@
 -- The replies of the entry `mittenschist_pair_loop`, over plain values. Assumes nothing.
-use mathlib.Core.Path.{_≡_, refl, sym, ap, _∙_}
+use mathlib.Core.Path.{_≡_, refl}
 use mathlib.Core.List.{List, _++_}
 use Prim.Native.Nat.{ℕ, _≤_}
 use lib.ListN.{length, drop}
@@ -7,17 +7,17 @@ use Rattle.theory.specs.Route.{Problem}
 use Rattle.theory.specs.Scan.{Reply}
 use Rattle.theory.specs.Tables.{Tables, Timed}
 use Rattle.theory.specs.Refusals.{Rule, refusal, problem-rules}
-use Rattle.theory.specs.Answers.{polish-values, six-numbers}
+use Rattle.theory.specs.Answers.{polish-values}
 use Rattle.theory.specs.declared.Polished.{Polished}
 use Rattle.theory.proofs.Refusals.{Passes, known}
+use Rattle.theory.proofs.Taken.{taken-passes}
 use Rattle.theory.proofs.Judged.{closed}
-use Rattle.theory.proofs.Taken.{refused-kept, taken-done, taken-passes}
 use Rattle.polishing.proofs.Judged.{clocked-fine}
 use Rattle.pair_loop.specs.PairLoop.{pair-loop, PairsTried}
 use Rattle.refusal_rules.specs.Rules.{pair-loop-rules}
 use Rattle.refusal_rules.proofs.Parts.{pass-with-room}
 use Rattle.mittenschist.specs.Promises.{closed-tour, PairLoopReply}
-use Rattle.mittenschist.proofs.PolishReply.{values-are, read-back, its-route}
+use Rattle.mittenschist.proofs.Replied.{nothing-told, told, read-back}
 
 module _ (A : ℕ) (T : Tables) (depot : ℕ) (route result : List ℕ) (number : ℕ) (judged : number ≡ refusal (pair-loop-rules T depot route (length result))) where
   abbrev rules : List Rule
@@ -29,17 +29,8 @@ module _ (A : ℕ) (T : Tables) (depot : ℕ) (route result : List ℕ) (number 
   abbrev looped : Reply (List ℕ)
   looped = pair-loop P A route
 
-  abbrev result-done : List ℕ
-  result-done = six-numbers P route looped ++ drop 6 result
-
   pub refused : (number ≡ 0 → ⊥) → PairLoopReply A T depot route result number route result
-  refused h =
-      record {
-        number-is = judged;
-        route-is = refused-kept rules number judged (looped .route) route h;
-        result-is = refused-kept rules number judged result-done result h;
-        promise = λ z. absurd (h z);
-      }
+  refused h = record { replied = nothing-told rules P route looped result number judged h; promise = λ z. absurd (h z) }
 
   module _ (h : number ≡ 0) where
     passes : Passes (problem-rules T depot route) × (6 ≤ length result)
@@ -55,10 +46,7 @@ module _ (A : ℕ) (T : Tables) (depot : ℕ) (route result : List ℕ) (number 
     pub tried : (answer : Polished) (route′ result′ : List ℕ) → PairsTried P A route answer route′ → result′ ≡ polish-values answer ++ drop 6 result →
         PairLoopReply A T depot route result 0 route′ result′
     tried answer route′ result′ p e =
-        let values = values-are P route route′ answer (p .before) (p .after) (p .late) ∙ ap (six-numbers P route) (p .loop) in
         record {
-          number-is = sym h ∙ judged;
-          route-is = its-route answer route′ ∙ ap (λ r. r .route) (p .loop) ∙ taken-done rules number judged (looped .route) route h;
-          result-is = e ∙ ap (λ l. l ++ drop 6 result) values ∙ taken-done rules number judged result-done result h;
+          replied = told rules P route looped result number judged h answer route′ result′ (p .loop) (p .before) (p .after) (p .late) e;
           promise = λ z. rw (e, read-back answer (drop 6 result) route′) (p .promise);
         }

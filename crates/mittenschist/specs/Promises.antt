@@ -8,6 +8,7 @@ use lib.Ieee.{Float}
 use lib.ListN.{length, getD, drop, replicate}
 use Rattle.theory.specs.Moves.{Pattern, patterns, next-cuts}
 use Rattle.theory.specs.Route.{Problem, tour-length, reconnected, late-position}
+use Rattle.theory.specs.Scan.{Reply}
 use Rattle.theory.specs.Polish.{move-at, Demand3}
 use Rattle.theory.specs.Tables.{Tables, Fleet, problem, timetable-by, legs-only}
 use Rattle.theory.specs.Question.{Question, asked}
@@ -100,14 +101,17 @@ pub record FeasibleReply (T : Tables) (depot : ℕ) (route : List ℕ) (answer :
   pub reply-is : feasibility-answer (length route) answer ≡ reply (refusal (problem-rules T depot route)) (late-values T depot route)
   pub says : Says T depot route answer
 
--- ---- polishing
+-- ---- polishing and the pair loop
 
--- Of the slices as they are handed in and as they are handed back, judged by some rules: route and result are those of document 01's scan; and demand 3 whenever
--- it returns 0.
-pub record PolishedBy (rules : List Rule) (q : Question) (result : List ℕ) (answer : ℕ) (route′ result′ : List ℕ) : Type 0 where
+-- The refusal number or 0; and of the slices as they are handed in and as they are handed back: the route and the six numbers of a reply, where no rule applies.
+pub record Replied (rules : List Rule) (P : Problem) (route : List ℕ) (q : Reply (List ℕ)) (result : List ℕ) (answer : ℕ) (route′ result′ : List ℕ) : Type 0 where
   pub number-is : answer ≡ refusal rules
-  pub route-is : route′ ≡ if-taken rules (asked q .route) (q .route)
-  pub result-is : result′ ≡ if-taken rules (six-numbers (problem (q .trip)) (q .route) (asked q) ++ drop 6 result) result
+  pub route-is : route′ ≡ if-taken rules (q .route) route
+  pub result-is : result′ ≡ if-taken rules (six-numbers P route q ++ drop 6 result) result
+
+-- Judged by some rules: route and result are those of document 01's scan; and demand 3, of what is handed back, whenever it returns 0.
+pub record PolishedBy (rules : List Rule) (q : Question) (result : List ℕ) (answer : ℕ) (route′ result′ : List ℕ) : Type 0 where
+  pub replied : Replied rules (problem (q .trip)) (q .route) (asked q) result answer route′ result′
   pub demand3 : answer ≡ 0 → Demand3 (problem (q .trip)) (patterns (q .k)) (q .k) (q .allowance) (q .route) (handed-back result′ route′)
 
 -- A closed tour: the entry is handed a question whose end is its depot.
@@ -117,17 +121,13 @@ PolishReply q result = PolishedBy (polish-rules q (length result)) q result
 abbrev pub PolishToEndReply : Question → List ℕ → ℕ → List ℕ → List ℕ → Type 0
 PolishToEndReply q result = PolishedBy (polish-to-end-rules q (length result)) q result
 
--- ---- the pair loop
-
--- It "keeps closed tours".
+-- The pair loop "keeps closed tours".
 abbrev pub closed-tour : Tables → (depot : ℕ) → Problem
 closed-tour T depot = problem (record { tables = T; depot = depot; end = depot })
 
--- Of the slices as they are handed in and as they are handed back: route and result are those of the pair loop; and what it keeps whenever it returns 0.
+-- Route and result are those of the pair loop; and what it keeps whenever it returns 0.
 pub record PairLoopReply (allowance : ℕ) (T : Tables) (depot : ℕ) (route result : List ℕ) (answer : ℕ) (route′ result′ : List ℕ) : Type 0 where
-  pub number-is : answer ≡ refusal (pair-loop-rules T depot route (length result))
-  pub route-is : route′ ≡ if-taken (pair-loop-rules T depot route (length result)) (pair-loop (closed-tour T depot) allowance route .route) route
-  pub result-is : result′ ≡ if-taken (pair-loop-rules T depot route (length result)) (six-numbers (closed-tour T depot) route (pair-loop (closed-tour T depot) allowance route) ++ drop 6 result) result
+  pub replied : Replied (pair-loop-rules T depot route (length result)) (closed-tour T depot) route (pair-loop (closed-tour T depot) allowance route) result answer route′ result′
   pub promise : answer ≡ 0 → PairPromise (closed-tour T depot) allowance route (handed-back result′ route′)
 
 -- ---- doable; apply and undo promise what they do over cut points (crate move_calls)

@@ -187,7 +187,7 @@ pub extern "C" fn mittenschist_polish_route_to_end(
         end,
         route,
     );
-    polishing::put_polished(answer, result);
+    polish_numbers::put_polished(answer, result);
     0
 }
 
@@ -247,7 +247,7 @@ pub extern "C" fn mittenschist_pair_loop(
         return refused;
     }
     let answer = pair_loop::pair_loop(allowance, locations, legs, latest, service, depot, route);
-    polishing::put_polished(answer, result);
+    polish_numbers::put_polished(answer, result);
     0
 }
 

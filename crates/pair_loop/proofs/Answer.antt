@@ -1,17 +1,18 @@
 -- What the pair loop answers, from what its passes counted. Assumes nothing.
-use mathlib.Core.Path.{_≡_, refl, sym, ap, _∙_}
-use mathlib.Core.Bool.{Bool, true, false}
+use mathlib.Core.Path.{_≡_, ap, _∙_}
+use mathlib.Core.Bool.{Bool, true}
 use mathlib.Core.List.{List}
 use Prim.Native.Nat.{ℕ, _<_}
 use native.Mathlib.Omega.{arith}
 use Rattle.theory.specs.Moves.{total}
 use Rattle.theory.specs.Route.{tour-length, late-position, feasible}
 use Rattle.theory.specs.Tables.{problem, timetable-by, legs-only, Timed, Trip}
-use Rattle.theory.specs.Answers.{reply-of, counts-of}
 use Rattle.theory.specs.declared.Counts.{Counts}
 use Rattle.theory.specs.declared.Polished.{Polished}
 use Rattle.theory.proofs.Judged.{clocked}
 use Rattle.deadlines.specs.Lateness.{LateAsked}
+use Rattle.polish_numbers.specs.Answer.{answer-of}
+use Rattle.polish_numbers.proofs.Answered.{length-without-deadlines, counts-are, reply-is}
 use Rattle.pair_reversal.proofs.Trying.{timed-rearranged}
 use Rattle.pair_loop.specs.declared.PairLoop.{PairLoop}
 use Rattle.pair_loop.specs.PairLoop.{PairsTried, reply-so-far, pair-loop}
@@ -35,20 +36,15 @@ module _ (T : Trip) (A : ℕ) (route : List ℕ) {counted : PairLoop} {route′ 
     abbrev counts : Counts
     counts = record { examined = counted .examined; accepted = counted .accepted; before = before; after = after; late = late }
 
-    -- Deadlines play no part in a length.
-    told : (answer : Polished) → counts-of answer ≡ counts → reply-of answer route′ ≡ reply-so-far counted route′ → PairsTried (problem T) A route answer route′
-    unfolding tour-length
-    told answer c f =
+    -- An answer of what was counted, with the lengths and the lowest late position, has what the loop keeps.
+    pub told : (answer : Polished) → answer ≡ answer-of (counted .finished) counts → PairsTried (problem T) A route answer route′
+    told answer f =
+        let c = counts-are (counted .finished) counts answer f in
+        let r = reply-is (counted .finished) counts answer f route′ ∙ e in
         record {
-          loop = f ∙ e;
-          before = ap (λ (k : Counts). k .before) c ∙ b;
-          after = ap (λ (k : Counts). k .after) c ∙ a;
+          loop = r;
+          before = ap (λ (k : Counts). k .before) c ∙ b ∙ length-without-deadlines T route;
+          after = ap (λ (k : Counts). k .after) c ∙ a ∙ length-without-deadlines T route′;
           late = ap (λ (k : Counts). k .late) c ∙ l;
-          promise = rw (f ∙ e) (loop-promise (problem T) A route);
+          promise = rw r (loop-promise (problem T) A route);
         }
-
-    pub finished : counted .finished ≡ true → PairsTried (problem T) A route (Polished.Finished counts) route′
-    finished f = told (Polished.Finished counts) refl (ap (λ (x : Bool). record { finished = x; examined = counted .examined; accepted = counted .accepted; route = route′ }) (sym f))
-
-    pub spent : counted .finished ≡ false → PairsTried (problem T) A route (Polished.Spent counts) route′
-    spent f = told (Polished.Spent counts) refl (ap (λ (x : Bool). record { finished = x; examined = counted .examined; accepted = counted .accepted; route = route′ }) (sym f))

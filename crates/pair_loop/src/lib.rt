@@ -166,15 +166,14 @@ pub fn pair_loop(
         depot,
         &route[..],
     );
-    let counts = Counts {
-        examined: tried.examined,
-        accepted: tried.accepted,
-        before,
-        after,
-        late,
-    };
-    if tried.finished {
-        return Polished::Finished(counts);
-    }
-    Polished::Spent(counts)
+    polish_numbers::counted(
+        tried.finished,
+        Counts {
+            examined: tried.examined,
+            accepted: tried.accepted,
+            before,
+            after,
+            late,
+        },
+    )
 }

@@ -1,6 +1,6 @@
 -- What polishing answers, from what the scan counted. Assumes nothing.
-use mathlib.Core.Path.{_≡_, refl, sym, ap, _∙_}
-use mathlib.Core.Bool.{Bool, true, false, false≢true}
+use mathlib.Core.Path.{_≡_, sym, ap, _∙_}
+use mathlib.Core.Bool.{true, false, false≢true}
 use mathlib.Core.List.{List}
 use Prim.Native.Nat.{ℕ, _+_, _≤_, _<_}
 use native.Mathlib.Omega.{arith}
@@ -9,7 +9,7 @@ use Rattle.theory.specs.Moves.{Pattern, total}
 use Rattle.theory.specs.Route.{Problem, tour-length, late-position}
 use Rattle.theory.specs.Polish.{ForCuts}
 use Rattle.theory.specs.Tables.{problem, timetable-by, legs-only, Measurable, pattern-rows, Trip}
-use Rattle.theory.specs.Answers.{Polishes, reply-of, counts-of}
+use Rattle.theory.specs.Answers.{Polishes}
 use Rattle.theory.specs.declared.Counts.{Counts}
 use Rattle.theory.specs.declared.Polished.{Polished}
 use Rattle.theory.proofs.Judged.{followed}
@@ -18,15 +18,12 @@ use Rattle.theory.proofs.Polish.{polish-with-demand3, same-total}
 use Rattle.theory.proofs.Steps.{nowhere}
 use Rattle.theory.proofs.Stops.{stops-rearranged}
 use Rattle.deadlines.specs.Lateness.{LateAsked}
+use Rattle.polish_numbers.specs.Answer.{answer-of}
+use Rattle.polish_numbers.proofs.Answered.{length-without-deadlines, counts-are, reply-is}
 use Rattle.scan_loop.specs.Loop.{Scannable, Scans}
 use Rattle.scan_loop.specs.declared.Scanned.{Scanned}
-use Rattle.polishing.specs.Loop.{PolishableRows, ScannedWith, answer-of}
+use Rattle.polishing.specs.Loop.{PolishableRows, ScannedWith}
 use Rattle.scan_joints.specs.States.{StateRows}
-
--- Deadlines play no part in a length.
-length-without-deadlines : (T : Trip) (r : List ℕ) → tour-length (legs-only (T .tables .locations) (T .tables .legs) (T .depot) (T .end)) r ≡ tour-length (problem T) r
-unfolding tour-length
-length-without-deadlines T r = refl
 
 module _ (k : ℕ) (T : Trip) (orders masks route : List ℕ) (A : ℕ) (ok : PolishableRows k T orders masks route) where
   for-cuts : ForCuts k (pattern-rows k orders masks)
@@ -62,21 +59,13 @@ module _ (k : ℕ) (T : Trip) (orders masks route : List ℕ) (A : ℕ) (ok : Po
     abbrev counts : (before after late : ℕ) → Counts
     counts before after late = record { examined = scanned .examined; accepted = scanned .accepted; before = before; after = after; late = late }
 
-    same-reply : (b : Bool) (c : Counts) → reply-of (answer-of b c) route′ ≡ record { finished = b; examined = c .examined; accepted = c .accepted; route = route′ }
-    same-reply true c = refl
-    same-reply false c = refl
-
-    same-counts : (b : Bool) (c : Counts) → counts-of (answer-of b c) ≡ c
-    same-counts true c = refl
-    same-counts false c = refl
-
     -- An answer that is the scan's, with the lengths and the lowest late position, has demand 3.
     pub replies : (before after late : ℕ) → before ≡ tour-length (legs-only (T .tables .locations) (T .tables .legs) (T .depot) (T .end)) route →
         after ≡ tour-length (legs-only (T .tables .locations) (T .tables .legs) (T .depot) (T .end)) route′ → late ≡ late-position (timetable-by (T .tables)) (T .depot) route′ →
         (answer : Polished) → answer ≡ answer-of (scanned .finished) (counts before after late) → Polishes P ps k A route answer route′
     replies before after late b a l answer e =
-        let c = ap counts-of e ∙ same-counts (scanned .finished) (counts before after late) in
-        let r = ap (λ x. reply-of x route′) e ∙ same-reply (scanned .finished) (counts before after late) ∙ s .scan in
+        let c = counts-are (scanned .finished) (counts before after late) answer e in
+        let r = reply-is (scanned .finished) (counts before after late) answer e route′ ∙ s .scan in
         record {
           scan = r;
           before = ap (λ n. n .before) c ∙ b ∙ length-without-deadlines T route;

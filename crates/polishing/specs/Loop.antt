@@ -1,6 +1,6 @@
 -- What polishing asks, and what the scan in it answers.
 use mathlib.Core.Path.{_≡_}
-use mathlib.Core.Bool.{Bool, true, false}
+use mathlib.Core.Bool.{true}
 use mathlib.Core.List.{List}
 use Prim.Native.Nat.{ℕ, _≤_, _<_}
 use lib.ListN.{length}
@@ -8,9 +8,6 @@ use Rattle.theory.specs.Moves.{Pattern}
 use Rattle.theory.specs.Route.{Problem, timetable-of, timely}
 use Rattle.theory.specs.Polish.{polish-with}
 use Rattle.theory.specs.Tables.{Timed, PatternRows, Trip}
-use Rattle.theory.specs.declared.Counts.{Counts}
-use Rattle.theory.specs.declared.Polished.{Polished}
-use Rattle.theory.specs.declared.Polished.the-variants as Polishing
 use Rattle.scan_loop.specs.declared.Scanned.{Scanned}
 
 -- What polishing with lent rows of patterns asks, and what polishing with document 01's patterns asks.
@@ -30,7 +27,3 @@ pub record Polishable (k : ℕ) (T : Trip) (route : List ℕ) : Type 0 where
 pub record ScannedWith (P : Problem) (ps : List Pattern) (k allowance : ℕ) (route : List ℕ) (answer : Scanned) (route′ : List ℕ) : Type 0 where
   pub scan : record { finished = answer .finished; examined = answer .examined; accepted = answer .accepted; route = route′ } ≡ polish-with P ps k allowance route
   pub kept : answer .kept ≡ true → timely (timetable-of P) (P .depot) route′ ≡ true
-
-abbrev pub answer-of : Bool → Counts → Polished
-answer-of true c = Polishing.Finished c
-answer-of false c = Polishing.Spent c

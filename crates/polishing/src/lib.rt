@@ -1,27 +1,12 @@
-// Polishing a route by the scan of document 01, with every pattern for k or with lent rows of patterns, and its six numbers into a lent result. No entry: crates
-// mittenschist, run and text call it.
+// Polishing a route by the scan of document 01, with every pattern for k or with lent rows of patterns. No entry: crates mittenschist, run and text call it.
 use scan_joints::ROW_BYTES;
 use scan_loop::Scanned;
 use theory::Counts;
 use theory::Polished;
-ghost use mathlib.Core.Path.{_≡_};
-ghost use mathlib.Core.List.{_∷_, _++_};
-ghost use Prim.Native.Nat.{_≤_};
-ghost use lib.ListN.{length, drop};
 ghost use Rattle.theory.specs.Moves.{patterns};
 ghost use Rattle.theory.specs.Tables.{problem, pattern-rows, trip};
-ghost use Rattle.theory.specs.Answers.{Polishes, polish-values};
-ghost use Rattle.polishing.specs.Loop.{PolishableRows, Polishable, ScannedWith, answer-of};
-
-// What was counted, as the answer.
-fn counted(finished: bool, counts: Counts) -> Polished
-    ensures { λ r. ⌜ r ≡ answer-of finished counts ⌝ }
-{
-    if finished {
-        return Polished::Finished(counts);
-    }
-    Polished::Spent(counts)
-}
+ghost use Rattle.theory.specs.Answers.{Polishes};
+ghost use Rattle.polishing.specs.Loop.{PolishableRows, Polishable, ScannedWith};
 
 // The scan with lent rows of patterns for k cuts; where the route has no cut set it is over at once.
 fn scanned_with(
@@ -107,7 +92,7 @@ pub fn polish_rows(
         depot,
         &route[..],
     );
-    counted(
+    polish_numbers::counted(
         scanned.finished,
         Counts {
             examined: scanned.examined,
@@ -154,27 +139,4 @@ pub fn polish_route(
         &masks[first_mask..end_mask],
         route,
     )
-}
-
-fn put_six(state: u64, counts: Counts, result: &mut [u64])
-    requires { ⌜ 6 ≤ length (now result) ⌝ }
-    ensures { λ _. ⌜ now (result .exit) ≡ state ∷ counts .examined ∷ counts .accepted ∷ counts .before ∷ counts .after ∷ counts .late ∷ drop 6 (now (result .entry)) ⌝ }
-{
-    result[0] = state;
-    result[1] = counts.examined;
-    result[2] = counts.accepted;
-    result[3] = counts.before;
-    result[4] = counts.after;
-    result[5] = counts.late;
-}
-
-// The six numbers of the answer into the first places of the result.
-pub fn put_polished(answer: Polished, result: &mut [u64])
-    requires { ⌜ 6 ≤ length (now result) ⌝ }
-    ensures { λ _. ⌜ now (result .exit) ≡ polish-values answer ++ drop 6 (now (result .entry)) ⌝ }
-{
-    match answer {
-        Polished::Finished(counts) => put_six(0, counts, result),
-        Polished::Spent(counts) => put_six(1, counts, result),
-    }
 }

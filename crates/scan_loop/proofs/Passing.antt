@@ -50,16 +50,16 @@ both-true : (a b : Bool) → (a && b) ≡ true → a ≡ true
 both-true true b h = refl
 both-true false b h = h
 
-none-above : (x : ℕ) → leb x 0 ≡ eqb x 0
-none-above zero = le-leb 0 0 (omega arith) ∙ sym (eq-eqb 0 0 refl)
-none-above (suc x) = lt-leb (suc x) 0 (omega arith) ∙ sym (ne-eqb (suc x) 0 (λ e. absurd (omega (arith, e))))
+at-most-none : (x : ℕ) → leb x 0 ≡ eqb x 0
+at-most-none zero = le-leb 0 0 (omega arith) ∙ sym (eq-eqb 0 0 refl)
+at-most-none (suc x) = lt-leb (suc x) 0 (omega arith) ∙ sym (ne-eqb (suc x) 0 (λ e. absurd (omega (arith, e))))
 
 -- A measured route keeps every deadline exactly where its lateness is 0 from the start on.
 pub kept-measured : (T : Trip) (r forwards backwards stayed : List ℕ) (longest : ℕ) (late : List ℕ) → Measured (T .tables) (T .depot) r forwards backwards stayed longest late →
     eqb (getD late 0 0) 0 ≡ timely (timetable-by (T .tables)) (T .depot) r
 kept-measured T r forwards backwards stayed longest late m =
     rw (m .latenesses .each 0 (omega arith))
-    (sym (timely-on-time (timetable-by (T .tables)) (T .depot) r ∙ on-time-is (clock-by (T .tables)) (T .depot) r ∙ none-above (lateness (clock-by (T .tables)) (T .depot) r 0)))
+    (sym (timely-on-time (timetable-by (T .tables)) (T .depot) r ∙ on-time-is (clock-by (T .tables)) (T .depot) r ∙ at-most-none (lateness (clock-by (T .tables)) (T .depot) r 0)))
 
 module _ (k : ℕ) (T : Trip) (orders masks rows route₀ : List ℕ) (A : ℕ) (ok : Scannable k T orders masks rows route₀) where
   as-many : length (pattern-rows k orders masks) ≡ length masks

@@ -1,6 +1,6 @@
 -- `pair_loop::pair_loop` meets its contract. Assumes nothing.
 use Rattle.theory.specs.Tables.{Trip, trip}
-use Rattle.pair_loop.proofs.Answer.{timed-after, late-asked, finished, spent}
+use Rattle.pair_loop.proofs.Answer.{timed-after, late-asked, told}
 use borrow.Author.Needs.{needs}
 use borrow.Author.Tests.{ltb-true}
 use Rattle.pair_loop.proofs.pair_loop.Statement.{statement}
@@ -27,6 +27,9 @@ late-position-requires c κs =
     let s = t .before .before .before .before .before .before .before .before in
     late-asked (lent s) (s .args .allowance) (s .args .route .now) (t .try-passes .ensures) (s .pre) (λ k. ltb-true 0 _ k)
 
+counted-requires : tie.Need-counted-requires
+counted-requires c κs = search needs
+
 same-length : tie.Need-same-length
 same-length c = search needs
 
@@ -34,16 +37,7 @@ returns : tie.Need-returns
 returns c =
     let t = c .before .before .before .before .before .before .before .before in
     let s = t .before .before .before .before .before .before .before .before in
-    finished (lent s) (s .args .allowance) (s .args .route .now) (t .try-passes .ensures) (t .before .before .route-length .ensures .is) (c .before .before .before .before .route-length2 .ensures .is) (c .before .late-position .ensures) (c .if1 .taken)
-
-same-length-2 : tie.Need-same-length-2
-same-length-2 c = search needs
-
-returns-2 : tie.Need-returns-2
-returns-2 c =
-    let t = c .before .before .before .before .before .before .before .before in
-    let s = t .before .before .before .before .before .before .before .before in
-    spent (lent s) (s .args .allowance) (s .args .route .now) (t .try-passes .ensures) (t .before .before .route-length .ensures .is) (c .before .before .before .before .route-length2 .ensures .is) (c .before .late-position .ensures) (c .if1 .left)
+    told (lent s) (s .args .allowance) (s .args .route .now) (t .try-passes .ensures) (t .before .before .route-length .ensures .is) (c .before .before .before .before .route-length2 .ensures .is) (c .before .late-position .ensures) _ (c .counted .ensures)
 
 pub pair-loop-spec : {M : Type 1} → statement M
 pair-loop-spec =
@@ -53,7 +47,6 @@ pair-loop-spec =
     try-passes-requires
     route-length-requires-2
     late-position-requires
+    counted-requires
     same-length
-    returns
-    same-length-2
-    returns-2)
+    returns)

@@ -1,10 +1,10 @@
--- `polishing::put_six` meets its contract. Assumes nothing.
+-- `polish_numbers::put_six` meets its contract. Assumes nothing.
 use lib.ListN.{length-set}
-use Rattle.polishing.proofs.Numbers.{six-written}
+use Rattle.polish_numbers.proofs.Numbers.{six-written}
 use native.Mathlib.Omega.{arith}
 use borrow.Author.Needs.{needs}
-use Rattle.polishing.proofs.put_six.Statement.{statement}
-use Rattle.polishing.proofs.put_six.Tie as tie
+use Rattle.polish_numbers.proofs.put_six.Statement.{statement}
+use Rattle.polish_numbers.proofs.put_six.Tie as tie
 
 slice-write-result : tie.Need-slice-write-result
 slice-write-result c = search needs

@@ -1,7 +1,7 @@
--- `polishing::put_polished` meets its contract. Assumes nothing.
+-- `polish_numbers::put_polished` meets its contract. Assumes nothing.
 use borrow.Author.Needs.{needs}
-use Rattle.polishing.proofs.put_polished.Statement.{statement}
-use Rattle.polishing.proofs.put_polished.Tie as tie
+use Rattle.polish_numbers.proofs.put_polished.Statement.{statement}
+use Rattle.polish_numbers.proofs.put_polished.Tie as tie
 
 enum-known-answer : tie.Need-enum-known-answer
 enum-known-answer c = search needs

@@ -1,8 +1,8 @@
--- `polishing::counted` meets its contract. Assumes nothing.
+-- `polish_numbers::counted` meets its contract. Assumes nothing.
 use mathlib.Core.Path.{refl, sym, ap}
-use Rattle.polishing.specs.Loop.{answer-of}
-use Rattle.polishing.proofs.counted.Statement.{statement}
-use Rattle.polishing.proofs.counted.Tie as tie
+use Rattle.polish_numbers.specs.Answer.{answer-of}
+use Rattle.polish_numbers.proofs.counted.Statement.{statement}
+use Rattle.polish_numbers.proofs.counted.Tie as tie
 
 returns : tie.Need-returns
 returns c = sym (ap (λ b. answer-of b (c .before .args .counts)) (c .if1 .taken))
