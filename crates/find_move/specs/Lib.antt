@@ -1,0 +1,2 @@
+-- The definitions that the contracts of `find_move` cite.
+pub mod Walk

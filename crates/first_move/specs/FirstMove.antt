@@ -1,0 +1,51 @@
+-- "The first cuts and pattern in scan order that turn one into the other, or none."
+use mathlib.Core.Path.{_≡_}
+use mathlib.Core.Bool.{Bool, true, false, _&&_}
+use mathlib.Core.List.{List, [], _∷_, _++_, map, flatMap, List·Memᴰ}
+use mathlib.Core.Option.{Option, none, some}
+use Prim.Native.Nat.{ℕ, _<_}
+use lib.Dec.{eqb}
+use lib.ListN.{length}
+use Rattle.theory.specs.Moves.{upfrom, Pattern, patterns, cut-sets, Rising}
+use Rattle.theory.specs.Route.{reconnected}
+use Rattle.theory.specs.Polish.{move-at}
+
+-- The first element that passes a test.
+unfoldable pub first-that : {A : Type 0} → (A → Bool) → List A → Option A
+first-that t [] = none
+first-that t (x ∷ xs) = elim (t x) [ true ↦ some x | false ↦ first-that t xs ]
+
+-- The same stops in the same order.
+unfoldable pub same-route : List ℕ → List ℕ → Bool
+same-route [] [] = true
+same-route [] (y ∷ ys) = false
+same-route (x ∷ xs) [] = false
+same-route (x ∷ xs) (y ∷ ys) = eqb x y && same-route xs ys
+
+-- "All patterns on a cut set, then the next cut set", each pattern by its index.
+unfoldable pub numbered : ℕ → List (List ℕ) → List (List ℕ × ℕ)
+unfolding flatMap upfrom
+numbered count css = flatMap (λ cs. map (λ i. (cs, i)) (upfrom 0 count)) css
+
+-- Whether the cuts and the index turn one route into the other. Deadlines play no part.
+abbrev pub turns-into : ℕ → List ℕ → List ℕ → List ℕ × ℕ → Bool
+turns-into k old wanted c = same-route (reconnected (move-at (patterns k) (c .0) (c .1)) old) wanted
+
+abbrev pub first-move : ℕ → List ℕ → List ℕ → Option (List ℕ × ℕ)
+first-move k old wanted = first-that (turns-into k old wanted) (numbered (length (patterns k)) (cut-sets k (length old)))
+
+-- No k cuts and no pattern of document 01 turn one route into the other.
+abbrev pub NoMove : ℕ → List ℕ → List ℕ → Type 0
+NoMove k old wanted =
+    (cs : List ℕ) → length cs ≡ k → Rising 0 cs (length old) → (p : Pattern) → List·Memᴰ p (patterns k) → ¬ (reconnected (record { cuts = cs; pattern = p }) old ≡ wanted)
+
+-- What is said of a move that is found: it is one of document 01's, it turns one into the other, and nothing before it in the scan's order does.
+pub record FoundFirst (k : ℕ) (old wanted : List ℕ) (c : List ℕ × ℕ) : Type 0 where
+  pub many : length (c .0) ≡ k
+  pub rising : Rising 0 (c .0) (length old)
+  pub known : c .1 < length (patterns k)
+  pub turns : reconnected (move-at (patterns k) (c .0) (c .1)) old ≡ wanted
+  pub before : List (List ℕ × ℕ)
+  pub after : List (List ℕ × ℕ)
+  pub listed : numbered (length (patterns k)) (cut-sets k (length old)) ≡ before ++ (c ∷ after)
+  pub first : (d : List ℕ × ℕ) → List·Memᴰ d before → ¬ (reconnected (move-at (patterns k) (d .0) (d .1)) old ≡ wanted)

@@ -1,0 +1,1 @@
+// The first move that turns one route into another. Definitions and laws are in specs/ and proofs/.

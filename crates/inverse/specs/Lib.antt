@@ -1,0 +1,2 @@
+-- The definitions of `inverse`.
+pub mod WayBack

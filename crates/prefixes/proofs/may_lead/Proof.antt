@@ -1,0 +1,80 @@
+-- `may_lead` meets its contract. Assumes nothing.
+use mathlib.Core.Path.{_≡_, refl}
+use Prim.Native.Nat.{_-_, _*_}
+use native.Mathlib.Omega.{arith}
+use lib.Bits.{bitAnd}
+use lib.ListN.{getD}
+use Rattle.standing.proofs.Places.{has-both}
+use Rattle.prefixes.proofs.Prefix.{not-by-ends, not-by-parts}
+use borrow.Author.Needs.{needs}
+use Rattle.prefixes.proofs.may_lead.Statement.{statement}
+use Rattle.prefixes.proofs.may_lead.Tie as tie
+
+element-copy-out-first : tie.Need-element-copy-out-first
+element-copy-out-first c = search needs
+
+one-place-requires : tie.Need-one-place-requires
+one-place-requires c κs = omega (arith, c .before .pre .first .small 0 (omega arith))
+
+mul-row : tie.Need-mul-row
+mul-row c = search needs
+
+element-copy-out-row : tie.Need-element-copy-out-row
+element-copy-out-row c = search needs
+
+mul-row-2 : tie.Need-mul-row-2
+mul-row-2 c = let s = c .before .before .before in omega (arith, s .pre .first .small (s .args .known) (omega arith))
+
+sub-unknown : tie.Need-sub-unknown
+sub-unknown c = search needs
+
+sub-unknown-2 : tie.Need-sub-unknown-2
+sub-unknown-2 c = search needs
+
+sub-left : tie.Need-sub-left
+sub-left c = search needs
+
+leads-requires : tie.Need-leads-requires
+leads-requires c κs =
+    let s = c .before .before .before .before in
+    record { cuts-good = s .pre .first; row-good = omega (arith, s .pre .first .small (s .args .known) (omega arith)) }
+
+returns : tie.Need-returns
+returns c =
+    let s = c .before .before .before .before .before in
+    let a = s .args in
+    let one = c .before .before .before .one-place in
+    λ e.
+    not-by-ends (a .k) (a .known) (a .cuts .now) (a .stands .now) (a .ends .now) (a .parts .now) (a .head) (a .tail) (getD (a .cuts .now) (a .known) 0 * 49) (a .k - a .known - 1) (a .k - 1)
+    (bitAnd (a .head) (one .result)) (s .pre) refl refl refl (λ x q h. has-both (a .head) (one .result) x h (rw q (one .ensures .here))) (c .before .if1 .taken) (c .leads .ensures e)
+
+leads-requires-2 : tie.Need-leads-requires-2
+leads-requires-2 c κs =
+    let s = c .before .before .before .before in
+    record { cuts-good = s .pre .first; row-good = omega (arith, s .pre .first .small (s .args .known) (omega arith)) }
+
+returns-2 : tie.Need-returns-2
+returns-2 c =
+    let s = c .before .before .before .before .before in
+    let a = s .args in
+    let one = c .before .before .before .one-place in
+    λ e.
+    not-by-parts (a .k) (a .known) (a .cuts .now) (a .stands .now) (a .ends .now) (a .parts .now) (a .head) (a .tail) (getD (a .cuts .now) (a .known) 0 * 49) (a .k - a .known - 1) (a .k - 1)
+    (bitAnd (a .head) (one .result)) (s .pre) refl refl refl (λ x q h. has-both (a .head) (one .result) x h (rw q (one .ensures .here))) (c .leads2 .ensures e)
+
+pub may-lead-spec : {M : Type 1} → statement M
+may-lead-spec =
+    tie.close
+    (tie.spec
+    element-copy-out-first
+    one-place-requires
+    mul-row
+    element-copy-out-row
+    mul-row-2
+    sub-unknown
+    sub-unknown-2
+    sub-left
+    leads-requires
+    returns
+    leads-requires-2
+    returns-2)
