@@ -1,1 +1,3 @@
-pub mod Walk
+pub mod Steps
+pub mod Routes
+pub mod Patterns

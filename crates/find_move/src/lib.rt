@@ -1,20 +1,17 @@
 // The first move that turns one route into another, in the order of the scan: cut by cut, where the test of the first cuts does not say that nothing is there.
 // No entry: crate mittenschist calls it.
+use first_move::FoundMove;
+use theory::STOPS;
+ghost use mathlib.Core.Path.{_≡_};
+ghost use mathlib.Core.Bool.{false};
+ghost use Prim.Native.Nat.{_<_};
+ghost use lib.ListN.{length, set};
+ghost use Rattle.first_move.specs.FirstMove.{same-route};
+ghost use Rattle.find_move.specs.Search.{Sought, TryableRow, Tryable, turned, FirstOf, WholeCuts, FirstPattern, Begun, GoesOn, Walkable, Walked, Finds};
 
-// The first move with its first k cuts, or none.
-pub struct FoundMove {
-    pub found: bool,
-    pub index: usize,
-    pub cuts: [usize; 5],
-}
-
-// The judged search: the refusal number with no move, or 0 with what was found.
-pub struct MoveSought {
-    pub refusal: u32,
-    pub found: FoundMove,
-}
-
-pub fn no_move() -> FoundMove {
+fn no_move() -> FoundMove
+    ensures { λ r. ⌜ r .found ≡ false ⌝ }
+{
     FoundMove {
         found: false,
         index: 0,
@@ -23,7 +20,10 @@ pub fn no_move() -> FoundMove {
 }
 
 // The same stops in the same order.
-fn same_route(a: &[u32], b: &[u32]) -> bool {
+fn same_route(a: &[u32], b: &[u32]) -> bool
+    requires { ⌜ length (now a) ≡ length (now b) ⌝ }
+    ensures { λ r. ⌜ r ≡ same-route (now (a .entry)) (now (b .entry)) ⌝ }
+{
     let mut i = 0;
     while i < a.len() {
         if a[i] != b[i] {
@@ -35,25 +35,21 @@ fn same_route(a: &[u32], b: &[u32]) -> bool {
 }
 
 // Whether the pattern of row i turns the old route into the wanted one.
-fn turns(
-    old: &[u32],
-    wanted: &[u32],
-    cuts: &[usize],
-    orders: &[u8],
-    masks: &[u8],
-    i: usize,
-) -> bool {
+fn turns(old: &[u32], wanted: &[u32], cuts: &[usize], orders: &[u8], masks: &[u8], i: usize) -> bool
+    requires { ⌜ TryableRow (now old) (now wanted) (now cuts) (now orders) (now masks) i ⌝ }
+    ensures { λ r. ⌜ r ≡ turned (now (old .entry)) (now (wanted .entry)) (now (cuts .entry)) (now (orders .entry)) (now (masks .entry)) i ⌝ }
+{
     let n = old.len();
-    let width = cuts.len() + 1;
-    let at = i * width;
-    let end = at + width;
-    let mut place = [0u32; 48];
-    reconnection::reconnect(old, cuts, &orders[at..end], masks[i], &mut place[..n]);
-    same_route(&place[..n], wanted)
+    let mut spare = [0u32; STOPS];
+    candidates::build_front(old, cuts, orders, masks, i, &mut spare);
+    same_route(&spare[..n], wanted)
 }
 
 // The first row that does, or the number of rows.
-fn first_row(old: &[u32], wanted: &[u32], cuts: &[usize], orders: &[u8], masks: &[u8]) -> usize {
+fn first_row(old: &[u32], wanted: &[u32], cuts: &[usize], orders: &[u8], masks: &[u8]) -> usize
+    requires { ⌜ Tryable (now old) (now wanted) (now cuts) (now orders) (now masks) ⌝ }
+    ensures { λ r. ⌜ FirstOf (turned (now (old .entry)) (now (wanted .entry)) (now (cuts .entry)) (now (orders .entry)) (now (masks .entry))) (length (now (masks .entry))) r ⌝ }
+{
     let mut i = 0;
     while i < masks.len() {
         if turns(old, wanted, cuts, orders, masks, i) {
@@ -65,7 +61,10 @@ fn first_row(old: &[u32], wanted: &[u32], cuts: &[usize], orders: &[u8], masks: 
 }
 
 // The first pattern on a cut set that does.
-fn first_pattern(k: usize, old: &[u32], wanted: &[u32], cuts: [usize; 5]) -> FoundMove {
+fn first_pattern(k: usize, old: &[u32], wanted: &[u32], cuts: [usize; 5]) -> FoundMove
+    requires { ⌜ WholeCuts k (now old) (now wanted) cuts ⌝ }
+    ensures { λ r. ⌜ FirstPattern k (now (old .entry)) (now (wanted .entry)) cuts r ⌝ }
+{
     let part = pattern_table::part_of(k);
     let first_order = part.orders;
     let end_order = part.orders_end;
@@ -97,14 +96,20 @@ fn may_go_on(
     k: usize,
     cuts: [usize; 5],
     j: usize,
-) -> bool {
+) -> bool
+    requires { ⌜ Begun k cuts j ⌝ }
+    ensures { λ r. ⌜ GoesOn (now (stands .entry)) (now (ends .entry)) (now (parts .entry)) head tail k cuts j r ⌝ }
+{
     if j == 0 {
         return true;
     }
     prefixes::may_lead(stands, ends, parts, &cuts, head, tail, k, j - 1)
 }
 
-fn with_cut(cuts: [usize; 5], j: usize, d: usize) -> [usize; 5] {
+fn with_cut(cuts: [usize; 5], j: usize, d: usize) -> [usize; 5]
+    requires { ⌜ j < 5 ⌝ }
+    ensures { λ r. ⌜ r ≡ set cuts j d ⌝ }
+{
     let mut longer = cuts;
     longer[j] = d;
     longer
@@ -123,7 +128,10 @@ fn walk(
     cuts: [usize; 5],
     j: usize,
     low: usize,
-) -> FoundMove {
+) -> FoundMove
+    requires { ⌜ Walkable k (now old) (now wanted) (now stands) (now ends) (now parts) head tail cuts j low ⌝ }
+    ensures { λ r. ⌜ Walked k (now (old .entry)) (now (wanted .entry)) cuts j low r ⌝ }
+{
     if !may_go_on(stands, ends, parts, head, tail, k, cuts, j) {
         return no_move();
     }
@@ -155,7 +163,10 @@ fn walk(
 }
 
 // The first move with k cuts that turns the old route into the wanted one.
-pub fn find_move(k: usize, old: &[u32], wanted: &[u32]) -> FoundMove {
+pub fn find_move(k: usize, old: &[u32], wanted: &[u32]) -> FoundMove
+    requires { ⌜ Sought k (now old) (now wanted) ⌝ }
+    ensures { λ r. ⌜ Finds k (now (old .entry)) (now (wanted .entry)) r ⌝ }
+{
     let same = standing_tables::same_words(old, wanted);
     let mut stands = [0u64; 2401];
     standing_tables::fill_stands(&same, old.len(), &mut stands);
@@ -180,32 +191,4 @@ pub fn find_move(k: usize, old: &[u32], wanted: &[u32]) -> FoundMove {
         0,
         0,
     )
-}
-
-// No search: the refusal number alone.
-pub fn not_sought(refused: u32) -> MoveSought {
-    let none = no_move();
-    MoveSought {
-        refusal: refused,
-        found: none,
-    }
-}
-
-// The cuts into the first places.
-fn put_cuts(cuts: &[usize], places: &mut [u64]) {
-    for i in 0..cuts.len() {
-        places[i] = cuts[i] as u64;
-    }
-}
-
-// 1, the index and the k cuts; or 0 alone.
-pub fn put_move(k: usize, answer: FoundMove, result: &mut [u64]) {
-    if !answer.found {
-        result[0] = 0;
-        return;
-    }
-    let cuts = answer.cuts;
-    result[0] = 1;
-    result[1] = answer.index as u64;
-    put_cuts(&cuts[..k], &mut result[2..]);
 }

@@ -1,14 +1,15 @@
 -- "The first cuts and pattern in scan order that turn one into the other, or none."
 use mathlib.Core.Path.{_≡_}
-use mathlib.Core.Bool.{Bool, true, false, _&&_}
+use mathlib.Core.Bool.{Bool, true, false, cond, _&&_}
 use mathlib.Core.List.{List, [], _∷_, _++_, map, flatMap, List·Memᴰ}
 use mathlib.Core.Option.{Option, none, some}
 use Prim.Native.Nat.{ℕ, _<_}
 use lib.Dec.{eqb}
-use lib.ListN.{length}
+use lib.ListN.{length, take}
 use Rattle.theory.specs.Moves.{upfrom, Pattern, patterns, cut-sets, Rising}
 use Rattle.theory.specs.Route.{reconnected}
 use Rattle.theory.specs.Polish.{move-at}
+use Rattle.first_move.specs.declared.FoundMove.{FoundMove}
 
 -- The first element that passes a test.
 unfoldable pub first-that : {A : Type 0} → (A → Bool) → List A → Option A
@@ -33,6 +34,15 @@ turns-into k old wanted c = same-route (reconnected (move-at (patterns k) (c .0)
 
 abbrev pub first-move : ℕ → List ℕ → List ℕ → Option (List ℕ × ℕ)
 first-move k old wanted = first-that (turns-into k old wanted) (numbered (length (patterns k)) (cut-sets k (length old)))
+
+-- What an answer says: the index and the first k cuts, or none.
+abbrev pub found-move : ℕ → FoundMove → Option (List ℕ × ℕ)
+found-move k r = cond (r .found) (some (take k (r .cuts), r .index)) none
+
+-- 1, the index and the cuts; or 0 alone.
+abbrev pub move-values : Option (List ℕ × ℕ) → List ℕ
+move-values none = 0 ∷ []
+move-values (some c) = 1 ∷ c .1 ∷ c .0
 
 -- No k cuts and no pattern of document 01 turn one route into the other.
 abbrev pub NoMove : ℕ → List ℕ → List ℕ → Type 0

@@ -1,9 +1,9 @@
--- `scan_taking::build_front` meets its contract: what stands at the front of `spare` is the candidate. Assumes nothing.
+-- `candidates::build_front` meets its contract: what stands at the front of `spare` is the candidate. Assumes nothing.
 use mathlib.Core.Path.{sym, _∙_}
 use native.Mathlib.Omega.{arith}
-use Rattle.scan_taking.proofs.Candidate.{room, built-front}
-use Rattle.scan_taking.proofs.build_front.Statement.{statement}
-use Rattle.scan_taking.proofs.build_front.Tie as tie
+use Rattle.candidates.proofs.Candidate.{room, built-front}
+use Rattle.candidates.proofs.build_front.Statement.{statement}
+use Rattle.candidates.proofs.build_front.Tie as tie
 
 slice-relend-prefix-build-candidate : tie.Need-slice-relend-prefix-build-candidate
 slice-relend-prefix-build-candidate c = let s = c .before .before .before .before .before in omega (arith, s .pre .places, s .pre .of .cut-set .short)

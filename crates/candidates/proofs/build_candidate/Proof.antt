@@ -1,13 +1,13 @@
--- `scan_taking::build_candidate` meets its contract: the order and the mask that are lent are the pattern's. Assumes nothing.
+-- `candidates::build_candidate` meets its contract: the order and the mask that are lent are the pattern's. Assumes nothing.
 use mathlib.Core.Path.{_∙_}
 use Prim.Native.Nat.{_+_, _*_, _≤_}
 use native.Mathlib.Omega.{arith}
 use borrow.Author.Needs.{needs}
 use lib.ListN.{length}
 use Rattle.theory.proofs.Rows.{lent-within}
-use Rattle.scan_taking.proofs.Candidate.{lent-once, lent-candidate}
-use Rattle.scan_taking.proofs.build_candidate.Statement.{statement}
-use Rattle.scan_taking.proofs.build_candidate.Tie as tie
+use Rattle.candidates.proofs.Candidate.{lent-once, lent-candidate}
+use Rattle.candidates.proofs.build_candidate.Statement.{statement}
+use Rattle.candidates.proofs.build_candidate.Tie as tie
 
 -- The order that is lent lies among the orders.
 within : (s : tie.Start) → s .args .i * (length (s .args .cuts .now) + 1) + (length (s .args .cuts .now) + 1) ≤ length (s .args .orders .now)

@@ -13,7 +13,7 @@ use Rattle.theory.proofs.Route.{total-reconnected}
 use Rattle.theory.proofs.Rows.{lent-row, lent-at, listed-for-k}
 use Rattle.theory.proofs.ForK.{for-k-order}
 use Rattle.theory.proofs.Stops.{as-many}
-use Rattle.scan_taking.specs.Candidate.{candidate, Candidate, BuildableFront, BuiltFront}
+use Rattle.candidates.specs.Candidate.{candidate, Candidate, BuildableFront, BuiltFront}
 
 module _ {r cs orders masks : List ℕ} {i : ℕ} (given : Candidate r cs orders masks i) where
   abbrev move : Move

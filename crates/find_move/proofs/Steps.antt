@@ -1,5 +1,5 @@
 -- The walk over the cut sets, cut by cut: those with the least next cut, then the others. Assumes nothing.
-use mathlib.Core.Path.{_≡_, refl, sym, ap, ap₂, _∙_}
+use mathlib.Core.Path.{_≡_, refl, sym, ap, ap₂, _∙_, subst}
 use mathlib.Core.Bool.{Bool, true, false}
 use mathlib.Core.Option.{none}
 use mathlib.Core.List.{List, [], _∷_, _++_, map, map-map, map-append, flatMap, append-assoc, List·Memᴰ, Memᴰ·of-map}
@@ -10,6 +10,8 @@ use Rattle.theory.specs.Moves.{upfrom, combinations, cut-sets, Rising}
 use Rattle.theory.proofs.Moves.{listed-cuts}
 use Rattle.first_move.specs.FirstMove.{first-that, numbered}
 use Rattle.find_move.specs.Walk.{tried-from}
+use Rattle.prefixes.specs.Prefix.{MayLead, NothingThere}
+use Rattle.find_move.specs.Search.{GoesOn}
 use Rattle.first_move.proofs.First.{first-none}
 use Rattle.first_move.proofs.FirstMove.{numbered-from}
 
@@ -66,3 +68,9 @@ module _ (count n : ℕ) where
       let u = Memᴰ·of-map (λ s. pre ++ s) (combinations (upfrom low (suc n - low)) j) (q .0) in
       let l = listed-cuts n (suc n - low) low j (u .0) (omega arith) (u .1) in
       rw (u .2) at (no-one (u .0) (l .0) (l .1) (c .1) (q .1)))
+
+-- The test of the first j cuts, j at least 1.
+pub tested : (stands ends parts : List ℕ) (head tail k : ℕ) (cuts : List ℕ) (j : ℕ) (r : Bool) → 0 < j → MayLead k (j - 1) cuts stands ends parts head tail r → GoesOn stands ends parts head tail k cuts j r
+tested stands ends parts head tail k cuts j r h may e n old wanted tables =
+    let z : suc (j - 1) ≡ j = omega arith in
+    subst (λ x. NothingThere k x old wanted cuts) z (may e n old wanted tables)
