@@ -60,7 +60,7 @@ fn against_cell(same: &[u64; 49], table: &[u64; 2401], i: usize) -> u64
 // All of the first, from the last place up.
 pub fn fill_along(same: &[u64; 49], table: &mut [u64; 2401])
     requires { ⌜ length (now table) ≡ 2401 ⌝ }
-    ensures { λ _. ⌜ AlongTable (now (same .entry)) (now (table .exit)) ⌝ }
+    ensures { λ _. ⌜ AlongTable (now (same .entry)) (now (table .exit)) × (length (now (table .exit)) ≡ 2401) ⌝ }
 {
     let mut i = 2352;
     while i > 0 {
@@ -72,7 +72,7 @@ pub fn fill_along(same: &[u64; 49], table: &mut [u64; 2401])
 // And of the second.
 pub fn fill_against(same: &[u64; 49], table: &mut [u64; 2401])
     requires { ⌜ length (now table) ≡ 2401 ⌝ }
-    ensures { λ _. ⌜ AgainstTable (now (same .entry)) (now (table .exit)) ⌝ }
+    ensures { λ _. ⌜ AgainstTable (now (same .entry)) (now (table .exit)) × (length (now (table .exit)) ≡ 2401) ⌝ }
 {
     let mut i = 2352;
     while i > 0 {

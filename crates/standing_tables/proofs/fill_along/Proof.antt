@@ -51,7 +51,7 @@ loop-again c =
 returns : tie.Need-returns Inv-loop μ-loop
 returns c =
     let l = c .before .loop in
-    λ n old wanted pair same a y b h. l .inv .2 n old wanted pair same a y b (omega (arith, c .loop-test .left))
+    (λ n old wanted pair same a y b h. l .inv .2 n old wanted pair same a y b (omega (arith, c .loop-test .left)), l .inv .1)
 
 pub fill-along-spec : {M : Type 1} → statement M
 fill-along-spec =
