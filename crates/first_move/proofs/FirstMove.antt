@@ -8,8 +8,8 @@ use Prim.Native.Nat.{ℕ, zero, suc, _+_, _≤_, _<_}
 use native.Mathlib.Omega.{arith}
 use native.Mathlib.Nat.{zero-add}
 use lib.Dec.{eqb}
-use lib.ListN.{length, getD, drop, length-map, drop-of-length-le}
-use lib.Seq.{drop-cons}
+use lib.ListN.{length, getD, take, drop, length-map, drop-of-length-le}
+use lib.Seq.{drop-cons, take-at}
 use borrow.Author.Tests.{eq-eqb, eqb-true}
 use Rattle.theory.specs.Moves.{upfrom, Pattern, Move, patterns, cut-sets, candidates, Rising}
 use Rattle.theory.specs.Route.{reconnected}
@@ -17,7 +17,7 @@ use Rattle.theory.specs.Polish.{move-at}
 use Rattle.theory.proofs.Moves.{mem-flatMap, of-flatMap, cuts-listed, listed-cuts, upfrom-range}
 use Rattle.theory.proofs.Orders.{listed-number}
 use Rattle.theory.proofs.Index.{mem-getD}
-use Rattle.first_move.specs.FirstMove.{first-that, same-route, numbered, turns-into, first-move, NoMove, FoundFirst}
+use Rattle.first_move.specs.FirstMove.{first-that, same-route, numbered, turns-into, first-move, move-values, in-front, handed-move, NoMove, FoundFirst, Told}
 use Rattle.first_move.proofs.First.{first-none, none-passes, Found, found}
 
 -- ---- contents
@@ -115,3 +115,14 @@ module _ (k : ℕ) (old wanted : List ℕ) where
         listed = f .listed;
         first = λ d i. not-same (reconnected (move-at (patterns k) (d .0) (d .1)) old) wanted (f .first d i);
       }
+
+  pub told : Told k old wanted (first-move k old wanted)
+  told = record { none-exactly = none-iff; found-first = found-first }
+
+  -- The result that is handed back says what was found.
+  pub told-back : (result : List ℕ) → handed-move k (in-front (move-values (first-move k old wanted)) result) ≡ first-move k old wanted
+  told-back result = by (first-move k old wanted) refl
+    where
+      by : (o : Option (List ℕ × ℕ)) → first-move k old wanted ≡ o → handed-move k (in-front (move-values o) result) ≡ o
+      by none e = refl
+      by (some c) e = ap (λ (l : List ℕ). some (l, c .1)) (take-at (c .0) (drop (length (1 ∷ c .1 ∷ c .0)) result) k (found-first c e .many))

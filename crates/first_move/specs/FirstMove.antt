@@ -1,11 +1,12 @@
 -- "The first cuts and pattern in scan order that turn one into the other, or none."
 use mathlib.Core.Path.{_≡_}
+use mathlib.Core.Logic.{_↔_}
 use mathlib.Core.Bool.{Bool, true, false, cond, _&&_}
 use mathlib.Core.List.{List, [], _∷_, _++_, map, flatMap, List·Memᴰ}
 use mathlib.Core.Option.{Option, none, some}
 use Prim.Native.Nat.{ℕ, _<_}
 use lib.Dec.{eqb}
-use lib.ListN.{length, take}
+use lib.ListN.{length, getD, take, drop}
 use Rattle.theory.specs.Moves.{upfrom, Pattern, patterns, cut-sets, Rising}
 use Rattle.theory.specs.Route.{reconnected}
 use Rattle.theory.specs.Polish.{move-at}
@@ -44,6 +45,14 @@ abbrev pub move-values : Option (List ℕ × ℕ) → List ℕ
 move-values none = 0 ∷ []
 move-values (some c) = 1 ∷ c .1 ∷ c .0
 
+-- Values in the first places; the places behind them keep their contents.
+abbrev pub in-front : List ℕ → List ℕ → List ℕ
+in-front values result = values ++ drop (length values) result
+
+-- What a result that was handed back says: none, or the k cuts and the index behind the 1.
+abbrev pub handed-move : ℕ → List ℕ → Option (List ℕ × ℕ)
+handed-move k result = cond (eqb (getD result 0 0) 0) none (some (take k (drop 2 result), getD result 1 0))
+
 -- No k cuts and no pattern of document 01 turn one route into the other.
 abbrev pub NoMove : ℕ → List ℕ → List ℕ → Type 0
 NoMove k old wanted =
@@ -59,3 +68,8 @@ pub record FoundFirst (k : ℕ) (old wanted : List ℕ) (c : List ℕ × ℕ) : 
   pub after : List (List ℕ × ℕ)
   pub listed : numbered (length (patterns k)) (cut-sets k (length old)) ≡ before ++ (c ∷ after)
   pub first : (d : List ℕ × ℕ) → List·Memᴰ d before → ¬ (reconnected (move-at (patterns k) (d .0) (d .1)) old ≡ wanted)
+
+-- What is promised of an answer: "none" is said exactly if no cut set and no pattern do it, and a move that is found is the first.
+pub record Told (k : ℕ) (old wanted : List ℕ) (o : Option (List ℕ × ℕ)) : Type 0 where
+  pub none-exactly : (o ≡ none) ↔ NoMove k old wanted
+  pub found-first : (c : List ℕ × ℕ) → o ≡ some c → FoundFirst k old wanted c

@@ -10,8 +10,8 @@ ghost use Rattle.theory.specs.Refusals.{problem-rules};
 ghost use Rattle.move_calls.specs.Entries.{DoMoveReply, UndoReply, doable-rules};
 ghost use Rattle.moves.specs.Moves.{length-change, pattern-values};
 ghost use Rattle.refusal_rules.specs.Rules.{route-length-rules, route-length-to-end-rules, pattern-rules, delta-rules, delta-to-end-rules};
-ghost use Rattle.mittenschist.specs.Promises.{NextCutSetReply, RouteLengthReply, RouteLengthToEndReply, ReconnectionReply, ReconnectReply, DeltaReply, DeltaToEndReply, FeasibleReply, PolishReply, PolishToEndReply, PairLoopReply, Written, NextCutSetWritten, late-values, doable-values, RunReply, RunToEndsReply, NearbyReply, NearbyWritten};
-use find_move::MoveSought;
+ghost use Rattle.mittenschist.specs.Promises.{NextCutSetReply, RouteLengthReply, RouteLengthToEndReply, ReconnectionReply, ReconnectReply, DeltaReply, DeltaToEndReply, FeasibleReply, PolishReply, PolishToEndReply, PairLoopReply, Written, NextCutSetWritten, late-values, doable-values, RunReply, RunToEndsReply, NearbyReply, NearbyWritten, FindMoveReply, FindMoveWritten};
+use first_move::SoughtMove;
 use polishing::polish_route;
 use theory::CutStep;
 use theory::Feasibility;
@@ -565,13 +565,18 @@ pub extern "C" fn mittenschist_nearby_cuts(
 }
 
 // The first cuts and pattern in scan order that turn one route into another, or none. Refuses 1, 5, 25.
-pub fn find_move(k: usize, old: &[u32], wanted: &[u32]) -> MoveSought {
+pub fn find_move(k: usize, old: &[u32], wanted: &[u32]) -> SoughtMove
+    ensures { λ r. ⌜ FindMoveReply k (now (old .entry)) (now (wanted .entry)) r ⌝ }
+{
     let refused = refusal_rules::find_move_refusal(k, old.len(), wanted.len());
     if refused != 0 {
-        return find_move::not_sought(refused);
+        return entry_results::no_search(refused);
     }
     let found = find_move::find_move(k, old, wanted);
-    MoveSought { refusal: 0, found }
+    SoughtMove {
+        refusal: 0,
+        answer: found,
+    }
 }
 
 // The same; the result receives 1, the index and the k cuts, or 0 in its first place. Refuses 1, 5, 25, 21.
@@ -581,17 +586,15 @@ pub extern "C" fn mittenschist_find_move(
     old: &[u32],
     wanted: &[u32],
     result: &mut [u64],
-) -> u32 {
-    let refused = refusal_rules::find_move_refusal_with_room(
-        k,
-        old.len(),
-        wanted.len(),
-        result.len(),
-    );
+) -> u32
+    ensures { λ r. ⌜ FindMoveWritten k (now (old .entry)) (now (wanted .entry)) (now (result .entry)) r (now (result .exit)) ⌝ }
+{
+    let lent = result.len();
+    let refused = refusal_rules::find_move_refusal_with_room(k, old.len(), wanted.len(), lent);
     if refused != 0 {
         return refused;
     }
     let answer = find_move::find_move(k, old, wanted);
-    find_move::put_move(k, answer, result);
+    moves::put_move(k, answer, result);
     0
 }
