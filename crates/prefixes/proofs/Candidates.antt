@@ -20,7 +20,7 @@ use Rattle.theory.proofs.Delta.{length-reverse-if, joined-split, even-head, sma
 use Rattle.reconnection.proofs.Reversal.{getD-reverse}
 use Rattle.standing.specs.Places.{Has}
 use Rattle.standing.specs.Standing.{Along, Against, Stands, TailSet}
-use Rattle.prefixes.specs.Ways.{start-of, size-of, Laid, Way}
+use Rattle.prefixes.specs.Ways.{start-of, size-of, known-size, Laid, Way}
 use Rattle.prefixes.proofs.Ways.{middle-filled, middle-within}
 
 -- ---- parts of lists by their elements
@@ -127,6 +127,33 @@ strangers j f (suc n) = by (decLt f j) (strangers j (suc f) n)
     by (yes l) g = rw (lt-leb j f l) (omega (arith, g))
     by (no l) g = rw (le-leb j f (omega arith)) (omega (arith, no-more j (suc f) n))
 
+-- The known ones among them reach from the first cut to the last known one.
+none-known : (cs : List ℕ) (j f n : ℕ) → j ≤ f → total (known-size j cs) (upfrom f n) ≡ 0
+unfolding total upfrom
+none-known cs j f zero h = refl
+none-known cs j f (suc n) h = rw (le-leb j f h) (zero-add (total (known-size j cs) (upfrom (suc f) n)) ∙ none-known cs j (suc f) n (omega arith))
+
+module _ (n k : ℕ) (cs : List ℕ) (many : length cs ≡ k) (rising : Rising 0 cs n) (j : ℕ) (within : j ≤ k) where
+  sizes-from : (f c : ℕ) → 1 ≤ f → f ≤ j → j ≤ f + c → total (known-size j cs) (upfrom f c) + getD cs (f - 1) 0 ≡ getD cs (j - 1) 0
+  unfolding upfrom total
+  sizes-from f zero a b d = let e : f ≡ j = omega arith in rw e (zero-add (getD cs (j - 1) 0))
+  sizes-from f (suc c) a b d = by (decLt f j) (sizes-from (suc f) c)
+    where
+      by : Dec (f < j) → (1 ≤ suc f → suc f ≤ j → j ≤ suc f + c → total (known-size j cs) (upfrom (suc f) c) + getD cs (suc f - 1) 0 ≡ getD cs (j - 1) 0) →
+          known-size j cs f + total (known-size j cs) (upfrom (suc f) c) + getD cs (f - 1) 0 ≡ getD cs (j - 1) 0
+      by (yes l) later =
+          let e : suc f - 1 ≡ f = omega arith in
+          let r : total (known-size j cs) (upfrom (suc f) c) + getD cs f 0 ≡ getD cs (j - 1) 0 = rw e at (later (omega arith) l (omega arith)) in
+          let filled = middle-filled n k cs many rising f a (omega arith) in
+          let size : known-size j cs f ≡ getD cs f 0 - getD cs (f - 1) 0 = rw (lt-leb j f l) refl in
+          omega (arith, r, filled, size)
+      by (no l) later =
+          let e : f ≡ j = omega arith in
+          let size : known-size j cs f ≡ 0 = rw (le-leb j f (omega arith)) refl in
+          let z = none-known cs j (suc f) c (omega arith) in
+          let q : getD cs (f - 1) 0 ≡ getD cs (j - 1) 0 = ap (λ (x : ℕ). getD cs (x - 1) 0) e in
+          omega (arith, size, z, q)
+
 -- The middle segments of a candidate that does it, laid from its first cut on.
 module _ (m n j tail : ℕ) (old wanted cs : List ℕ) (p : Pattern) (shape : Shape m p) (olds : length old ≡ n) (wanteds : length wanted ≡ n) (many : length cs ≡ suc m)
     (rising : Rising 0 cs n) (does : reconnected (record { cuts = cs; pattern = p }) old ≡ wanted) (tails : TailSet n old wanted tail) where
@@ -210,8 +237,10 @@ module _ (m n j tail : ℕ) (old wanted cs : List ℕ) (p : Pattern) (shape : Sh
   unfolding placed-end middle front back ps
   laid-middle = rw first-size at (laid-out n (suc m) (2 * shape .bits) old wanted cs olds wanteds many rising (shape .middle) front back inside is-split)
 
-  pub way-of : Way n (suc m) j old wanted cs 0 (suc m - j) m tail (getD cs 0 0) (shape .middle)
-  way-of =
+  -- The goal holds each place that lies before a place of the tail by the stops of the known ones.
+  pub way-of : (goal : ℕ) → 1 ≤ j → j ≤ suc m → ((g : ℕ) → Has tail (getD cs (j - 1) 0 - getD cs 0 0 + g) → Has goal g) →
+      Way n (suc m) j old wanted cs 0 (suc m - j) m goal (getD cs 0 0) (shape .middle)
+  way-of goal some-known few lower =
       record {
         many = omega (arith, total-ones (shape .middle), shape .once (λ x. 1), total-ones (upfrom 1 m), length-upfrom 1 m);
         within = inside;
@@ -220,5 +249,8 @@ module _ (m n j tail : ℕ) (old wanted cs : List ℕ) (p : Pattern) (shape : Sh
         strange = omega (arith, shape .once (λ i. cond (leb j i) 1 0), strangers j 1 m);
         end = placed-end;
         laid = laid-middle;
-        ends = tails .marked placed-end (omega (arith, end-is, rising-below n 0 cs m rising (omega (arith, many)))) tail-same;
+        ends = λ g e.
+            let sizes = sizes-from n (suc m) cs many rising j few 1 m (omega arith) some-known (omega arith) in
+            let z : getD cs (j - 1) 0 - getD cs 0 0 + g ≡ placed-end = omega (arith, e, sizes, shape .once (known-size j cs)) in
+            lower g (rw z (tails .marked placed-end (omega (arith, end-is, rising-below n 0 cs m rising (omega (arith, many)))) tail-same));
       }

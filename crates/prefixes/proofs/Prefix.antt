@@ -18,7 +18,7 @@ use Rattle.first_move.specs.FirstMove.{turns-into}
 use Rattle.first_move.proofs.FirstMove.{other-route}
 use Rattle.standing.specs.Places.{Has}
 use Rattle.standing.specs.Standing.{Stands}
-use Rattle.prefixes.specs.Ways.{start-of, size-of, Setting, Nowhere}
+use Rattle.prefixes.specs.Ways.{start-of, size-of, Setting, Nowhere, FirstCuts}
 use Rattle.prefixes.specs.Prefix.{Tables, NothingThere, Prefix}
 use Rattle.prefixes.proofs.Ways.{middle-filled, middle-within}
 use Rattle.prefixes.proofs.Candidates.{head-same, way-of}
@@ -29,6 +29,10 @@ rises n k cs many rising a zero h = rw (add-zero a) (omega arith)
 rises n k cs many rising a (suc d) h =
     let g = gap n 0 cs (a + d) rising (omega (arith, many)) in
     rw (add-suc a d) (omega (arith, rises n k cs many rising a d (omega arith), g))
+
+pub first-least : (known : ℕ) (cuts : List ℕ) → FirstCuts known cuts → (p : ℕ) → p ≤ known → getD cuts 0 0 ≤ getD cuts p 0
+first-least known cuts f zero h = omega arith
+first-least known cuts f (suc p) h = omega (arith, first-least known cuts f p (omega arith), f .rise p h)
 
 module _ (m known n : ℕ) (old wanted cuts stands ends parts : List ℕ) (head tail : ℕ) (prefix : Prefix (suc m) known cuts) (tables : Tables n old wanted stands ends parts head tail)
     (s : List ℕ) (many : length (take (suc known) cuts ++ s) ≡ suc m) (rising : Rising 0 (take (suc known) cuts ++ s) (length old)) where
@@ -79,10 +83,10 @@ module _ (m known n : ℕ) (old wanted cuts stands ends parts : List ℕ) (head 
       }
 
   -- No way: another route.
-  pub nothing-there : (ahead : List ℕ) (row places : ℕ) → Setting n (suc m) (suc known) old wanted cs cuts stands ahead row →
-      ((c : ℕ) → c ≡ getD cuts 0 0 → Has head c → Has places c) → Nowhere known cuts stands ahead row tail 0 (suc m - suc known) m places →
+  pub nothing-there : (ahead : List ℕ) (row goal places : ℕ) → Setting n (suc m) (suc known) old wanted cs cuts stands ahead row →
+      ((c : ℕ) → c ≡ getD cuts 0 0 → Has head c → Has places c) → ((g : ℕ) → Has tail (getD cuts known 0 - getD cuts 0 0 + g) → Has goal g) → Nowhere known cuts stands ahead row goal 0 (suc m - suc known) m places →
       (i : ℕ) → i < length (patterns (suc m)) → turns-into (suc m) old wanted (cs, i) ≡ false
-  nothing-there ahead row places setting starts nowhere i h =
+  nothing-there ahead row goal places setting starts lower nowhere i h =
       let p = getD (patterns (suc m)) i (record { order = []; mask = 0 }) in
       let shape = pattern-shape m p (mem-getD (patterns (suc m)) i (record { order = []; mask = 0 }) h) in
       let c = getD cs 0 0 in
@@ -92,7 +96,11 @@ module _ (m known n : ℕ) (old wanted cuts stands ends parts : List ℕ) (head 
       nowhere n (suc m) old wanted cs setting (shape .middle) c
       (starts c (begins 0 (omega arith)) (tables .heads .marked c low (head-same m n (suc known) tail old wanted cs p shape (tables .pair .olds) (tables .pair .wanteds) (setting .many) rising-n does (tables .tails))))
       low
-      (way-of m n (suc known) tail old wanted cs p shape (tables .pair .olds) (tables .pair .wanteds) (setting .many) rising-n does (tables .tails)))
+      (way-of m n (suc known) tail old wanted cs p shape (tables .pair .olds) (tables .pair .wanteds) (setting .many) rising-n does (tables .tails) goal (omega arith) (omega (arith, prefix .begun))
+      (λ g b.
+      let first = begins 0 (omega arith) in
+      let last : getD cs (suc known - 1) 0 ≡ getD cuts known 0 = let z : suc known - 1 ≡ known = omega arith in rw z (begins known (omega arith)) in
+      lower g (rw (last, first) at b))))
 
 one-less : (m : ℕ) → suc m - 1 ≡ m
 one-less m = omega arith
@@ -104,9 +112,10 @@ two-more : (m known u : ℕ) → u ≡ 1 → u ≡ suc m - known - 1 → known +
 two-more m known u a b = omega arith
 
 -- The same for k as the code has it.
-module _ (k known : ℕ) (cuts stands ends parts : List ℕ) (head tail row unknown left places : ℕ) (prefix : Prefix k known cuts) (row-is : row ≡ getD cuts known 0 * 49)
-    (unknown-is : unknown ≡ k - known - 1) (left-is : left ≡ k - 1) (starts : (c : ℕ) → c ≡ getD cuts 0 0 → Has head c → Has places c) where
-  pub not-by-ends : unknown ≡ 1 → Nowhere known cuts stands ends row tail 0 unknown left places → (n : ℕ) (old wanted : List ℕ) → Tables n old wanted stands ends parts head tail →
+module _ (k known : ℕ) (cuts stands ends parts : List ℕ) (head tail row goal unknown left places : ℕ) (prefix : Prefix k known cuts) (row-is : row ≡ getD cuts known 0 * 49)
+    (unknown-is : unknown ≡ k - known - 1) (left-is : left ≡ k - 1) (starts : (c : ℕ) → c ≡ getD cuts 0 0 → Has head c → Has places c)
+    (lower : (g : ℕ) → Has tail (getD cuts known 0 - getD cuts 0 0 + g) → Has goal g) where
+  pub not-by-ends : unknown ≡ 1 → Nowhere known cuts stands ends row goal 0 unknown left places → (n : ℕ) (old wanted : List ℕ) → Tables n old wanted stands ends parts head tail →
       NothingThere k (suc known) old wanted cuts
   not-by-ends one nowhere n old wanted tables s many rising i h = by k prefix unknown-is left-is many h
     where
@@ -116,11 +125,11 @@ module _ (k known : ℕ) (cuts stands ends parts : List ℕ) (head tail row unkn
       by (suc m) f u l q b =
           let u′ : unknown ≡ suc m - suc known = u ∙ less-one m known in
           let l′ : left ≡ m = l ∙ one-less m in
-          let z : Nowhere known cuts stands ends (getD cuts known 0 * 49) tail 0 (suc m - suc known) m places = rw (row-is, u′, l′) at nowhere in
-          nothing-there m known n old wanted cuts stands ends parts head tail f tables s q rising ends (getD cuts known 0 * 49) places
-          (by-ends m known n old wanted cuts stands ends parts head tail f tables s q rising (two-more m known unknown one u)) starts z i b
+          let z : Nowhere known cuts stands ends (getD cuts known 0 * 49) goal 0 (suc m - suc known) m places = rw (row-is, u′, l′) at nowhere in
+          nothing-there m known n old wanted cuts stands ends parts head tail f tables s q rising ends (getD cuts known 0 * 49) goal places
+          (by-ends m known n old wanted cuts stands ends parts head tail f tables s q rising (two-more m known unknown one u)) starts lower z i b
 
-  pub not-by-parts : Nowhere known cuts stands parts row tail 0 unknown left places → (n : ℕ) (old wanted : List ℕ) → Tables n old wanted stands ends parts head tail →
+  pub not-by-parts : Nowhere known cuts stands parts row goal 0 unknown left places → (n : ℕ) (old wanted : List ℕ) → Tables n old wanted stands ends parts head tail →
       NothingThere k (suc known) old wanted cuts
   not-by-parts nowhere n old wanted tables s many rising i h = by k prefix unknown-is left-is many h
     where
@@ -130,6 +139,6 @@ module _ (k known : ℕ) (cuts stands ends parts : List ℕ) (head tail row unkn
       by (suc m) f u l q b =
           let u′ : unknown ≡ suc m - suc known = u ∙ less-one m known in
           let l′ : left ≡ m = l ∙ one-less m in
-          let z : Nowhere known cuts stands parts (getD cuts known 0 * 49) tail 0 (suc m - suc known) m places = rw (row-is, u′, l′) at nowhere in
-          nothing-there m known n old wanted cuts stands ends parts head tail f tables s q rising parts (getD cuts known 0 * 49) places
-          (by-parts m known n old wanted cuts stands ends parts head tail f tables s q rising) starts z i b
+          let z : Nowhere known cuts stands parts (getD cuts known 0 * 49) goal 0 (suc m - suc known) m places = rw (row-is, u′, l′) at nowhere in
+          nothing-there m known n old wanted cuts stands ends parts head tail f tables s q rising parts (getD cuts known 0 * 49) goal places
+          (by-parts m known n old wanted cuts stands ends parts head tail f tables s q rising) starts lower z i b

@@ -8,26 +8,22 @@ use native.Mathlib.Decide.{decLt}
 use lib.ListN.{length, getD}
 use Rattle.standing.specs.Places.{Has}
 use Rattle.standing.specs.Standing.{Stands, StandsTable}
-use Rattle.standing.proofs.Places.{empty-lacks}
-use Rattle.prefixes.specs.Ways.{start-of, size-of, Laid, Setting, Way, Nowhere, NowhereFirst, FirstCuts, Handable, Handed, Marked, Gathered}
-use Rattle.prefixes.proofs.Ways.{middle-filled, middle-within, way-done, way-known, way-unknown, some-unknown}
+use Rattle.prefixes.specs.Ways.{start-of, size-of, Laid, Setting, Way, Nowhere, NowhereFirst, FirstCuts, Handable, Handed, Farther, Reaches, Marked, Gathered}
+use Rattle.prefixes.proofs.Ways.{middle-filled, middle-within, way-near, way-known, way-unknown, some-unknown}
 
 pub handable : (known : ℕ) (cuts : List ℕ) (p : ℕ) → FirstCuts known cuts → 1 ≤ p → p ≤ known → Handable cuts p
 handable known cuts p f least most =
     let e : suc (p - 1) ≡ p = omega arith in
     record { least = least; most = omega (arith, f .few); rise = rw e at (f .rise (p - 1) (omega arith)); small = f .small p most }
 
-module _ (known : ℕ) (cuts stands ahead : List ℕ) (row tail used unknown left places : ℕ) where
-  pub no-places : places ≡ 0 → Nowhere known cuts stands ahead row tail used unknown left places
-  no-places e n k old wanted cs s o y h l w = empty-lacks y (rw e at h)
-
-  pub nothing-left : left ≡ 0 → ((y : ℕ) → Has places y → Has tail y → ⊥) → Nowhere known cuts stands ahead row tail used unknown left places
-  nothing-left e apart n k old wanted cs s o y h l w = apart y h (way-done o (rw e at w))
+module _ (known : ℕ) (cuts stands ahead : List ℕ) (row goal used unknown left places : ℕ) where
+  pub not-reached : (r : Bool) → Reaches places goal unknown r → r ≡ false → Nowhere known cuts stands ahead row goal used unknown left places
+  not-reached r reaching e n k old wanted cs s o y h l w = reaching e y h (way-near o w)
 
   -- Known segment p first: none of the places that it hands on leads anywhere.
-  pub known-tried : (p used′ next : ℕ) → 1 ≤ p → p ≤ known → Handed cuts stands p used places next → Marked used p used′ →
-      Nowhere known cuts stands ahead row tail used′ unknown (left - 1) next → NowhereFirst p known cuts stands ahead row tail used unknown left places
-  known-tried p used′ next least most handed marked nowhere n k old wanted cs s o y h l w =
+  pub known-tried : (p used′ goal′ next : ℕ) → 1 ≤ p → p ≤ known → Handed cuts stands p used places next → Farther cuts p goal goal′ → Marked used p used′ →
+      Nowhere known cuts stands ahead row goal′ used′ unknown (left - 1) next → NowhereFirst p known cuts stands ahead row goal used unknown left places
+  known-tried p used′ goal′ next least most handed moved marked nowhere n k old wanted cs s o y h l w =
       let i = w .within p (List·Memᴰ·head refl) in
       let filled = middle-filled n k cs (s .many) (s .rising) p (i .0) (i .1) in
       let within = middle-within n k cs (s .many) (s .rising) p (i .0) (i .1) in
@@ -39,21 +35,22 @@ module _ (known : ℕ) (cuts stands ahead : List ℕ) (row tail used unknown lef
       s .stood .marked (start-of cs p) (size-of cs p) y (omega (arith, filled)) (omega (arith, within, filled)) (w .laid .1) (w .laid .0) in
       let there : Has (getD stands (start-of cuts p * 49 + getD cuts p 0) 0) y = rw (end, a, b) at marks in
       let more : Has next (y + size-of cuts p) = handed (w .free p (List·Memᴰ·head refl) (omega arith)) y h there (omega (arith, w .laid .1, s .few, size)) in
-      nowhere n k old wanted cs s o (y + size-of cs p) (rw size more) (w .laid .1) (way-known p o w used′ marked)
+      nowhere n k old wanted cs s o (y + size-of cs p) (rw size more) (w .laid .1)
+      (way-known p o w used′ goal′ (omega arith) l marked (λ g q b. rw size (moved g q (omega (arith, b, s .few, size)))))
 
-  pub next-tried : (p : ℕ) → ((i : ℕ) → 1 ≤ i → i < p → NowhereFirst i known cuts stands ahead row tail used unknown left places) →
-      NowhereFirst p known cuts stands ahead row tail used unknown left places →
-      (i : ℕ) → 1 ≤ i → i < p + 1 → NowhereFirst i known cuts stands ahead row tail used unknown left places
+  pub next-tried : (p : ℕ) → ((i : ℕ) → 1 ≤ i → i < p → NowhereFirst i known cuts stands ahead row goal used unknown left places) →
+      NowhereFirst p known cuts stands ahead row goal used unknown left places →
+      (i : ℕ) → 1 ≤ i → i < p + 1 → NowhereFirst i known cuts stands ahead row goal used unknown left places
   next-tried p gone this i a b = by (decLt i p)
     where
-      by : Dec (i < p) → NowhereFirst i known cuts stands ahead row tail used unknown left places
+      by : Dec (i < p) → NowhereFirst i known cuts stands ahead row goal used unknown left places
       by (yes l) = gone i a l
       by (no l) = let e : i ≡ p = omega arith in rw e this
 
   -- All known ones first, and an unknown one: nothing is left.
-  pub all-tried : (next : ℕ) → 0 < left → ((i : ℕ) → 1 ≤ i → i ≤ known → NowhereFirst i known cuts stands ahead row tail used unknown left places) →
-      (0 < unknown → Gathered ahead row places next) → (0 < unknown → Nowhere known cuts stands ahead row tail used (unknown - 1) (left - 1) next) →
-      Nowhere known cuts stands ahead row tail used unknown left places
+  pub all-tried : (next : ℕ) → 0 < left → ((i : ℕ) → 1 ≤ i → i ≤ known → NowhereFirst i known cuts stands ahead row goal used unknown left places) →
+      (0 < unknown → Gathered ahead row places next) → (0 < unknown → Nowhere known cuts stands ahead row goal used (unknown - 1) (left - 1) next) →
+      Nowhere known cuts stands ahead row goal used unknown left places
   all-tried next some gone gathered nowhere n k old wanted cs s [] y h l w = absurd (omega (arith, w .many))
   all-tried next some gone gathered nowhere n k old wanted cs s (i ∷ o) y h l w = by (decLt known i)
     where

@@ -14,7 +14,7 @@ use Rattle.theory.proofs.Delta.{gap}
 use Rattle.theory.proofs.Orders.{count-mem}
 use Rattle.standing.specs.Places.{Has}
 use Rattle.standing.specs.Standing.{Stands, StandsTable}
-use Rattle.prefixes.specs.Ways.{start-of, size-of, Laid, Setting, Way, Marked}
+use Rattle.prefixes.specs.Ways.{start-of, size-of, known-size, Laid, Setting, Way, Marked}
 
 module _ (n k : ℕ) (cs : List ℕ) (many : length cs ≡ k) (rising : Rising 0 cs n) (i : ℕ) (least : 1 ≤ i) (most : i < k) where
   pub middle-filled : getD cs (i - 1) 0 < getD cs i 0
@@ -42,15 +42,46 @@ strange-one : (j i u : ℕ) (o : List ℕ) → j ≤ i → total (λ i. cond (le
 unfolding total
 strange-one j i u o l h = let g = rw (le-leb j i l) at h in omega (arith, g)
 
--- Nothing is left: the place is one behind which the routes agree.
-pub way-done : {n k j : ℕ} {old wanted cs : List ℕ} {used unknown tail y : ℕ} (o : List ℕ) → Way n k j old wanted cs used unknown 0 tail y o → Has tail y
-way-done [] w = rw (w .laid) (w .ends)
-way-done (i ∷ o) w = absurd (omega (arith, w .many))
+-- ---- the known segments of a way
 
-module _ {n k j : ℕ} {old wanted cs : List ℕ} {used unknown left tail y : ℕ} (i : ℕ) (o : List ℕ) (w : Way n k j old wanted cs used unknown left tail y (i ∷ o)) where
-  -- A known segment is laid: it is used now.
-  pub way-known : (used′ : ℕ) → Marked used i used′ → Way n k j old wanted cs used′ unknown (left - 1) tail (y + size-of cs i) o
-  way-known used′ marked =
+sizes-less : (j : ℕ) (cs : List ℕ) (i : ℕ) → known-size j cs i ≤ size-of cs i
+sizes-less j cs i = by (leb j i)
+  where
+    by : (b : Bool) → cond b 0 (size-of cs i) ≤ size-of cs i
+    by true = omega arith
+    by false = omega arith
+
+module _ (n : ℕ) (old wanted cs : List ℕ) where
+  pub laid-far : (j y : ℕ) (o : List ℕ) (e : ℕ) → Laid n old wanted cs y o e → y + total (known-size j cs) o ≤ e
+  unfolding total
+  laid-far j y [] e l = omega (arith, l)
+  laid-far j y (i ∷ o) e l = omega (arith, laid-far j (y + size-of cs i) o e (l .2), sizes-less j cs i)
+
+  pub laid-within : (y : ℕ) (o : List ℕ) (e : ℕ) → y ≤ n → Laid n old wanted cs y o e → e ≤ n
+  laid-within y [] e h l = omega (arith, l)
+  laid-within y (i ∷ o) e h l = laid-within (y + size-of cs i) o e (l .1) (l .2)
+
+  -- Where all are known, they come to the end.
+  pub laid-known : (j y : ℕ) (o : List ℕ) (e : ℕ) → total (λ i. cond (leb j i) 1 0) o ≤ 0 → Laid n old wanted cs y o e → y + total (known-size j cs) o ≡ e
+  unfolding total
+  laid-known j y [] e h l = omega (arith, l)
+  laid-known j y (i ∷ o) e h l = by (leb j i) refl (laid-known j (y + size-of cs i) o e)
+    where
+      by : (b : Bool) → leb j i ≡ b → (total (λ i. cond (leb j i) 1 0) o ≤ 0 → Laid n old wanted cs (y + size-of cs i) o e → y + size-of cs i + total (known-size j cs) o ≡ e) →
+          y + (cond (leb j i) 0 (size-of cs i) + total (known-size j cs) o) ≡ e
+      by true q later = absurd (omega (arith, rw q at h))
+      by false q later = let r = later (omega (arith, h)) (l .2) in rw q (omega (arith, r))
+
+-- A way of known segments begins in the goal.
+pub way-near : {n k j : ℕ} {old wanted cs : List ℕ} {used unknown left goal y : ℕ} (o : List ℕ) → Way n k j old wanted cs used unknown left goal y o → unknown ≡ 0 → Has goal y
+way-near {n = n} {j = j} {old = old} {wanted = wanted} {cs = cs} {y = y} o w e = w .ends y (laid-known n old wanted cs j y o (w .end) (omega (arith, w .strange, e)) (w .laid))
+
+module _ {n k j : ℕ} {old wanted cs : List ℕ} {used unknown left goal y : ℕ} (i : ℕ) (o : List ℕ) (w : Way n k j old wanted cs used unknown left goal y (i ∷ o)) where
+  -- A known segment is laid: it is used now, and the goal is farther on.
+  pub way-known : (used′ goal′ : ℕ) → i < j → y ≤ n → Marked used i used′ → ((g : ℕ) → Has goal g → g + size-of cs i ≤ n → Has goal′ (g + size-of cs i)) →
+      Way n k j old wanted cs used′ unknown (left - 1) goal′ (y + size-of cs i) o
+  unfolding total
+  way-known used′ goal′ known low marked moved =
       record {
         many = omega (arith, w .many);
         within = λ x m. w .within x (List·Memᴰ·tail m);
@@ -59,11 +90,20 @@ module _ {n k j : ℕ} {old wanted cs : List ℕ} {used unknown left tail y : �
         strange = strange-less j i unknown o (w .strange);
         end = w .end;
         laid = w .laid .2;
-        ends = w .ends;
+        ends = λ g e.
+            let t = total (known-size j cs) o in
+            let far = laid-far n old wanted cs j (y + size-of cs i) o (w .end) (w .laid .2) in
+            let near = laid-within n old wanted cs (y + size-of cs i) o (w .end) (w .laid .1) (w .laid .2) in
+            let before = g - size-of cs i in
+            let back : before + size-of cs i ≡ g = omega (arith, e, far) in
+            let same : known-size j cs i ≡ size-of cs i = rw (lt-leb j i known) refl in
+            let all : before + (known-size j cs i + t) ≡ w .end = omega (arith, e, same, back) in
+            rw back at (moved before (w .ends before all) (omega (arith, back, e, near)));
       }
 
   -- An unknown one is: there is one fewer.
-  pub way-unknown : j ≤ i → Way n k j old wanted cs used (unknown - 1) (left - 1) tail (y + size-of cs i) o
+  pub way-unknown : j ≤ i → Way n k j old wanted cs used (unknown - 1) (left - 1) goal (y + size-of cs i) o
+  unfolding total
   way-unknown l =
       record {
         many = omega (arith, w .many);
@@ -73,7 +113,11 @@ module _ {n k j : ℕ} {old wanted cs : List ℕ} {used unknown left tail y : �
         strange = omega (arith, strange-one j i unknown o l (w .strange));
         end = w .end;
         laid = w .laid .2;
-        ends = w .ends;
+        ends = λ g e.
+            let t = total (known-size j cs) o in
+            let same : known-size j cs i ≡ 0 = rw (le-leb j i l) refl in
+            let all : g + (known-size j cs i + t) ≡ w .end = omega (arith, e, same) in
+            w .ends g all;
       }
 
   pub some-unknown : j ≤ i → 0 < unknown

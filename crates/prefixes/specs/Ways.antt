@@ -34,8 +34,13 @@ pub record Setting (n k j : ℕ) (old wanted cs cuts stands ahead : List ℕ) (r
   pub further :
       (i y : ℕ) → j ≤ i → i < k → y + size-of cs i ≤ n → Stands old wanted (start-of cs i) (size-of cs i) y → Has (getD ahead (row + y) 0) (y + size-of cs i)
 
--- The segments that are left, in some order, laid from y on: each once, the known ones among them not used, at most so many unknown ones.
-pub record Way (n k j : ℕ) (old wanted cs : List ℕ) (used unknown left tail y : ℕ) (o : List ℕ) : Type 0 where
+-- The stops of a segment before cut j; the others are not counted.
+abbrev pub known-size : (j : ℕ) (cs : List ℕ) → ℕ → ℕ
+known-size j cs i = cond (leb j i) 0 (size-of cs i)
+
+-- The segments that are left, in some order, laid from y on: each once, the known ones among them not used, at most so many unknown ones. The place
+-- from which the known ones alone would come to the end is in the goal, so that a way of known ones begins there.
+pub record Way (n k j : ℕ) (old wanted cs : List ℕ) (used unknown left goal y : ℕ) (o : List ℕ) : Type 0 where
   pub many : length o ≡ left
   pub within : (i : ℕ) → List·Memᴰ i o → (1 ≤ i) × (i < k)
   pub apart : (i : ℕ) → count i o ≤ 1
@@ -43,18 +48,18 @@ pub record Way (n k j : ℕ) (old wanted cs : List ℕ) (used unknown left tail 
   pub strange : total (λ i. cond (leb j i) 1 0) o ≤ unknown
   pub end : ℕ
   pub laid : Laid n old wanted cs y o end
-  pub ends : Has tail end
+  pub ends : (g : ℕ) → g + total (known-size j cs) o ≡ end → Has goal g
 
 -- Nothing can be laid from any of the places: in any order, and in an order that begins with segment i.
-abbrev pub Nowhere : (known : ℕ) (cuts stands ahead : List ℕ) (row tail used unknown left places : ℕ) → Type 0
-Nowhere known cuts stands ahead row tail used unknown left places =
+abbrev pub Nowhere : (known : ℕ) (cuts stands ahead : List ℕ) (row goal used unknown left places : ℕ) → Type 0
+Nowhere known cuts stands ahead row goal used unknown left places =
     (n k : ℕ) (old wanted cs : List ℕ) → Setting n k (suc known) old wanted cs cuts stands ahead row → (o : List ℕ) (y : ℕ) → Has places y → y ≤ n →
-    Way n k (suc known) old wanted cs used unknown left tail y o → ⊥
+    Way n k (suc known) old wanted cs used unknown left goal y o → ⊥
 
-abbrev pub NowhereFirst : (i known : ℕ) (cuts stands ahead : List ℕ) (row tail used unknown left places : ℕ) → Type 0
-NowhereFirst i known cuts stands ahead row tail used unknown left places =
+abbrev pub NowhereFirst : (i known : ℕ) (cuts stands ahead : List ℕ) (row goal used unknown left places : ℕ) → Type 0
+NowhereFirst i known cuts stands ahead row goal used unknown left places =
     (n k : ℕ) (old wanted cs : List ℕ) → Setting n k (suc known) old wanted cs cuts stands ahead row → (o : List ℕ) (y : ℕ) → Has places y → y ≤ n →
-    Way n k (suc known) old wanted cs used unknown left tail y (i ∷ o) → ⊥
+    Way n k (suc known) old wanted cs used unknown left goal y (i ∷ o) → ⊥
 
 -- The first cuts as positions of at most 48 stops, and a row of a table.
 pub record FirstCuts (known : ℕ) (cuts : List ℕ) : Type 0 where
@@ -76,6 +81,14 @@ pub record Handable (cuts : List ℕ) (p : ℕ) : Type 0 where
 abbrev pub Handed : (cuts stands : List ℕ) (p used places r : ℕ) → Type 0
 Handed cuts stands p used places r =
     reverses used p ≡ false → (y : ℕ) → Has places y → Has (getD stands (start-of cuts p * 49 + getD cuts p 0) 0) y → y + size-of cuts p ≤ 48 → Has r (y + size-of cuts p)
+
+-- The goal once known segment p is laid.
+abbrev pub Farther : (cuts : List ℕ) (p goal r : ℕ) → Type 0
+Farther cuts p goal r = (g : ℕ) → Has goal g → g + size-of cuts p ≤ 48 → Has r (g + size-of cuts p)
+
+-- "No" says that there is no place, or, where no unknown segment is left, none in the goal.
+abbrev pub Reaches : (places goal unknown : ℕ) → Bool → Type 0
+Reaches places goal unknown r = r ≡ false → (y : ℕ) → Has places y → (unknown ≡ 0 → Has goal y) → ⊥
 
 -- Only place p is new among the used.
 abbrev pub Marked : (used p r : ℕ) → Type 0

@@ -3,7 +3,7 @@ ghost use mathlib.Core.Path.{_≡_};
 ghost use mathlib.Core.Bool.{false};
 ghost use Prim.Native.Nat.{_≤_, _<_};
 ghost use Rattle.prefixes.specs.Prefix.{Prefix, MayLead};
-ghost use Rattle.prefixes.specs.Ways.{Nowhere, Askable, Handable, Handed, Marked, Gathered};
+ghost use Rattle.prefixes.specs.Ways.{Nowhere, Askable, Handable, Handed, Farther, Reaches, Marked, Gathered};
 
 // Where the next segment may begin once known segment p is laid from one of the places: nowhere if it is used.
 fn hand_on(stands: &[u64; 2401], cuts: &[usize; 5], p: usize, used: u64, places: u64) -> u64
@@ -17,6 +17,26 @@ fn hand_on(stands: &[u64; 2401], cuts: &[usize; 5], p: usize, used: u64, places:
     let b = cuts[p];
     let there = places & stands[a * 49 + b];
     there << (b - a)
+}
+
+// The goal once known segment p is laid.
+fn farther(cuts: &[usize; 5], p: usize, goal: u64) -> u64
+    requires { ⌜ Handable (now cuts) p ⌝ }
+    ensures { λ r. ⌜ Farther (now (cuts .entry)) p goal r ⌝ }
+{
+    let a = cuts[p - 1];
+    let b = cuts[p];
+    goal << (b - a)
+}
+
+// Whether there is a place and, where no unknown segment is left, one in the goal.
+fn reaches(places: u64, goal: u64, unknown: usize) -> bool
+    ensures { λ r. ⌜ Reaches places goal unknown r ⌝ }
+{
+    if unknown == 0 {
+        return standing::meet(places, goal);
+    }
+    places != 0
 }
 
 // Known segment p is used.
@@ -51,13 +71,13 @@ fn gather(ahead: &[u64; 2401], row: usize, places: u64) -> u64
     all
 }
 
-// Whether the segments that are left can be laid, one after the other, from one of the places to a place of the tail.
+// Whether the segments that are left can be laid, one after the other, from one of the places to the goal.
 pub fn leads(
     stands: &[u64; 2401],
     ahead: &[u64; 2401],
     cuts: &[usize; 5],
     row: usize,
-    tail: u64,
+    goal: u64,
     known: usize,
     used: u64,
     unknown: usize,
@@ -65,30 +85,31 @@ pub fn leads(
     places: u64,
 ) -> bool
     requires { ⌜ Askable known (now cuts) row ⌝ }
-    ensures { λ r. ⌜ (r ≡ false → Nowhere known (now (cuts .entry)) (now (stands .entry)) (now (ahead .entry)) row tail used unknown left places) ⌝ }
+    ensures { λ r. ⌜ (r ≡ false → Nowhere known (now (cuts .entry)) (now (stands .entry)) (now (ahead .entry)) row goal used unknown left places) ⌝ }
 {
-    if places == 0 {
-        return false;
-    }
     if left == 0 {
-        return standing::meet(places, tail);
+        return true;
     }
     let mut p = 1;
     while p <= known {
         let next = hand_on(stands, cuts, p, used, places);
-        if leads(
-            stands,
-            ahead,
-            cuts,
-            row,
-            tail,
-            known,
-            mark(used, p),
-            unknown,
-            left - 1,
-            next,
-        ) {
-            return true;
+        let further = farther(cuts, p, goal);
+        if reaches(next, further, unknown) {
+            let with_p = mark(used, p);
+            if leads(
+                stands,
+                ahead,
+                cuts,
+                row,
+                further,
+                known,
+                with_p,
+                unknown,
+                left - 1,
+                next,
+            ) {
+                return true;
+            }
         }
         p += 1;
     }
@@ -96,12 +117,15 @@ pub fn leads(
         return false;
     }
     let next = gather(ahead, row, places);
+    if !reaches(next, goal, unknown - 1) {
+        return false;
+    }
     leads(
         stands,
         ahead,
         cuts,
         row,
-        tail,
+        goal,
         known,
         used,
         unknown - 1,
@@ -126,16 +150,18 @@ pub fn may_lead(
 {
     let first = cuts[0];
     let places = head & standing::one_place(first);
-    let row = cuts[known] * 49;
+    let last = cuts[known];
+    let row = last * 49;
     let unknown = k - known - 1;
     let left = k - 1;
+    let goal = tail >> (last - first);
     if unknown == 1 {
         return leads(
             stands,
             ends,
             cuts,
             row,
-            tail,
+            goal,
             known,
             0,
             unknown,
@@ -148,7 +174,7 @@ pub fn may_lead(
         parts,
         cuts,
         row,
-        tail,
+        goal,
         known,
         0,
         unknown,
