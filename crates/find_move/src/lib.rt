@@ -50,14 +50,14 @@ fn first_row(old: &[u32], wanted: &[u32], cuts: &[usize], orders: &[u8], masks: 
     requires { ⌜ Tryable (now old) (now wanted) (now cuts) (now orders) (now masks) ⌝ }
     ensures { λ r. ⌜ FirstOf (turned (now (old .entry)) (now (wanted .entry)) (now (cuts .entry)) (now (orders .entry)) (now (masks .entry))) (length (now (masks .entry))) r ⌝ }
 {
-    let mut i = 0;
-    while i < masks.len() {
-        if turns(old, wanted, cuts, orders, masks, i) {
-            return i;
+    let mut row = 0;
+    while row < masks.len() {
+        if turns(old, wanted, cuts, orders, masks, row) {
+            return row;
         }
-        i += 1;
+        row += 1;
     }
-    i
+    row
 }
 
 // The first pattern on a cut set that does.

@@ -1,4 +1,4 @@
-// Replays document 01's runs on nearby cuts, and worked examples of the rulings on what it leaves open of moves, over the library's own entries, a line
+// Replays document 01's runs on nearby cuts, worked examples of the rulings on what it leaves open of moves, and those of the first move, over the library's own entries, a line
 // each: what was asked, and what came back.
 
 fn write(line: &[u8]) {
@@ -102,7 +102,32 @@ fn show_listings() {
     show_five(0.0 / 0.0, 4, 3);
 }
 
+// A search for the first move: its number, and the result.
+fn show_search(k: usize, old: &[u32], wanted: &[u32]) {
+    let mut result = [9u64; 7];
+    let refused = mittenschist::mittenschist_find_move(k, old, wanted, &mut result);
+    let mut line = [0u8; 1024];
+    let number = replay_lines::put_number(b"move ", refused as u64, &mut line, 0);
+    let told = replay_lines::put_numbers(&result, &mut line, number);
+    let end = replay_lines::put(b"\n", &mut line, told);
+    write(&line[..end]);
+}
+
+fn show_searches() {
+    let alike = [1u32; 513];
+    show_search(2, &alike[..0], &alike[..0]);
+    show_search(2, &[1], &[1]);
+    show_search(3, &[1, 2], &[1, 2]);
+    show_search(3, &[1, 2], &[2, 1]);
+    show_search(3, &[1], &[1]);
+    show_search(3, &alike[..49], &alike[..49]);
+    show_search(3, &alike, &alike);
+    show_search(3, &alike[..3], &alike[..4]);
+    show_search(5, &alike[..48], &alike[..48]);
+}
+
 fn main() {
     show_moves();
     show_listings();
+    show_searches();
 }

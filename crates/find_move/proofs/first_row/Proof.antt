@@ -11,10 +11,10 @@ use Rattle.find_move.proofs.first_row.Statement.{statement}
 use Rattle.find_move.proofs.first_row.Tie as tie
 
 abbrev Inv-loop : tie.InvT-loop
-Inv-loop old wanted cuts orders masks i₀ i = (i ≤ length masks) × ((x : ℕ) → x < i → turned old wanted cuts orders masks x ≡ false)
+Inv-loop old wanted cuts orders masks row₀ row = (row ≤ length masks) × ((x : ℕ) → x < row → turned old wanted cuts orders masks x ≡ false)
 
 abbrev μ-loop : tie.MeasureT-loop
-μ-loop old wanted cuts orders masks i₀ i = length masks - i
+μ-loop old wanted cuts orders masks row₀ row = length masks - row
 
 loop-holds : tie.Need-loop-holds Inv-loop μ-loop
 loop-holds c = (omega arith, λ x h. absurd (omega arith))
@@ -31,8 +31,8 @@ returns c =
       there = λ h. sym (c .before .turns .ensures) ∙ c .if1 .taken;
     }
 
-add-i : tie.Need-add-i Inv-loop μ-loop
-add-i c = search needs
+add-row : tie.Need-add-row Inv-loop μ-loop
+add-row c = search needs
 
 loop-less : tie.Need-loop-less Inv-loop μ-loop
 loop-less c = search needs
@@ -41,7 +41,7 @@ loop-again : tie.Need-loop-again Inv-loop μ-loop
 loop-again c =
     let l = c .before .before .before .loop in
     let a = c .before .before .before .before .before .before .before .before .before .args in
-    (omega arith, none-next (turned (a .old .now) (a .wanted .now) (a .cuts .now) (a .orders .now) (a .masks .now)) (l .i) (l .inv .1) (sym (c .before .turns .ensures) ∙ c .if1 .left))
+    (omega arith, none-next (turned (a .old .now) (a .wanted .now) (a .cuts .now) (a .orders .now) (a .masks .now)) (l .row) (l .inv .1) (sym (c .before .turns .ensures) ∙ c .if1 .left))
 
 returns-2 : tie.Need-returns-2 Inv-loop μ-loop
 returns-2 c = let l = c .before .loop in record { within = l .inv .0; before = l .inv .1; there = λ h. absurd (omega (arith, h, c .loop-test .left)) }
@@ -55,7 +55,7 @@ first-row-spec =
     loop-holds
     turns-requires
     returns
-    add-i
+    add-row
     loop-less
     loop-again
     returns-2)
