@@ -97,6 +97,9 @@ module _ (k : ℕ) (old wanted : List ℕ) where
         (h (c .0) (l .0) (l .1) (getD (patterns k) (c .1) (record { order = []; mask = 0 })) (mem-getD (patterns k) (c .1) (record { order = []; mask = 0 }) (q .1)))),
   )
 
+  abbrev at : List ℕ × ℕ → Move
+  at c = move-at (patterns k) (c .0) (c .1)
+
   -- A move that is found is one of document 01's, turns one into the other, and nothing before it does.
   pub found-first : (c : List ℕ × ℕ) → first-move k old wanted ≡ some c → FoundFirst k old wanted c
   unfolding cut-sets
@@ -110,10 +113,12 @@ module _ (k : ℕ) (old wanted : List ℕ) where
         rising = l .1;
         known = q .1;
         turns = same-is (reconnected (move-at (patterns k) (c .0) (c .1)) old) wanted (f .passes);
-        before = f .before;
-        after = f .after;
-        listed = f .listed;
-        first = λ d i. not-same (reconnected (move-at (patterns k) (d .0) (d .1)) old) wanted (f .first d i);
+        before = map at (f .before);
+        after = map at (f .after);
+        listed = sym (numbered-are (patterns k) (cut-sets k (length old))) ∙ ap (map at) (f .listed) ∙ map-append at (f .before) (c ∷ f .after);
+        first = λ d i.
+            let u = Memᴰ·of-map at (f .before) i in
+            rw (← (u .2)) (not-same (reconnected (at (u .0)) old) wanted (f .first (u .0) (u .1)));
       }
 
   pub told : Told k old wanted (first-move k old wanted)

@@ -7,7 +7,7 @@ use mathlib.Core.Option.{Option, none, some}
 use Prim.Native.Nat.{ℕ, _<_}
 use lib.Dec.{eqb}
 use lib.ListN.{length, getD, take, drop}
-use Rattle.theory.specs.Moves.{upfrom, Pattern, patterns, cut-sets, Rising}
+use Rattle.theory.specs.Moves.{upfrom, Pattern, Move, patterns, cut-sets, candidates, Rising}
 use Rattle.theory.specs.Route.{reconnected}
 use Rattle.theory.specs.Polish.{move-at}
 use Rattle.first_move.specs.declared.FoundMove.{FoundMove}
@@ -58,16 +58,16 @@ abbrev pub NoMove : ℕ → List ℕ → List ℕ → Type 0
 NoMove k old wanted =
     (cs : List ℕ) → length cs ≡ k → Rising 0 cs (length old) → (p : Pattern) → List·Memᴰ p (patterns k) → ¬ (reconnected (record { cuts = cs; pattern = p }) old ≡ wanted)
 
--- What is said of a move that is found: it is one of document 01's, it turns one into the other, and nothing before it in the scan's order does.
+-- What is said of a move that is found: it is one of document 01's, it turns one into the other, and nothing before it in the scan's own list does.
 pub record FoundFirst (k : ℕ) (old wanted : List ℕ) (c : List ℕ × ℕ) : Type 0 where
   pub many : length (c .0) ≡ k
   pub rising : Rising 0 (c .0) (length old)
   pub known : c .1 < length (patterns k)
   pub turns : reconnected (move-at (patterns k) (c .0) (c .1)) old ≡ wanted
-  pub before : List (List ℕ × ℕ)
-  pub after : List (List ℕ × ℕ)
-  pub listed : numbered (length (patterns k)) (cut-sets k (length old)) ≡ before ++ (c ∷ after)
-  pub first : (d : List ℕ × ℕ) → List·Memᴰ d before → ¬ (reconnected (move-at (patterns k) (d .0) (d .1)) old ≡ wanted)
+  pub before : List Move
+  pub after : List Move
+  pub listed : candidates (patterns k) (cut-sets k (length old)) ≡ before ++ (move-at (patterns k) (c .0) (c .1) ∷ after)
+  pub first : (m : Move) → List·Memᴰ m before → ¬ (reconnected m old ≡ wanted)
 
 -- What is promised of an answer: "none" is said exactly if no cut set and no pattern do it, and a move that is found is the first.
 pub record Told (k : ℕ) (old wanted : List ℕ) (o : Option (List ℕ × ℕ)) : Type 0 where
