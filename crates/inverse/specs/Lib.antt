@@ -1,2 +1,0 @@
--- The definitions of `inverse`.
-pub mod WayBack
