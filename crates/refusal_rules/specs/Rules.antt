@@ -17,7 +17,7 @@ with-room rules needed lent = rules ++ (room needed lent ∷ [])
 abbrev pub pattern-rules : ℕ → ℕ → List Rule
 pattern-rules k pattern = cut-count k ∷ pattern-index k pattern ∷ []
 
--- "25, lists of other lengths or above 48."
+-- "25, the rounds differ in length or have more than 48 stops."
 abbrev pub short-pair : ℕ → ℕ → Rule
 short-pair n m = (25, not (eqb n m) || ltb 48 n)
 

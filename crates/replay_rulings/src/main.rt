@@ -113,17 +113,29 @@ fn show_search(k: usize, old: &[u32], wanted: &[u32]) {
     write(&line[..end]);
 }
 
+// Two rounds of equal stops, so many each.
+fn show_alike(k: usize, n: usize, m: usize) {
+    let old = [1u32; 513];
+    let wanted = [1u32; 513];
+    if n > 513 {
+        return;
+    }
+    if m > 513 {
+        return;
+    }
+    show_search(k, &old[..n], &wanted[..m]);
+}
+
 fn show_searches() {
-    let alike = [1u32; 513];
-    show_search(2, &alike[..0], &alike[..0]);
-    show_search(2, &[1], &[1]);
+    show_alike(2, 0, 0);
+    show_alike(2, 1, 1);
     show_search(3, &[1, 2], &[1, 2]);
     show_search(3, &[1, 2], &[2, 1]);
-    show_search(3, &[1], &[1]);
-    show_search(3, &alike[..49], &alike[..49]);
-    show_search(3, &alike, &alike);
-    show_search(3, &alike[..3], &alike[..4]);
-    show_search(5, &alike[..48], &alike[..48]);
+    show_alike(3, 1, 1);
+    show_alike(3, 49, 49);
+    show_alike(3, 513, 513);
+    show_alike(3, 3, 4);
+    show_alike(5, 48, 48);
 }
 
 fn main() {
