@@ -2,10 +2,12 @@
 //! all candidates that the Rust's `polish_route` was seen to pass, in its order, each rejoined by `k_opt_do_move`; on long ones with a plain scan
 //! (`plain`), which is held to the Rust on the short ones.
 
+pub mod adversary;
 mod by_rust;
 mod case;
 mod generate;
 pub mod hard;
+pub mod measured;
 pub mod plain;
 mod short;
 

@@ -13,7 +13,7 @@ struct Search<'c> {
     old: &'c [u32],
     wanted: &'c [u32],
     patterns: Vec<Pieces>,
-    /// For every start and end whether that part of the old round stands anywhere in the wanted one; empty where nothing is left out.
+    /// For every start and end whether that part of the old round stands anywhere in the wanted one.
     stands: Vec<Vec<bool>>,
 }
 
@@ -26,9 +26,35 @@ pub fn first(k: usize, old: &[u32], wanted: &[u32]) -> Option<Found> {
     search.further(&mut Vec::new())
 }
 
-/// The same with no cut set left out.
+/// The same by all candidates, each rejoined whole and compared: what the call means, and the time that its speed is held against.
 pub fn first_of_all(k: usize, old: &[u32], wanted: &[u32]) -> Option<Found> {
-    Search::new(k, old, wanted).further(&mut Vec::new())
+    let search = Search::new(k, old, wanted);
+    let mut cuts: Vec<usize> = (0..k).collect();
+    let mut round = vec![0; old.len()];
+    let mut left = k <= old.len() + 1;
+    while left {
+        for (pattern, pieces) in search.patterns.iter().enumerate() {
+            search.rejoin(&cuts, pieces, &mut round);
+            if round == wanted {
+                return Some((pattern, cuts));
+            }
+        }
+        left = step(&mut cuts, old.len());
+    }
+    None
+}
+
+/// On to the next cut set in dictionary order; false after the last.
+fn step(cuts: &mut [usize], n: usize) -> bool {
+    let k = cuts.len();
+    let Some(place) = (0..k).rev().find(|&place| cuts[place] + k - place <= n) else {
+        return false;
+    };
+    let first = cuts[place] + 1;
+    for (cut, next) in cuts[place..].iter_mut().zip(first..) {
+        *cut = next;
+    }
+    true
 }
 
 /// Whether a part stands anywhere, as it is or reversed.
@@ -87,8 +113,7 @@ impl<'c> Search<'c> {
 
     /// By the segment that ends with a cut.
     fn left_out(&self, last: Option<usize>, cut: usize) -> bool {
-        let all = self.stands.is_empty();
-        !all && match last {
+        match last {
             None => self.old[..cut] != self.wanted[..cut],
             Some(last) => !self.stands[last][cut],
         }
@@ -103,11 +128,29 @@ impl<'c> Search<'c> {
     fn turns(&self, cuts: &[usize], pieces: &Pieces) -> bool {
         let mut rest = self.wanted;
         pieces.iter().all(|&(segment, reversed)| {
-            let from = segment.checked_sub(1).map_or(0, |before| cuts[before]);
-            let to = cuts.get(segment).copied().unwrap_or(self.old.len());
-            let (here, behind) = rest.split_at(to - from);
+            let part = self.segment(cuts, segment);
+            let (here, behind) = rest.split_at(part.len());
             rest = behind;
-            stands_at(&self.old[from..to], here, reversed)
+            stands_at(part, here, reversed)
         })
+    }
+
+    fn segment(&self, cuts: &[usize], segment: usize) -> &[u32] {
+        let from = segment.checked_sub(1).map_or(0, |before| cuts[before]);
+        let to = cuts.get(segment).copied().unwrap_or(self.old.len());
+        &self.old[from..to]
+    }
+
+    fn rejoin(&self, cuts: &[usize], pieces: &Pieces, round: &mut [u32]) {
+        let mut rest = round;
+        for &(segment, reversed) in pieces {
+            let part = self.segment(cuts, segment);
+            let (here, behind) = rest.split_at_mut(part.len());
+            here.copy_from_slice(part);
+            if reversed {
+                here.reverse();
+            }
+            rest = behind;
+        }
     }
 }
