@@ -36,6 +36,7 @@ enum {
     MITTENSCHIST_CUTS = 7,           /* not k cuts, a cut above n, or cuts that do not rise strictly */
     MITTENSCHIST_OTHER_ROUND = 8,    /* a cut that names another round */
     MITTENSCHIST_NEARBY_INPUT = 9,   /* m outside 1 to 512, neighbours above 32, distances not n x n, or an entry that is no number */
+    MITTENSCHIST_MOVE_ROUNDS = 25,   /* the first move: rounds of other lengths, or longer than 48 stops */
     MITTENSCHIST_ROOM = 21,          /* a lent result, list of sets, buffer or journal that is too short */
     MITTENSCHIST_JOURNAL_LENGTH = 22 /* undo: a journal not as long as the route */
 };
@@ -152,6 +153,15 @@ uint32_t mittenschist_pair_loop(uint64_t allowance, size_t locations,
  * Refuses 1, 5, 6, 21. */
 uint32_t mittenschist_k_opt_is_doable(size_t k, size_t pattern, size_t round, size_t n,
     const size_t *cut_rounds, size_t cut_rounds_len, const size_t *cut_positions, size_t cut_positions_len,
+    uint64_t *result, size_t result_len);
+
+/* The first move that turns one round into another: cut sets in dictionary order, the patterns of each by index. Rounds are compared by their stops,
+ * whatever the numbers; depot, legs and deadlines play no part. Two equal rounds are no special case.
+ *   old, wanted  read     rounds of the same length, at most 48 stops
+ *   result       written  k + 2 places: 1, the index of the pattern, then the k cuts. Where no cut set and pattern do it: its first place
+ *                         alone, 0
+ * Refuses 1, 5 (either above 512 stops), 25 (other lengths, or above 48), 21 (result under k + 2 places, also where there is no move). */
+uint32_t mittenschist_find_move(size_t k, const uint32_t *old, size_t old_len, const uint32_t *wanted, size_t wanted_len,
     uint64_t *result, size_t result_len);
 
 /* Lists cut sets by nearness, k places each, until no whole set fits any more.

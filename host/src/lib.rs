@@ -23,6 +23,7 @@
 #![deny(unsafe_code)]
 #![warn(missing_docs)]
 
+mod first_move;
 mod harbours;
 mod moves;
 mod nearby;
@@ -36,6 +37,7 @@ mod run;
 mod tables;
 mod unknown;
 
+pub use first_move::{find_move, Move};
 pub use harbours::Harbours;
 pub use moves::{k_opt_do_move, k_opt_is_doable, k_opt_undo_move};
 pub use nearby::{nearby_cuts, Listing};

@@ -96,6 +96,15 @@ extern "C" {
         result: *mut u64,
         result_len: usize,
     ) -> u32;
+    fn mittenschist_find_move(
+        k: usize,
+        old: *const u32,
+        old_len: usize,
+        wanted: *const u32,
+        wanted_len: usize,
+        result: *mut u64,
+        result_len: usize,
+    ) -> u32;
     fn mittenschist_nearby_cuts(
         n: usize,
         distances: *const f64,
@@ -417,6 +426,23 @@ pub fn run_list_k_opt_to_ends(
             ends.len(),
             pins.as_ptr(),
             pins.len(),
+            result.as_mut_ptr(),
+            result.len(),
+        )
+    }
+}
+
+/// The result begins with 1, the pattern's index and k cuts; or with 0, and the rest kept.
+#[must_use]
+pub fn find_move(k: usize, old: &[u32], wanted: &[u32], result: &mut [u64]) -> u32 {
+    // SAFETY: as said above.
+    unsafe {
+        mittenschist_find_move(
+            k,
+            old.as_ptr(),
+            old.len(),
+            wanted.as_ptr(),
+            wanted.len(),
             result.as_mut_ptr(),
             result.len(),
         )

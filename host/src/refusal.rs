@@ -36,6 +36,8 @@ pub enum Refusal {
     OtherRound,
     /// 9: shortest segment or neighbours out of range, a float table of another size, or an entry that is no number.
     NearbyInput,
+    /// 25: the first move of rounds whose lengths differ or are above 48.
+    MoveRounds,
     /// 21: a lent buffer or journal that is too short.
     Room,
     /// 22: undo with a journal of another length than the route.
@@ -59,6 +61,7 @@ impl Refusal {
             Self::Cuts => 7,
             Self::OtherRound => 8,
             Self::NearbyInput => 9,
+            Self::MoveRounds => 25,
             Self::Room => 21,
             Self::JournalLength => 22,
             Self::Other(number) => number,
@@ -78,6 +81,7 @@ impl Refusal {
             7 => Self::Cuts,
             8 => Self::OtherRound,
             9 => Self::NearbyInput,
+            25 => Self::MoveRounds,
             21 => Self::Room,
             22 => Self::JournalLength,
             number => Self::Other(number),
@@ -116,6 +120,7 @@ impl Display for Refusal {
                 "the shortest segment is not from 1 to 512, the neighbours are not from 0 to 32, \
                  the distances do not fit the positions, or one of them is no number"
             }
+            Self::MoveRounds => "the two rounds differ in length or have more than 48 stops",
             Self::Room => "a lent buffer or journal is too short",
             Self::JournalLength => "the journal is not as long as the route",
             Self::Other(number) => return write!(out, "refused with number {number}"),

@@ -6,9 +6,10 @@
 mod support;
 
 use mittenschist::{
-    k_opt_do_move, k_opt_is_doable, k_opt_undo_move, nearby_cuts, next_cut_set, pair_loop,
-    polish_route, reconnection_at, route_feasible, route_length, run_list_k_opt, Deadline, Ending,
-    Harbours, PairLooped, Polished, Refusal, RoundReply, RoundState, Rounds, Tables,
+    find_move, k_opt_do_move, k_opt_is_doable, k_opt_undo_move, nearby_cuts, next_cut_set,
+    pair_loop, polish_route, reconnection_at, route_feasible, route_length, run_list_k_opt,
+    Deadline, Ending, Harbours, Move, PairLooped, Polished, Refusal, RoundReply, RoundState,
+    Rounds, Tables,
 };
 use support::lent::Lent;
 use support::{kept, written};
@@ -444,4 +445,25 @@ fn unordered_cuts_that_name_another_round() {
     assert_eq!(apply([3, 1]), (true, Err(Refusal::Cuts)));
     assert_eq!(apply([1, 3]), (true, Err(Refusal::OtherRound)));
     assert_eq!(apply([1, 5]), (false, Err(Refusal::Cuts)));
+}
+
+/// The first move that makes one round of another, as the request's runs give it.
+#[test]
+fn first_moves() {
+    let first = |k, old: &[u32], wanted: &[u32]| find_move(k, old, wanted);
+    let found = |pattern, cuts: &[usize]| {
+        let cuts = cuts.to_vec();
+        Ok(Some(Move { pattern, cuts }))
+    };
+    assert_eq!(first(2, &[], &[]), Ok(None));
+    assert_eq!(first(2, &[1], &[1]), found(0, &[0, 1]));
+    assert_eq!(first(3, &[1, 2], &[1, 2]), found(0, &[0, 1, 2]));
+    assert_eq!(first(3, &[1, 2], &[2, 1]), found(3, &[0, 1, 2]));
+    assert_eq!(first(3, &[1], &[1]), Ok(None));
+    let long = [7; 513];
+    assert_eq!(first(2, &long[..48], &long[..48]), found(0, &[0, 1]));
+    assert_eq!(first(2, &long[..49], &long[..49]), Err(Refusal::MoveRounds));
+    assert_eq!(first(2, &long[..3], &long[..4]), Err(Refusal::MoveRounds));
+    assert_eq!(first(2, &long, &long), Err(Refusal::RoundSize));
+    assert_eq!(first(6, &long, &long), Err(Refusal::CutCount));
 }

@@ -1,10 +1,12 @@
 // The answer of an entry into a lent result: its refusal number; or 21 where the result has too few places; or 0 and the values in the first places. Also the answers of
-// the step and of a refused pattern. The numbers of a pattern, of polishing and of a run are put by crates moves, polishing and run_numbers. No entry: crate mittenschist calls it.
+// the step, of a refused pattern and of a refused search. The numbers of a pattern, of a move that is found, of polishing and of a run are put by crates moves, polishing and run_numbers. No entry: crate mittenschist calls it.
 ghost use mathlib.Core.Path.{_≡_};
 ghost use mathlib.Core.Bool.{cond};
 ghost use mathlib.Core.List.{[], _∷_};
 ghost use Rattle.theory.specs.Answers.{reply, step-answer, length-answer, delta-answer, feasibility-answer, doable-answer, listing-answer, deadline-position};
-ghost use Rattle.entry_results.specs.Handed.{Handed, pattern-refused};
+ghost use Rattle.entry_results.specs.Handed.{Handed, pattern-refused, search-refused};
+use first_move::FoundMove;
+use first_move::SoughtMove;
 use theory::CutStep;
 use theory::Deadline;
 use theory::Doable;
@@ -68,6 +70,21 @@ pub fn no_pattern(refused: u32) -> ReconnectionAt
     ReconnectionAt {
         refusal: refused,
         reconnection: none,
+    }
+}
+
+// No search: the refusal number alone.
+pub fn no_search(refused: u32) -> SoughtMove
+    ensures { λ r. ⌜ r ≡ search-refused refused ⌝ }
+{
+    let none = FoundMove {
+        found: false,
+        index: 0,
+        cuts: [0; 5],
+    };
+    SoughtMove {
+        refusal: refused,
+        answer: none,
     }
 }
 

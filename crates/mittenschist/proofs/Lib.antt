@@ -10,3 +10,4 @@ pub mod PairLoopReply
 pub mod Written
 pub mod RunReply
 pub mod NearbyReply
+pub mod FindMoveReply

@@ -2,6 +2,7 @@
 use mathlib.Core.Path.{_≡_}
 use mathlib.Core.Bool.{cond}
 use mathlib.Core.List.{List, [], _∷_, _++_, flatten}
+use mathlib.Core.Option.{none}
 use Prim.Native.Nat.{ℕ, _+_, _-_, _*_, _/_}
 use lib.Dec.{ltb}
 use lib.Ieee.{Float}
@@ -13,9 +14,11 @@ use Rattle.theory.specs.Polish.{move-at, Demand3}
 use Rattle.theory.specs.Tables.{Tables, Fleet, problem, timetable-by, legs-only}
 use Rattle.theory.specs.Question.{Question, asked}
 use Rattle.theory.specs.Refusals.{Rule, refusal, if-taken, problem-rules}
-use Rattle.refusal_rules.specs.Rules.{pattern-rules, next-cut-set-rules, reconnect-rules, route-length-rules, route-length-to-end-rules, delta-rules, delta-to-end-rules, polish-rules, polish-to-end-rules, pair-loop-rules, run-rules, run-to-ends-rules, nearby-rules, with-room}
+use Rattle.refusal_rules.specs.Rules.{pattern-rules, next-cut-set-rules, reconnect-rules, route-length-rules, route-length-to-end-rules, delta-rules, delta-to-end-rules, polish-rules, polish-to-end-rules, pair-loop-rules, run-rules, run-to-ends-rules, nearby-rules, find-move-rules, with-room}
 use Rattle.theory.specs.Answers.{reply, step-answer, length-answer, delta-answer, feasibility-answer, listing-answer, Checked, six-numbers, handed-back}
 use Rattle.moves.specs.Moves.{length-change}
+use Rattle.first_move.specs.FirstMove.{first-move, found-move, move-values, in-front, handed-move, Told}
+use Rattle.first_move.specs.declared.SoughtMove.{SoughtMove}
 use Rattle.cut_step.specs.Step.{found, or-unmoved}
 use Rattle.move_applying.specs.Applying.{doable}
 use Rattle.nearby.specs.Walk.{nearby-sets}
@@ -176,3 +179,17 @@ pub record NearbyReply (n : ℕ) (distances : List Float) (k m neighbours : ℕ)
 pub record NearbyWritten (n : ℕ) (distances : List Float) (k m neighbours : ℕ) (sets result : List ℕ) (answer : ℕ) (sets′ result′ : List ℕ) : Type 0 where
   pub written : Written (nearby-rules n distances k m neighbours (length sets)) 2 (nearby-values n distances k m neighbours sets) result answer result′
   pub sets-are : sets′ ≡ if-taken (with-room (nearby-rules n distances k m neighbours (length sets)) 2 (length result)) (nearby-places n distances k m neighbours sets) sets
+
+-- ---- how did they get there
+
+pub record FindMoveReply (k : ℕ) (old wanted : List ℕ) (answer : SoughtMove) : Type 0 where
+  pub number-is : answer .refusal ≡ refusal (find-move-rules k (length old) (length wanted))
+  pub move-is : found-move k (answer .answer) ≡ if-taken (find-move-rules k (length old) (length wanted)) (first-move k old wanted) none
+  pub told : answer .refusal ≡ 0 → Told k old wanted (found-move k (answer .answer))
+
+-- 1, the index and the k cuts in the first places; or 0 in the first place, and all others as they were.
+pub record FindMoveWritten (k : ℕ) (old wanted result : List ℕ) (answer : ℕ) (result′ : List ℕ) : Type 0 where
+  pub number-is : answer ≡ refusal (with-room (find-move-rules k (length old) (length wanted)) (k + 2) (length result))
+  pub result-is :
+      result′ ≡ if-taken (with-room (find-move-rules k (length old) (length wanted)) (k + 2) (length result)) (in-front (move-values (first-move k old wanted)) result) result
+  pub told : answer ≡ 0 → Told k old wanted (handed-move k result′)

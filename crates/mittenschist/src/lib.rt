@@ -10,7 +10,8 @@ ghost use Rattle.theory.specs.Refusals.{problem-rules};
 ghost use Rattle.move_calls.specs.Entries.{DoMoveReply, UndoReply, doable-rules};
 ghost use Rattle.moves.specs.Moves.{length-change, pattern-values};
 ghost use Rattle.refusal_rules.specs.Rules.{route-length-rules, route-length-to-end-rules, pattern-rules, delta-rules, delta-to-end-rules};
-ghost use Rattle.mittenschist.specs.Promises.{NextCutSetReply, RouteLengthReply, RouteLengthToEndReply, ReconnectionReply, ReconnectReply, DeltaReply, DeltaToEndReply, FeasibleReply, PolishReply, PolishToEndReply, PairLoopReply, Written, NextCutSetWritten, late-values, doable-values, RunReply, RunToEndsReply, NearbyReply, NearbyWritten};
+ghost use Rattle.mittenschist.specs.Promises.{NextCutSetReply, RouteLengthReply, RouteLengthToEndReply, ReconnectionReply, ReconnectReply, DeltaReply, DeltaToEndReply, FeasibleReply, PolishReply, PolishToEndReply, PairLoopReply, Written, NextCutSetWritten, late-values, doable-values, RunReply, RunToEndsReply, NearbyReply, NearbyWritten, FindMoveReply, FindMoveWritten};
+use first_move::SoughtMove;
 use polishing::polish_route;
 use theory::CutStep;
 use theory::Feasibility;
@@ -561,4 +562,39 @@ pub extern "C" fn mittenschist_nearby_cuts(
     }
     let answer = nearby::nearby_cuts(n, distances, k, min_segment_len, max_nearby, sets);
     entry_results::put_listing(answer, result)
+}
+
+// The first cuts and pattern in scan order that turn one route into another, or none. Refuses 1, 5, 25.
+pub fn find_move(k: usize, old: &[u32], wanted: &[u32]) -> SoughtMove
+    ensures { λ r. ⌜ FindMoveReply k (now (old .entry)) (now (wanted .entry)) r ⌝ }
+{
+    let refused = refusal_rules::find_move_refusal(k, old.len(), wanted.len());
+    if refused != 0 {
+        return entry_results::no_search(refused);
+    }
+    let found = find_move::find_move(k, old, wanted);
+    SoughtMove {
+        refusal: 0,
+        answer: found,
+    }
+}
+
+// The same; the result receives 1, the index and the k cuts, or 0 in its first place. Refuses 1, 5, 25, 21.
+#[no_mangle]
+pub extern "C" fn mittenschist_find_move(
+    k: usize,
+    old: &[u32],
+    wanted: &[u32],
+    result: &mut [u64],
+) -> u32
+    ensures { λ r. ⌜ FindMoveWritten k (now (old .entry)) (now (wanted .entry)) (now (result .entry)) r (now (result .exit)) ⌝ }
+{
+    let lent = result.len();
+    let refused = refusal_rules::find_move_refusal_with_room(k, old.len(), wanted.len(), lent);
+    if refused != 0 {
+        return refused;
+    }
+    let answer = find_move::find_move(k, old, wanted);
+    moves::put_move(k, answer, result);
+    0
 }

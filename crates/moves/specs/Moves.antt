@@ -29,3 +29,8 @@ pub record Comparable (k index : ℕ) (cuts : List ℕ) (locations : ℕ) (legs 
   pub cut-set : CutSet k (length route) cuts
   pub listed : index < length (patterns k)
   pub measurable : Measurable locations legs depot end route
+
+-- Room for a flag, an index and k cuts.
+pub record MoveRoom (k : ℕ) (result : List ℕ) : Type 0 where
+  pub most : k ≤ 5
+  pub room : k + 2 ≤ length result

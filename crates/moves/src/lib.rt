@@ -1,14 +1,16 @@
-// A move by the index of its pattern: its route and its change of the length. No entry: the crates above call it.
+// A move by the index of its pattern: its route, its change of the length, and its numbers in a lent result. No entry: the crates above call it.
 use theory::STOPS;
 ghost use mathlib.Core.Path.{_≡_};
-ghost use mathlib.Core.List.{_++_};
+ghost use mathlib.Core.List.{_∷_, _++_};
 ghost use Prim.Native.Nat.{_+_, _≤_};
 ghost use lib.ListN.{length, drop};
 ghost use Rattle.theory.specs.Moves.{patterns};
 ghost use Rattle.theory.specs.Route.{reconnected};
 ghost use Rattle.theory.specs.Polish.{move-at};
 ghost use Rattle.theory.specs.Tables.{legs-only};
-ghost use Rattle.moves.specs.Moves.{Applicable, Comparable, length-change, pattern-values, Shown};
+ghost use Rattle.moves.specs.Moves.{Applicable, Comparable, length-change, pattern-values, Shown, MoveRoom};
+ghost use Rattle.first_move.specs.FirstMove.{found-move, move-values, in-front};
+use first_move::FoundMove;
 
 fn put_order(order: &[u8], result: &mut [u64])
     requires { ⌜ length (now order) ≤ length (now result) ⌝ }
@@ -78,4 +80,43 @@ pub fn delta_pattern(
         &order[..segments],
         mask,
     )
+}
+
+fn put_values(values: &[u64], result: &mut [u64])
+    requires { ⌜ length (now values) ≤ length (now result) ⌝ }
+    ensures { λ _. ⌜ now (result .exit) ≡ now (values .entry) ++ drop (length (now (values .entry))) (now (result .entry)) ⌝ }
+{
+    for i in 0..values.len() {
+        result[i] = values[i];
+    }
+}
+
+// 1, the index and all five cuts.
+fn numbers_of(answer: FoundMove) -> [u64; 7]
+    ensures { λ r. ⌜ r ≡ 1 ∷ answer .index ∷ answer .cuts ⌝ }
+{
+    let cuts = answer.cuts;
+    [
+        1,
+        answer.index as u64,
+        cuts[0] as u64,
+        cuts[1] as u64,
+        cuts[2] as u64,
+        cuts[3] as u64,
+        cuts[4] as u64,
+    ]
+}
+
+// 1, the index and the k cuts; or 0 in the first place alone.
+pub fn put_move(k: usize, answer: FoundMove, result: &mut [u64])
+    requires { ⌜ MoveRoom k (now result) ⌝ }
+    ensures { λ _. ⌜ now (result .exit) ≡ in-front (move-values (found-move k answer)) (now (result .entry)) ⌝ }
+{
+    if answer.found {
+        let numbers = numbers_of(answer);
+        let end = k + 2;
+        put_values(&numbers[..end], result);
+        return;
+    }
+    result[0] = 0;
 }

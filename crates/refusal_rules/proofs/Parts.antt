@@ -1,20 +1,20 @@
 -- Lists of rules that are judged in parts, over plain values. Assumes nothing.
 use mathlib.Core.Path.{_≡_, refl, sym, ap₂, _∙_}
-use mathlib.Core.Bool.{Bool, true, false, cond}
+use mathlib.Core.Bool.{Bool, true, false, cond, not, _||_, true≢false}
 use mathlib.Core.List.{List, [], _∷_, _++_}
 use Prim.Native.Nat.{ℕ, _≤_, _*_}
 use native.Mathlib.Omega.{arith}
-use lib.Dec.{ltb}
+use lib.Dec.{ltb, eqb}
 use lib.Ieee.{Float}
 use lib.ListN.{length}
-use borrow.Author.Tests.{ltb-false}
+use borrow.Author.Tests.{ltb-false, eqb-true}
 use Rattle.theory.specs.Tables.{Tables, Fleet}
-use Rattle.theory.specs.Refusals.{Rule, number, either, refusal, cut-count, leg-table, leg-sizes, known-stops, known-end, stop-count, pattern-index, nearby-input, room, table-rules}
+use Rattle.theory.specs.Refusals.{Rule, number, either, refusal, cut-count, leg-table, leg-sizes, known-stops, known-end, stop-count, nearby-input, room, table-rules}
 use Rattle.theory.proofs.Refusals.{Passes, passed, either-zero, either-assoc, four-then, applies-first, passed-over}
 use Rattle.theory.proofs.LastRule.{early, room-last}
 use Rattle.theory.proofs.Judged.{cut-count-fine, room-fine}
 use Rattle.refusals.proofs.Either.{tables-then}
-use Rattle.refusal_rules.specs.Rules.{pattern-rules, route-length-to-end-rules, rounds-to-ends-rules, run-to-ends-rules, nearby-rules, with-room}
+use Rattle.refusal_rules.specs.Rules.{route-length-to-end-rules, rounds-to-ends-rules, run-to-ends-rules, nearby-rules, short-pair, with-room}
 
 -- The rules of the route, and then the others.
 pub route-then : (locations : ℕ) (legs : List ℕ) (depot end : ℕ) (route : List ℕ) (rest : ℕ) →
@@ -32,9 +32,8 @@ pub small-enough : (k n a : ℕ) → a ≡ either (number (cut-count k)) (number
 small-enough k n a e h = ltb-false 512 n (by-5 (ltb 512 n) (passed (cut-count k .1) 0 (number (stop-count n)) (sym e ∙ h) .1))
 
 -- k is judged before k + 2 is formed.
-pub few-cuts : (k pattern a : ℕ) → a ≡ refusal (pattern-rules k pattern) → a ≡ 0 → k ≤ 5
-unfolding refusal
-few-cuts k pattern a e h = cut-count-fine k (passed (cut-count k .1) 0 (either (number (pattern-index k pattern)) 0) (sym e ∙ h) .0) .1
+pub few-cuts : (k rest a : ℕ) → a ≡ either (number (cut-count k)) rest → a ≡ 0 → k ≤ 5
+few-cuts k rest a e h = cut-count-fine k (passed (cut-count k .1) 0 rest (sym e ∙ h) .0) .1
 
 -- The room for the result is judged last.
 pub then-room : (rules : List Rule) → early rules ≡ true → (needed lent a b : ℕ) → a ≡ refusal rules → b ≡ number (room needed lent) → either a b ≡ refusal (with-room rules needed lent)
@@ -54,6 +53,14 @@ before-room rules before needed lent a p h = applies-first a (refusal rules) (nu
 
 pub room-left : (rules : List Rule) → early rules ≡ true → (needed lent a b : ℕ) → a ≡ refusal rules → b ≡ number (room needed lent) → a ≡ 0 → b ≡ refusal (with-room rules needed lent)
 room-left rules before needed lent a b p q h = q ∙ passed-over a (refusal rules) (number (room needed lent)) p h ∙ sym (room-last rules needed lent before)
+
+-- Two routes that pass have one length, at most 48.
+pub short-pair-fine : (n m : ℕ) → short-pair n m .1 ≡ false → (m ≡ n) × (n ≤ 48)
+short-pair-fine n m e = by (eqb n m) refl e
+  where
+    by : (b : Bool) → eqb n m ≡ b → (not b || ltb 48 n) ≡ false → (m ≡ n) × (n ≤ 48)
+    by true same f = (sym (eqb-true n m same), ltb-false 48 n f)
+    by false same f = absurd (true≢false f)
 
 -- What passes the rules of two parts passes those of each.
 pub both-pass : (rs ss : List Rule) → Passes (rs ++ ss) → Passes rs × Passes ss

@@ -1,7 +1,9 @@
 -- The rules by which each call is judged: those of document 01's refusals that speak of what it is handed, built from the rules of its parts. A call to an end
 -- harbour has those of the call of before, and those of its ends.
+use mathlib.Core.Bool.{not, _||_}
 use mathlib.Core.List.{List, [], _∷_, _++_}
 use Prim.Native.Nat.{ℕ, _*_}
+use lib.Dec.{ltb, eqb}
 use lib.Ieee.{Float}
 use lib.ListN.{length}
 use Rattle.theory.specs.Tables.{Tables, Fleet}
@@ -14,6 +16,14 @@ with-room rules needed lent = rules ++ (room needed lent ∷ [])
 
 abbrev pub pattern-rules : ℕ → ℕ → List Rule
 pattern-rules k pattern = cut-count k ∷ pattern-index k pattern ∷ []
+
+-- "25, the rounds differ in length or have more than 48 stops."
+abbrev pub short-pair : ℕ → ℕ → Rule
+short-pair n m = (25, not (eqb n m) || ltb 48 n)
+
+-- Of two routes of n and m stops.
+abbrev pub find-move-rules : (k n m : ℕ) → List Rule
+find-move-rules k n m = cut-count k ∷ stop-count n ∷ stop-count m ∷ short-pair n m ∷ []
 
 abbrev pub next-cut-set-rules : ℕ → ℕ → List ℕ → List Rule
 next-cut-set-rules k n cuts = cut-count k ∷ stop-count n ∷ cut-positions k n cuts ∷ []

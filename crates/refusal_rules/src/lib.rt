@@ -6,8 +6,8 @@ ghost use mathlib.Core.List.{_∷_};
 ghost use Prim.Native.Nat.{_+_, _*_};
 ghost use lib.ListN.{length};
 ghost use Rattle.theory.specs.Tables.{tables, trip, fleet};
-ghost use Rattle.theory.specs.Refusals.{refusal, cut-count, trip-rules};
-ghost use Rattle.refusal_rules.specs.Rules.{pattern-rules, next-cut-set-rules, reconnect-rules, route-length-to-end-rules, delta-to-end-rules, pair-loop-rules, rounds-to-ends-rules, run-to-ends-rules, nearby-rules, with-room};
+ghost use Rattle.theory.specs.Refusals.{refusal, number, cut-count, trip-rules};
+ghost use Rattle.refusal_rules.specs.Rules.{pattern-rules, next-cut-set-rules, reconnect-rules, route-length-to-end-rules, delta-to-end-rules, pair-loop-rules, rounds-to-ends-rules, run-to-ends-rules, nearby-rules, short-pair, find-move-rules, with-room};
 
 pub fn pattern_refusal(k: usize, pattern: usize) -> u32
     ensures { λ r. ⌜ r ≡ refusal (pattern-rules k pattern) ⌝ }
@@ -199,6 +199,33 @@ pub fn nearby_refusal(
     refusals::first(bad_input, bad_room)
 }
 
+// Two routes of one length, and short enough for the search.
+fn check_lengths(n: usize, m: usize) -> u32
+    ensures { λ r. ⌜ r ≡ number (short-pair n m) ⌝ }
+{
+    if n != m {
+        return 25;
+    }
+    if 48 < n {
+        return 25;
+    }
+    0
+}
+
+// What the search for a move is handed, but for the result.
+pub fn find_move_refusal(k: usize, n: usize, m: usize) -> u32
+    ensures { λ r. ⌜ r ≡ refusal (find-move-rules k n m) ⌝ }
+{
+    let bad_k = refusals::check_cut_count(k);
+    let bad_old = refusals::check_stop_count(n);
+    let bad_wanted = refusals::check_stop_count(m);
+    let bad_pair = check_lengths(n, m);
+    refusals::first(
+        bad_k,
+        refusals::first(bad_old, refusals::first(bad_wanted, bad_pair)),
+    )
+}
+
 // The same with the room of the lent result, of the C functions that must know it before they change anything.
 
 // k + 1 segment numbers and a mask.
@@ -208,6 +235,17 @@ pub fn pattern_refusal_with_room(k: usize, pattern: usize, lent: usize) -> u32
     let bad_pattern = pattern_refusal(k, pattern);
     if bad_pattern != 0 {
         return bad_pattern;
+    }
+    refusals::check_room(k + 2, lent)
+}
+
+// The flag, the index and k cuts.
+pub fn find_move_refusal_with_room(k: usize, n: usize, m: usize, lent: usize) -> u32
+    ensures { λ r. ⌜ r ≡ refusal (with-room (find-move-rules k n m) (k + 2) lent) ⌝ }
+{
+    let bad_pair = find_move_refusal(k, n, m);
+    if bad_pair != 0 {
+        return bad_pair;
     }
     refusals::check_room(k + 2, lent)
 }

@@ -1,5 +1,8 @@
-// Runs what, beside the entries over cut points, only a Rattle program can call, a line each: the listing of nearby cuts with its answer as an enum.
+// Runs what, beside the entries over cut points, only a Rattle program can call, a line each: the listing of nearby cuts with its answer as an enum, and the
+// first move with its answer as a struct.
 use theory::Listing;
+ghost use Prim.Native.Nat.{_≤_};
+ghost use lib.ListN.{length};
 
 fn write(line: &[u8]) {
     let _ = io::write_all(1, line);
@@ -31,7 +34,37 @@ fn show_nearby(d: f64, sets: &mut [usize]) {
     show_listing(answer, &sets[..]);
 }
 
+fn flag_of(flag: bool) -> u64 {
+    if flag {
+        return 1;
+    }
+    0
+}
+
+fn put_cuts(cuts: [usize; 5], line: &mut [u8], at: usize) -> usize
+    ensures { λ r. ⌜ r ≤ length (now (line .exit)) ⌝ }
+{
+    replay_lines::put_places(&cuts, line, at)
+}
+
+// The first move with its answer as a struct: the refusal number, whether there is one, the index and the cuts.
+fn show_move(k: usize, old: &[u32], wanted: &[u32]) {
+    let sought = mittenschist::find_move(k, old, wanted);
+    let answer = sought.answer;
+    let cuts = answer.cuts;
+    let mut line = [0u8; 1024];
+    let number = replay_lines::put_number(b"move ", sought.refusal as u64, &mut line, 0);
+    let flag = replay_lines::put_number(b" ", flag_of(answer.found), &mut line, number);
+    let index = replay_lines::put_number(b" ", answer.index as u64, &mut line, flag);
+    let places = put_cuts(cuts, &mut line, index);
+    let end = replay_lines::put(b"\n", &mut line, places);
+    write(&line[..end]);
+}
+
 fn main() {
+    show_move(3, &[1, 2], &[2, 1]);
+    show_move(3, &[1], &[1]);
+    show_move(3, &[1, 2, 3], &[1, 2]);
     show_nearby(1.0, &mut [99usize; 7]);
     show_nearby(2.0, &mut [99usize; 7]);
     show_nearby(2.0, &mut [99usize; 2]);

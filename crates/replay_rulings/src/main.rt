@@ -1,4 +1,4 @@
-// Replays document 01's runs on nearby cuts, and worked examples of the rulings on what it leaves open of moves, over the library's own entries, a line
+// Replays document 01's runs on nearby cuts, worked examples of the rulings on what it leaves open of moves, and those of the first move, over the library's own entries, a line
 // each: what was asked, and what came back.
 
 fn write(line: &[u8]) {
@@ -102,7 +102,44 @@ fn show_listings() {
     show_five(0.0 / 0.0, 4, 3);
 }
 
+// A search for the first move: its number, and the result.
+fn show_search(k: usize, old: &[u32], wanted: &[u32]) {
+    let mut result = [9u64; 7];
+    let refused = mittenschist::mittenschist_find_move(k, old, wanted, &mut result);
+    let mut line = [0u8; 1024];
+    let number = replay_lines::put_number(b"move ", refused as u64, &mut line, 0);
+    let told = replay_lines::put_numbers(&result, &mut line, number);
+    let end = replay_lines::put(b"\n", &mut line, told);
+    write(&line[..end]);
+}
+
+// Two rounds of equal stops, so many each.
+fn show_alike(k: usize, n: usize, m: usize) {
+    let old = [1u32; 513];
+    let wanted = [1u32; 513];
+    if n > 513 {
+        return;
+    }
+    if m > 513 {
+        return;
+    }
+    show_search(k, &old[..n], &wanted[..m]);
+}
+
+fn show_searches() {
+    show_alike(2, 0, 0);
+    show_alike(2, 1, 1);
+    show_search(3, &[1, 2], &[1, 2]);
+    show_search(3, &[1, 2], &[2, 1]);
+    show_alike(3, 1, 1);
+    show_alike(3, 49, 49);
+    show_alike(3, 513, 513);
+    show_alike(3, 3, 4);
+    show_alike(5, 48, 48);
+}
+
 fn main() {
     show_moves();
     show_listings();
+    show_searches();
 }

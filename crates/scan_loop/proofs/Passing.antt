@@ -28,7 +28,7 @@ use Rattle.scan_joints.specs.JointTable.{Padded}
 use Rattle.scan_shared.specs.Prepared.{Opened}
 use Rattle.scan_stretch.specs.declared.Stretch.{Stretch}
 use Rattle.scan_stretch.specs.Stretch.{Stretchable, Ended, Stretched}
-use Rattle.scan_taking.specs.Candidate.{candidate, Candidate}
+use Rattle.candidates.specs.Candidate.{candidate, Candidate}
 use Rattle.scan_taking.specs.Measure.{Measured, Cleared}
 use Rattle.scan_stretch.proofs.Counting.{count-least, count-next}
 use Rattle.scan_loop.specs.Loop.{Scannable}

@@ -1,2 +1,1 @@
-pub mod Candidate
 mod Taking

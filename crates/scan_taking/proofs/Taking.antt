@@ -14,8 +14,8 @@ use Rattle.costs.specs.RouteCosts.{Summable}
 use Rattle.deadlines.specs.Stays.{Stays, StaysFillable}
 use Rattle.reconnection.specs.Segments.{Fits}
 use Rattle.scan_taking.specs.Measure.{Cleared, StaysAnew, Takeable}
-use Rattle.scan_taking.specs.Candidate.{candidate, BuiltFront}
-use Rattle.scan_taking.proofs.Candidate.{same-stops}
+use Rattle.candidates.specs.Candidate.{candidate, BuiltFront}
+use Rattle.candidates.proofs.Candidate.{same-stops}
 
 module _ {locations : ℕ} {legs service cuts orders masks : List ℕ} {i : ℕ} {route forward-sums backward-sums stayed late : List ℕ}
     (ok : Takeable locations legs service cuts orders masks i route forward-sums backward-sums stayed late) where

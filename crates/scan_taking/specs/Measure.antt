@@ -9,7 +9,7 @@ use Rattle.theory.specs.Tables.{Tables, clock-by, LegTable, Stops, Clocked}
 use Rattle.costs.specs.RouteCosts.{leg, Sums}
 use Rattle.deadlines.specs.Stays.{Stays, StaysFillable}
 use Rattle.deadlines.specs.Lateness.{LongestHead, Latenesses}
-use Rattle.scan_taking.specs.Candidate.{candidate, Candidate}
+use Rattle.candidates.specs.Candidate.{candidate, Candidate}
 
 -- A route, and places for its sums, its stays and its lateness.
 pub record MeasureAsked (T : Tables) (depot : ℕ) (route forward-sums backward-sums stayed late : List ℕ) : Type 0 where

@@ -5,7 +5,6 @@ use theory::STOPS;
 ghost use mathlib.Core.Path.{_≡_};
 ghost use Rattle.theory.specs.Tables.{tables};
 ghost use Rattle.deadlines.specs.Stays.{StaysFillable};
-ghost use Rattle.scan_taking.specs.Candidate.{candidate, Buildable, BuildableFront, BuiltFront};
 ghost use Rattle.scan_taking.specs.Measure.{MeasureAsked, Measured, Clearable, Cleared, StaysAnew, Takeable, Taken};
 
 // The running sums of a route, and what it leaves to its candidates; the answer is the longest head.
@@ -38,40 +37,6 @@ pub fn measure(
         stayed,
         lateness,
     )
-}
-
-// The candidate of pattern i.
-fn build_candidate(
-    route: &[u32],
-    cuts: &[usize],
-    orders: &[u8],
-    masks: &[u8],
-    i: usize,
-    out: &mut [u32],
-)
-    requires { ⌜ Buildable (now route) (now cuts) (now orders) (now masks) i (now out) ⌝ }
-    ensures { λ _. ⌜ now (out .exit) ≡ candidate (now (route .entry)) (now (cuts .entry)) (now (orders .entry)) (now (masks .entry)) i ⌝ }
-{
-    let width = cuts.len() + 1;
-    let at = i * width;
-    let end = at + width;
-    reconnection::reconnect(route, cuts, &orders[at..end], masks[i], out);
-}
-
-// The same at the front of `spare`.
-fn build_front(
-    route: &[u32],
-    cuts: &[usize],
-    orders: &[u8],
-    masks: &[u8],
-    i: usize,
-    spare: &mut [u32],
-)
-    requires { ⌜ BuildableFront (now route) (now cuts) (now orders) (now masks) i (now spare) ⌝ }
-    ensures { λ _. ⌜ BuiltFront (now (route .entry)) (now (cuts .entry)) (now (orders .entry)) (now (masks .entry)) i (now (spare .exit)) ⌝ }
-{
-    let n = route.len();
-    build_candidate(route, cuts, orders, masks, i, &mut spare[..n]);
 }
 
 // No stop of an accepted route is late. Where none was before, the table says so already.
@@ -121,7 +86,7 @@ pub fn take_gain(
 {
     let n = route.len();
     let mut spare = [0u32; STOPS];
-    build_front(&route[..], cuts, orders, masks, i, &mut spare);
+    candidates::build_front(&route[..], cuts, orders, masks, i, &mut spare);
     reconnection::copy_in(&spare[..n], route, 0);
     costs::forward_sums(locations, legs, &route[..], forward);
     costs::backward_sums(locations, legs, &route[..], backward);

@@ -7,6 +7,8 @@ pub const LONGEST_LEG: u32 = 1_000_000;
 pub const LONGEST_SERVICE: u32 = 1_000_000;
 pub const LONGEST_PIECE: usize = 512;
 pub const MOST_NEIGHBOURS: usize = 32;
+/// Stops of a round whose first move is looked for.
+pub const LONGEST_MOVED: usize = 48;
 
 /// The stated order of all numbers, those that no call gives yet included.
 const ORDER: [u32; 21] = [

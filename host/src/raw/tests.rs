@@ -334,3 +334,20 @@ fn an_empty_route_has_a_length_and_no_late_stop() {
     };
     assert_eq!((returned, length, late, change), ([0, 0, 7], [7], [0], [9]));
 }
+
+/// No move turns nothing into nothing; a place too few, and one stop beside none.
+#[test]
+fn the_first_move_of_nothing() {
+    let mut result = [9; 4];
+    // SAFETY: as said above.
+    let mut find = |wanted: &[u32], lent| unsafe {
+        let first = if wanted.is_empty() {
+            null()
+        } else {
+            wanted.as_ptr()
+        };
+        mittenschist_find_move(2, null(), 0, first, wanted.len(), result.as_mut_ptr(), lent)
+    };
+    let returned = [find(&[7], 4), find(&[], 3), find(&[], 4)];
+    assert_eq!((returned, result), ([25, 21, 0], [0, 9, 9, 9]));
+}

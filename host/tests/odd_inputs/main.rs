@@ -4,6 +4,7 @@
 
 #![forbid(unsafe_code)]
 
+mod first_move;
 mod moves;
 mod nearby;
 mod pairs;

@@ -2,6 +2,7 @@
 use mathlib.Core.Path.{refl}
 use Prim.Native.Nat.{_+_}
 use native.Mathlib.Omega.{arith}
+use Rattle.theory.specs.Refusals.{refusal}
 use Rattle.theory.proofs.LastRule.{early}
 use Rattle.refusal_rules.specs.Rules.{pattern-rules}
 use Rattle.refusal_rules.proofs.Parts.{few-cuts, before-room, room-left}
@@ -19,9 +20,10 @@ returns c =
     before-room (pattern-rules (s .args .k) (s .args .pattern)) refl (s .args .k + 2) (s .args .lent) _ (c .before .pattern-refusal .ensures) (c .if1 .taken)
 
 add-check-room : tie.Need-add-check-room
+unfolding refusal
 add-check-room c =
     let s = c .before .before in
-    omega (arith, few-cuts (s .args .k) (s .args .pattern) _ (c .before .pattern-refusal .ensures) (c .if1 .left))
+    omega (arith, few-cuts (s .args .k) _ _ (c .before .pattern-refusal .ensures) (c .if1 .left))
 
 check-room-requires : tie.Need-check-room-requires
 check-room-requires c κs = search needs

@@ -14,7 +14,7 @@ use Rattle.theory.proofs.Polishing.{Polishing}
 use Rattle.scan_joints.specs.JointTable.{Padded}
 use Rattle.scan_shared.specs.Prepared.{Opened}
 use Rattle.scan_shared.proofs.Preparing.{no-cells}
-use Rattle.scan_taking.specs.Candidate.{candidate}
+use Rattle.candidates.specs.Candidate.{candidate}
 use Rattle.scan_taking.specs.Measure.{Measured}
 use Rattle.scan_loop.proofs.Scanning.{starts, below, same-size, timed}
 use Rattle.scan_loop.proofs.Passing.{kept-measured, first-opened, stretchable, in-allowance, room-for-it, begins-again, takeable, measured-anew, spent-now, some-examined, cuts-then, moves-on, ends-now}

@@ -1,0 +1,3 @@
+-- The definitions that the contracts of `find_move` cite.
+pub mod Walk
+pub mod Search

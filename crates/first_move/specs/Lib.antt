@@ -1,0 +1,2 @@
+-- The definitions of `first_move`.
+pub mod FirstMove

@@ -1,0 +1,3 @@
+-- The definitions that the contracts of `prefixes` cite.
+pub mod Ways
+pub mod Prefix

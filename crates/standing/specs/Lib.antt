@@ -1,0 +1,3 @@
+-- The definitions that the contracts of `standing` and of the crates above it cite.
+pub mod Places
+pub mod Standing

@@ -1,0 +1,4 @@
+pub mod Cells
+pub mod Parts
+pub mod Agreeing
+pub mod Rows

@@ -1,0 +1,2 @@
+-- The definitions that the contracts of `standing_tables` cite.
+pub mod Filling
