@@ -72,7 +72,7 @@ fn gather(ahead: &[u64; 2401], row: usize, places: u64) -> u64
 }
 
 // Whether the segments that are left can be laid, one after the other, from one of the places to the goal.
-pub fn leads(
+fn leads(
     stands: &[u64; 2401],
     ahead: &[u64; 2401],
     cuts: &[usize; 5],

@@ -17,7 +17,7 @@ fn place_if(holds: bool, place: usize) -> u64
 }
 
 // The places of the wanted route that hold the stop.
-pub fn same_places(wanted: &[u32], stop: u32) -> u64
+fn same_places(wanted: &[u32], stop: u32) -> u64
     requires { ⌜ length (now wanted) ≤ 48 ⌝ }
     ensures { λ r. ⌜ SameSet (now (wanted .entry)) stop r ⌝ }
 {
