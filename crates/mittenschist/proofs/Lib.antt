@@ -9,3 +9,4 @@ pub mod PairLoopReply
 pub mod Written
 pub mod RunReply
 pub mod NearbyReply
+pub mod EveryReply

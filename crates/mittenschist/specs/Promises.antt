@@ -19,6 +19,7 @@ use Rattle.cut_step.specs.Step.{found, or-unmoved}
 use Rattle.move_applying.specs.Applying.{doable}
 use Rattle.nearby.specs.Walk.{nearby-sets}
 use Rattle.nearby.specs.Listing.{written}
+use Rattle.every_nearby_sets.specs.Every.{every-sets}
 use Rattle.pair_loop.specs.PairLoop.{pair-loop, PairPromise}
 use Rattle.run.specs.Run.{run, rounds, routes, numbers, Ran}
 use Rattle.theory.specs.declared.CutStep.{CutStep}
@@ -176,3 +177,27 @@ pub record NearbyReply (n : ℕ) (distances : List Float) (k m neighbours : ℕ)
 pub record NearbyWritten (n : ℕ) (distances : List Float) (k m neighbours : ℕ) (sets result : List ℕ) (answer : ℕ) (sets′ result′ : List ℕ) : Type 0 where
   pub written : Written (nearby-rules n distances k m neighbours (length sets)) 2 (nearby-values n distances k m neighbours sets) result answer result′
   pub sets-are : sets′ ≡ if-taken (with-room (nearby-rules n distances k m neighbours (length sets)) 2 (length result)) (nearby-places n distances k m neighbours sets) sets
+
+-- ---- every nearby cut set
+
+-- The sets that fit, of every nearby set.
+abbrev pub every-written : ℕ → List Float → ℕ → ℕ → ℕ → List ℕ → List (List ℕ)
+every-written n distances k m neighbours sets = written (every-sets distances n k m neighbours) k (length sets)
+
+-- Their number, and 1 exactly where there is another.
+abbrev pub every-values : ℕ → List Float → ℕ → ℕ → ℕ → List ℕ → List ℕ
+every-values n distances k m neighbours sets =
+    length (every-written n distances k m neighbours sets) ∷ cond (ltb (length sets / k) (length (every-sets distances n k m neighbours))) 1 0 ∷ []
+
+-- The sets end to end in the first places, and the places beyond as they were.
+abbrev pub every-places : ℕ → List Float → ℕ → ℕ → ℕ → List ℕ → List ℕ
+every-places n distances k m neighbours sets =
+    flatten (every-written n distances k m neighbours sets) ++ drop (length (every-written n distances k m neighbours sets) * k) sets
+
+pub record EveryReply (n : ℕ) (distances : List Float) (k m neighbours : ℕ) (sets : List ℕ) (answer : Listing) (sets′ : List ℕ) : Type 0 where
+  pub reply-is : listing-answer answer ≡ reply (refusal (nearby-rules n distances k m neighbours (length sets))) (every-values n distances k m neighbours sets)
+  pub sets-are : sets′ ≡ if-taken (nearby-rules n distances k m neighbours (length sets)) (every-places n distances k m neighbours sets) sets
+
+pub record EveryWritten (n : ℕ) (distances : List Float) (k m neighbours : ℕ) (sets result : List ℕ) (answer : ℕ) (sets′ result′ : List ℕ) : Type 0 where
+  pub written : Written (nearby-rules n distances k m neighbours (length sets)) 2 (every-values n distances k m neighbours sets) result answer result′
+  pub sets-are : sets′ ≡ if-taken (with-room (nearby-rules n distances k m neighbours (length sets)) 2 (length result)) (every-places n distances k m neighbours sets) sets
