@@ -7,7 +7,7 @@
 use beside::random::Random;
 use beside::trial::{judge, Drawn, Family, Reply, Source, Trial};
 use beside::watch::Watch;
-use beside::{checks, ends, moves, nearby, pairs, parts, polish, run, text};
+use beside::{checks, ends, every, moves, nearby, pairs, parts, polish, run, text};
 use std::collections::BTreeMap;
 use std::env;
 use std::process::ExitCode;
@@ -134,6 +134,7 @@ fn families() -> Vec<Family> {
     all.extend(moves::FAMILIES);
     all.extend(parts::FAMILIES);
     all.extend(ends::FAMILIES);
+    all.extend(every::FAMILIES);
     match text::program() {
         Ok(_) => all.extend(text::FAMILIES),
         Err(reason) => println!("the text program is not compared: {reason}"),
