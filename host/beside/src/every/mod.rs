@@ -28,7 +28,11 @@ pub const FAMILIES: [Family; 6] = [
     Family::new(CALL, "every/rooms", Source::Each(short::each_room)),
     Family::new(CALL, "every/bounds", Source::Each(bounds::each)).on_small_stack(),
     Family::new(CALL, "every/random", Source::Drawn(400, 0, generate::draw)),
-    Family::new(CALL, "every/long", Source::Drawn(5, 0, generate::draw_long)),
+    Family::new(
+        CALL,
+        "every/long",
+        Source::Drawn(20, 0, generate::draw_long),
+    ),
     Family::new(
         CALL,
         "every/damaged",
