@@ -59,7 +59,7 @@ type Table = fn(&mut Random) -> Vec<f64>;
 pub const DEAD_ENDS: [(&str, Table); 3] = [
     ("quarters", quarters),
     ("quarters, falling", falling_quarters),
-    ("lower positions nearer", lower_nearer),
+    ("falling to the end", falling_to_the_end),
 ];
 
 /// From a quarter of the positions only the next one is near, so that four cuts are found and never the fifth.
@@ -71,28 +71,28 @@ fn quarters(random: &mut Random) -> Vec<f64> {
     })
 }
 
-/// The same, and each row falls up to the neighbours, which are the dearest to find.
 fn falling_quarters(_random: &mut Random) -> Vec<f64> {
+    falling(|from| {
+        let next = (from / QUARTER + 1) * QUARTER;
+        let ahead = from * 37 % (QUARTER - MOST_NEIGHBOURS);
+        (next < MOST_STOPS).then_some(next + ahead + MOST_NEIGHBOURS)
+    })
+}
+
+/// From all but the last positions these are near, and from them the ones before.
+fn falling_to_the_end(_random: &mut Random) -> Vec<f64> {
+    falling(|from| (from + MOST_NEIGHBOURS < MOST_STOPS).then_some(MOST_STOPS))
+}
+
+/// Each row falls up to its neighbours, which end at the place that is given, or before the row's own position: on the way each position is nearer than
+/// all before it, so that they are the dearest to find.
+fn falling(end: impl Fn(usize) -> Option<usize>) -> Vec<f64> {
     each_entry(|from, to| {
-        let ahead = (from / QUARTER + 1) * QUARTER + from * 37 % (QUARTER - MOST_NEIGHBOURS);
-        let last = if from / QUARTER == 3 {
-            from
-        } else {
-            ahead + MOST_NEIGHBOURS
-        };
-        if to < last {
+        if to < end(from).unwrap_or(from) {
             (MOST_STOPS - to) as f64
         } else {
             (MOST_STOPS + to) as f64
         }
-    })
-}
-
-/// Lower positions are nearer, and each row falls twice: only the first 32 cuts have higher neighbours, the last positions, which have none.
-fn lower_nearer(_random: &mut Random) -> Vec<f64> {
-    each_entry(|from, to| {
-        let turns = if to < from { 1 } else { 2 };
-        (turns * MOST_STOPS - to) as f64
     })
 }
 
