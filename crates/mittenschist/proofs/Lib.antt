@@ -8,5 +8,4 @@ pub mod PolishReply
 pub mod PairLoopReply
 pub mod Written
 pub mod RunReply
-pub mod NearbyReply
-pub mod EveryReply
+pub mod ListingReply
