@@ -175,6 +175,13 @@ uint32_t mittenschist_find_move(size_t k, const uint32_t *old, size_t old_len, c
 uint32_t mittenschist_nearby_cuts(size_t n, const double *distances, size_t distances_len, size_t k,
     size_t min_segment_len, size_t max_nearby, size_t *sets, size_t sets_len, uint64_t *result, size_t result_len);
 
+/* Lists every nearby cut set, also those that the listing above misses where it drops a cut, each once: sets with a lower first cut first,
+ * then by rank in the neighbour lists, cut by cut. With two cuts it is the listing above.
+ *   n .. result              as for the listing above
+ * Refuses 1, 5, 9, 21 (sets under k places, also where there is no set; result under 2). */
+uint32_t mittenschist_every_nearby_cuts(size_t n, const double *distances, size_t distances_len, size_t k,
+    size_t min_segment_len, size_t max_nearby, size_t *sets, size_t sets_len, uint64_t *result, size_t result_len);
+
 /* The pattern with an index.
  *   result  written  k + 2 places: k + 1 segment numbers in their order, then the mask, of which bit i reverses segment i
  * Refuses 1, 6, 21. */

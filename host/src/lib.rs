@@ -40,7 +40,7 @@ mod unknown;
 pub use first_move::{find_move, Move};
 pub use harbours::Harbours;
 pub use moves::{k_opt_do_move, k_opt_is_doable, k_opt_undo_move};
-pub use nearby::{nearby_cuts, Listing};
+pub use nearby::{every_nearby_cuts, nearby_cuts, Listing};
 pub use pairs::{pair_loop, PairLooped};
 pub use parts::{
     delta, next_cut_set, reconnect, reconnection_at, route_feasible, route_length, Deadline,

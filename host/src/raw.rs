@@ -117,6 +117,18 @@ extern "C" {
         result: *mut u64,
         result_len: usize,
     ) -> u32;
+    fn mittenschist_every_nearby_cuts(
+        n: usize,
+        distances: *const f64,
+        distances_len: usize,
+        k: usize,
+        min_segment_len: usize,
+        max_nearby: usize,
+        sets: *mut usize,
+        sets_len: usize,
+        result: *mut u64,
+        result_len: usize,
+    ) -> u32;
     fn mittenschist_k_opt_do_move(
         k: usize,
         pattern: usize,
@@ -463,6 +475,34 @@ pub fn nearby_cuts(
     // SAFETY: as said above.
     unsafe {
         mittenschist_nearby_cuts(
+            n,
+            distances.as_ptr(),
+            distances.len(),
+            k,
+            min_segment_len,
+            max_nearby,
+            sets.as_mut_ptr(),
+            sets.len(),
+            result.as_mut_ptr(),
+            result.len(),
+        )
+    }
+}
+
+/// Lists every nearby cut set. The result begins with the number of sets written and 0 ended or 1 more.
+#[must_use]
+pub fn every_nearby_cuts(
+    n: usize,
+    distances: &[f64],
+    k: usize,
+    min_segment_len: usize,
+    max_nearby: usize,
+    sets: &mut [usize],
+    result: &mut [u64],
+) -> u32 {
+    // SAFETY: as said above.
+    unsafe {
+        mittenschist_every_nearby_cuts(
             n,
             distances.as_ptr(),
             distances.len(),

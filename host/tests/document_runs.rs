@@ -6,10 +6,10 @@
 mod support;
 
 use mittenschist::{
-    find_move, k_opt_do_move, k_opt_is_doable, k_opt_undo_move, nearby_cuts, next_cut_set,
-    pair_loop, polish_route, reconnection_at, route_feasible, route_length, run_list_k_opt,
-    Deadline, Ending, Harbours, Move, PairLooped, Polished, Refusal, RoundReply, RoundState,
-    Rounds, Tables,
+    every_nearby_cuts, find_move, k_opt_do_move, k_opt_is_doable, k_opt_undo_move, nearby_cuts,
+    next_cut_set, pair_loop, polish_route, reconnection_at, route_feasible, route_length,
+    run_list_k_opt, Deadline, Ending, Harbours, Move, PairLooped, Polished, Refusal, RoundReply,
+    RoundState, Rounds, Tables,
 };
 use support::lent::Lent;
 use support::{kept, written};
@@ -416,6 +416,22 @@ fn listed(from_1_to_3: f64) -> Vec<u64> {
 fn nearby() {
     assert_eq!(listed(1.0), [1, 3, 4, 2, 3, 4]);
     assert_eq!(listed(2.0), [1, 2, 3, 1, 2, 4, 1, 3, 4, 2, 3, 4]);
+}
+
+/// Cut 2, whose neighbours lie too low, has its sibling 3 dropped with it by the first listing.
+#[test]
+fn every_nearby() {
+    let mut distances = [2.0; 25];
+    for (from, to) in [(1, 2), (1, 3), (2, 0), (2, 1), (3, 4)] {
+        distances[5 * from + to] = 1.0;
+    }
+    let mut sets = Lent::new("sets", &[0; 7]);
+    let missed = nearby_cuts(5, &distances, 3, 1, 2, sets.slice()).unwrap();
+    assert_eq!((missed.sets, missed.more), (0, false));
+    kept(&sets);
+    let listing = every_nearby_cuts(5, &distances, 3, 1, 2, sets.slice()).unwrap();
+    assert_eq!((listing.sets, listing.more), (1, false));
+    assert_eq!(written(&sets), [1, 3, 4, 0, 0, 0, 0]);
 }
 
 #[test]

@@ -34,6 +34,7 @@ fn calls(tables: &Tables, number: u32) -> Vec<Vec<u64>> {
         ended(tables, number),
         ran_to_ends(tables, number),
         listed(tables, number),
+        all_listed(tables, number),
         moved(number),
     ]
 }
@@ -144,6 +145,23 @@ fn listed(tables: &Tables, number: u32) -> Vec<u64> {
     let neighbours = 1 + number as usize % 32;
     let (k, distances) = (cuts(number), tables.distances);
     let code = raw::nearby_cuts(
+        LOCATIONS,
+        distances,
+        k,
+        2,
+        neighbours,
+        sets.slice(),
+        result.slice(),
+    );
+    [vec![u64::from(code)], written(&sets), written(&result)].concat()
+}
+
+fn all_listed(tables: &Tables, number: u32) -> Vec<u64> {
+    let (places, room) = (filled_usize(101), filled(3));
+    let (mut sets, mut result) = (Lent::new("sets", &places), Lent::new("result", &room));
+    let neighbours = 1 + number as usize % 32;
+    let (k, distances) = (cuts(number), tables.distances);
+    let code = raw::every_nearby_cuts(
         LOCATIONS,
         distances,
         k,

@@ -9,5 +9,5 @@ pub mod PolishReply
 pub mod PairLoopReply
 pub mod Written
 pub mod RunReply
-pub mod NearbyReply
+pub mod ListingReply
 pub mod FindMoveReply

@@ -23,6 +23,7 @@ use Rattle.cut_step.specs.Step.{found, or-unmoved}
 use Rattle.move_applying.specs.Applying.{doable}
 use Rattle.nearby.specs.Walk.{nearby-sets}
 use Rattle.nearby.specs.Listing.{written}
+use Rattle.every_nearby_sets.specs.Every.{every-sets}
 use Rattle.pair_loop.specs.PairLoop.{pair-loop, PairPromise}
 use Rattle.run.specs.Run.{run, rounds, routes, numbers, Ran}
 use Rattle.theory.specs.declared.CutStep.{CutStep}
@@ -156,29 +157,42 @@ RunReply k allowance T F result = RunBy (run-rules k T F (length result)) k allo
 abbrev pub RunToEndsReply : (k allowance : ℕ) → Tables → Fleet → List ℕ → ℕ → List ℕ → List ℕ → Type 0
 RunToEndsReply k allowance T F result = RunBy (run-to-ends-rules k T F (length result)) k allowance T F result
 
--- ---- nearby cuts
+-- ---- nearby cuts, and every nearby cut set
 
--- The sets that fit, of those of document 01's walk.
-abbrev pub nearby-written : ℕ → List Float → ℕ → ℕ → ℕ → List ℕ → List (List ℕ)
-nearby-written n distances k m neighbours sets = written (nearby-sets distances n k m neighbours) k (length sets)
+-- The sets of a listing that fit.
+abbrev pub fitting : List (List ℕ) → (k : ℕ) → List ℕ → List (List ℕ)
+fitting all k sets = written all k (length sets)
 
--- Their number, and 1 exactly where the walk has another.
-abbrev pub nearby-values : ℕ → List Float → ℕ → ℕ → ℕ → List ℕ → List ℕ
-nearby-values n distances k m neighbours sets =
-    length (nearby-written n distances k m neighbours sets) ∷ cond (ltb (length sets / k) (length (nearby-sets distances n k m neighbours))) 1 0 ∷ []
+-- Their number, and 1 exactly where the listing has another.
+abbrev pub listing-values : List (List ℕ) → (k : ℕ) → List ℕ → List ℕ
+listing-values all k sets = length (fitting all k sets) ∷ cond (ltb (length sets / k) (length all)) 1 0 ∷ []
 
 -- The sets end to end in the first places, and the places beyond as they were.
-abbrev pub nearby-places : ℕ → List Float → ℕ → ℕ → ℕ → List ℕ → List ℕ
-nearby-places n distances k m neighbours sets =
-    flatten (nearby-written n distances k m neighbours sets) ++ drop (length (nearby-written n distances k m neighbours sets) * k) sets
+abbrev pub listing-places : List (List ℕ) → (k : ℕ) → List ℕ → List ℕ
+listing-places all k sets = flatten (fitting all k sets) ++ drop (length (fitting all k sets) * k) sets
 
-pub record NearbyReply (n : ℕ) (distances : List Float) (k m neighbours : ℕ) (sets : List ℕ) (answer : Listing) (sets′ : List ℕ) : Type 0 where
-  pub reply-is : listing-answer answer ≡ reply (refusal (nearby-rules n distances k m neighbours (length sets))) (nearby-values n distances k m neighbours sets)
-  pub sets-are : sets′ ≡ if-taken (nearby-rules n distances k m neighbours (length sets)) (nearby-places n distances k m neighbours sets) sets
+-- Judged by some rules, of all sets of a listing.
+pub record ListingReply (rules : List Rule) (all : List (List ℕ)) (k : ℕ) (sets : List ℕ) (answer : Listing) (sets′ : List ℕ) : Type 0 where
+  pub reply-is : listing-answer answer ≡ reply (refusal rules) (listing-values all k sets)
+  pub sets-are : sets′ ≡ if-taken rules (listing-places all k sets) sets
 
-pub record NearbyWritten (n : ℕ) (distances : List Float) (k m neighbours : ℕ) (sets result : List ℕ) (answer : ℕ) (sets′ result′ : List ℕ) : Type 0 where
-  pub written : Written (nearby-rules n distances k m neighbours (length sets)) 2 (nearby-values n distances k m neighbours sets) result answer result′
-  pub sets-are : sets′ ≡ if-taken (with-room (nearby-rules n distances k m neighbours (length sets)) 2 (length result)) (nearby-places n distances k m neighbours sets) sets
+pub record ListingWritten (rules : List Rule) (all : List (List ℕ)) (k : ℕ) (sets result : List ℕ) (answer : ℕ) (sets′ result′ : List ℕ) : Type 0 where
+  pub written : Written rules 2 (listing-values all k sets) result answer result′
+  pub sets-are : sets′ ≡ if-taken (with-room rules 2 (length result)) (listing-places all k sets) sets
+
+-- The sets of document 01's walk.
+abbrev pub NearbyReply : (n : ℕ) → List Float → (k m neighbours : ℕ) → List ℕ → Listing → List ℕ → Type 0
+NearbyReply n distances k m neighbours sets = ListingReply (nearby-rules n distances k m neighbours (length sets)) (nearby-sets distances n k m neighbours) k sets
+
+abbrev pub NearbyWritten : (n : ℕ) → List Float → (k m neighbours : ℕ) → List ℕ → List ℕ → ℕ → List ℕ → List ℕ → Type 0
+NearbyWritten n distances k m neighbours sets = ListingWritten (nearby-rules n distances k m neighbours (length sets)) (nearby-sets distances n k m neighbours) k sets
+
+-- Every nearby set.
+abbrev pub EveryReply : (n : ℕ) → List Float → (k m neighbours : ℕ) → List ℕ → Listing → List ℕ → Type 0
+EveryReply n distances k m neighbours sets = ListingReply (nearby-rules n distances k m neighbours (length sets)) (every-sets distances n k m neighbours) k sets
+
+abbrev pub EveryWritten : (n : ℕ) → List Float → (k m neighbours : ℕ) → List ℕ → List ℕ → ℕ → List ℕ → List ℕ → Type 0
+EveryWritten n distances k m neighbours sets = ListingWritten (nearby-rules n distances k m neighbours (length sets)) (every-sets distances n k m neighbours) k sets
 
 -- ---- how did they get there
 

@@ -10,7 +10,7 @@ ghost use Rattle.theory.specs.Refusals.{problem-rules};
 ghost use Rattle.move_calls.specs.Entries.{DoMoveReply, UndoReply, doable-rules};
 ghost use Rattle.moves.specs.Moves.{length-change, pattern-values};
 ghost use Rattle.refusal_rules.specs.Rules.{route-length-rules, route-length-to-end-rules, pattern-rules, delta-rules, delta-to-end-rules};
-ghost use Rattle.mittenschist.specs.Promises.{NextCutSetReply, RouteLengthReply, RouteLengthToEndReply, ReconnectionReply, ReconnectReply, DeltaReply, DeltaToEndReply, FeasibleReply, PolishReply, PolishToEndReply, PairLoopReply, Written, NextCutSetWritten, late-values, doable-values, RunReply, RunToEndsReply, NearbyReply, NearbyWritten, FindMoveReply, FindMoveWritten};
+ghost use Rattle.mittenschist.specs.Promises.{NextCutSetReply, RouteLengthReply, RouteLengthToEndReply, ReconnectionReply, ReconnectReply, DeltaReply, DeltaToEndReply, FeasibleReply, PolishReply, PolishToEndReply, PairLoopReply, Written, NextCutSetWritten, late-values, doable-values, RunReply, RunToEndsReply, NearbyReply, NearbyWritten, EveryReply, EveryWritten, FindMoveReply, FindMoveWritten};
 use first_move::SoughtMove;
 use polishing::polish_route;
 use theory::CutStep;
@@ -561,6 +561,67 @@ pub extern "C" fn mittenschist_nearby_cuts(
         return refused;
     }
     let answer = nearby::nearby_cuts(n, distances, k, min_segment_len, max_nearby, sets);
+    entry_results::put_listing(answer, result)
+}
+
+// Lists every nearby cut set, k places each, until no whole set fits any more. Refuses 1, 5, 9, 21.
+pub fn every_nearby_cuts(
+    n: usize,
+    distances: &[f64],
+    k: usize,
+    min_segment_len: usize,
+    max_nearby: usize,
+    sets: &mut [usize],
+) -> Listing
+    ensures { λ r. ⌜ EveryReply n (now (distances .entry)) k «min_segment_len» «max_nearby» (now (sets .entry)) r (now (sets .exit)) ⌝ }
+{
+    let refused = refusal_rules::nearby_refusal(
+        n,
+        distances,
+        k,
+        min_segment_len,
+        max_nearby,
+        sets.len(),
+    );
+    if refused != 0 {
+        return Listing::Refused(refused);
+    }
+    every_nearby::every_nearby_cuts(n, distances, k, min_segment_len, max_nearby, sets)
+}
+
+// The same; the result receives the number of sets written, then 0 ended or 1 more. Refuses 1, 5, 9, 21.
+#[no_mangle]
+pub extern "C" fn mittenschist_every_nearby_cuts(
+    n: usize,
+    distances: &[f64],
+    k: usize,
+    min_segment_len: usize,
+    max_nearby: usize,
+    sets: &mut [usize],
+    result: &mut [u64],
+) -> u32
+    ensures { λ r. ⌜ EveryWritten n (now (distances .entry)) k «min_segment_len» «max_nearby» (now (sets .entry)) (now (result .entry)) r (now (sets .exit)) (now (result .exit)) ⌝ }
+{
+    let refused = refusal_rules::nearby_refusal_with_room(
+        n,
+        distances,
+        k,
+        min_segment_len,
+        max_nearby,
+        sets.len(),
+        result.len(),
+    );
+    if refused != 0 {
+        return refused;
+    }
+    let answer = every_nearby::every_nearby_cuts(
+        n,
+        distances,
+        k,
+        min_segment_len,
+        max_nearby,
+        sets,
+    );
     entry_results::put_listing(answer, result)
 }
 

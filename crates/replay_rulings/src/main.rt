@@ -1,14 +1,14 @@
-// Replays document 01's runs on nearby cuts, worked examples of the rulings on what it leaves open of moves, and those of the first move, over the library's own entries, a line
-// each: what was asked, and what came back.
+// Replays document 01's runs on nearby cuts, one on which the listing of every nearby cut set differs, worked examples of the rulings on what is left open
+// of moves, and those of the first move, over the library's own entries, a line each: what was asked, and what came back.
 
 fn write(line: &[u8]) {
     let _ = io::write_all(1, line);
 }
 
 // What a listing answered, its two numbers, and the buffer.
-fn show_listing(refused: u32, result: &[u64], sets: &[usize]) {
+fn show_listing(call: &[u8], refused: u32, result: &[u64], sets: &[usize]) {
     let mut line = [0u8; 1024];
-    let number = replay_lines::put_number(b"nearby ", refused as u64, &mut line, 0);
+    let number = replay_lines::put_number(call, refused as u64, &mut line, 0);
     let word = replay_lines::put(b" result", &mut line, number);
     let told = replay_lines::put_numbers(result, &mut line, word);
     let buffer = replay_lines::put(b" sets", &mut line, told);
@@ -28,7 +28,43 @@ fn show_nearby(n: usize, distances: &[f64], k: usize, neighbours: usize, sets: &
         sets,
         &mut result,
     );
-    show_listing(refused, &result, &sets[..]);
+    show_listing(b"nearby ", refused, &result, &sets[..]);
+}
+
+fn show_every(n: usize, distances: &[f64], k: usize, neighbours: usize, sets: &mut [usize]) {
+    let mut result = [9u64; 2];
+    let refused = mittenschist::mittenschist_every_nearby_cuts(
+        n,
+        distances,
+        k,
+        1,
+        neighbours,
+        sets,
+        &mut result,
+    );
+    show_listing(b"every ", refused, &result, &sets[..]);
+}
+
+// The neighbours of 1 are 2 and 3, those of 2 lie too low, and 4 is one of 3's: the first listing drops 3 with 2.
+fn show_missed() {
+    let mut distances = [2.0f64; 25];
+    distances[7] = 1.0;
+    distances[8] = 1.0;
+    distances[10] = 1.0;
+    distances[11] = 1.0;
+    distances[19] = 1.0;
+    let mut sets = [99usize; 4];
+    show_nearby(5, &distances, 3, 2, &mut sets);
+    show_every(5, &distances, 3, 2, &mut sets);
+}
+
+// All distances alike: one set of four fits, and none.
+fn show_more() {
+    let distances = [2.0f64; 25];
+    let mut one = [99usize; 3];
+    show_every(5, &distances, 3, 4, &mut one);
+    let mut none = [99usize; 2];
+    show_every(5, &distances, 3, 4, &mut none);
 }
 
 // The nearby cases of document 01, five positions and three cuts, and others on the same tables: d is the distance from 1 to 3, and so many places are lent.
@@ -100,6 +136,8 @@ fn show_listings() {
     show_five(2.0, 4, 2);
     show_five(2.0, 1, 3);
     show_five(0.0 / 0.0, 4, 3);
+    show_missed();
+    show_more();
 }
 
 // A search for the first move: its number, and the result.

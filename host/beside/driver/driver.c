@@ -3,7 +3,7 @@
  * tools/bench compiles this once for each archive, with the header that came with it. POLISH_ROUTE, PAIR_LOOP, RUN_LIST_K_OPT and NEARBY_CUTS are the
  * names of the function's parameters as that header has them, so that each archive is called in its own way. A parameter is handed the variable of
  * its name below: where the compiler misses one, a function has a new parameter, and it is given a variable here that leaves its meaning
- * as it was. PAIR_LOOP is missing where the archive has no such function: its run took the loop for k = 2. */
+ * as it was. PAIR_LOOP is missing where the archive has no such function: its run took the loop for k = 2. EVERY_NEARBY_CUTS may be missing too. */
 #include <inttypes.h>
 #include <stdio.h>
 #include <stdlib.h>
@@ -202,6 +202,16 @@ static uint64_t nearby(uint64_t *time) {
     return result[0];
 }
 
+#ifdef EVERY_NEARBY_CUTS
+static uint64_t every(uint64_t *time) {
+    uint64_t start = now();
+    uint32_t refused = mittenschist_every_nearby_cuts(EVERY_NEARBY_CUTS);
+    *time += now() - start;
+    taken(refused);
+    return result[0];
+}
+#endif
+
 static uint64_t mixed(uint64_t sum, uint64_t value) {
     return (sum ^ value) * 1099511628211u;
 }
@@ -244,6 +254,9 @@ int main(void) {
         else if (!strcmp(word, "pairs")) read_pairs(), call = pairs;
         else if (!strcmp(word, "run")) read_run(), call = run, places = 4 * lengths_len;
         else if (!strcmp(word, "nearby")) read_nearby(), call = nearby, places = 2;
+#ifdef EVERY_NEARBY_CUTS
+        else if (!strcmp(word, "every")) read_nearby(), call = every, places = 2;
+#endif
         else fail("an unknown word");
     }
     return 0;

@@ -1,7 +1,9 @@
 //! The oracle itself, on the runs of document 01 whose numbers it gives, and on the text case with a time spent at a stop and with late stops.
 
 use crate::cases::ends;
+use crate::cases::nearby::Case as Listing;
 use crate::cases::polish::Case;
+use crate::every::{missed_case, Every};
 use crate::nearby::document_case as nearby_case;
 use crate::pairs::document::document_case as pair_case;
 use crate::polish::bounds::{late_text_case, served_text_case, text_case};
@@ -46,11 +48,16 @@ pub fn fault() -> Option<String> {
             oracle::run::run(&pair_case_by_run(1, u64::MAX), u64::MAX)
                 == (vec![2, 1, 3, 4], vec![4, 12, 1, 1]),
         ),
-        ("nearby, one nearer", nearby(true) == [1, 3, 4, 2, 3, 4]),
+        (
+            "nearby, one nearer",
+            nearby(&nearby_case(true)) == [1, 3, 4, 2, 3, 4],
+        ),
         (
             "nearby, all alike",
-            nearby(false) == [1, 2, 3, 1, 2, 4, 1, 3, 4, 2, 3, 4],
+            nearby(&nearby_case(false)) == [1, 2, 3, 1, 2, 4, 1, 3, 4, 2, 3, 4],
         ),
+        ("nearby, a set missed", nearby(&missed_case()).is_empty()),
+        ("every nearby set", every_nearby() == [1, 0, 1, 3, 4]),
         (
             "pattern 7 of k = 4",
             oracle::moves::reconnection_at(4, 7) == [0, 1, 3, 2, 4, 0],
@@ -85,8 +92,14 @@ fn pair_loop() -> bool {
     stops == [2, 1, 3, 4] && numbers == [4, 18, 3, 3]
 }
 
-fn nearby(special: bool) -> Vec<usize> {
-    let (sets, more) = oracle::nearby::listed(&nearby_case(special), 100);
+fn nearby(case: &Listing) -> Vec<usize> {
+    let (sets, more) = oracle::nearby::listed(case, 100);
     assert!(!more);
     sets
+}
+
+/// Both numbers, and the first set.
+fn every_nearby() -> Vec<u64> {
+    let Reply { lent, .. } = Every(missed_case()).expected();
+    [&lent[1].1[..], &lent[0].1[..3]].concat()
 }

@@ -102,13 +102,22 @@ pub fn run(case: &run::Case) -> String {
 }
 
 pub fn nearby(case: &nearby::Case) -> String {
+    format!("nearby {}", listing(case))
+}
+
+/// The same case, asked for every nearby cut set.
+pub fn every(case: &nearby::Case) -> String {
+    format!("every {}", listing(case))
+}
+
+fn listing(case: &nearby::Case) -> String {
     let bits: Vec<u64> = case
         .distances
         .iter()
         .map(|distance| distance.to_bits())
         .collect();
     format!(
-        "nearby {}\n{}{} {} {} {}\n",
+        "{}\n{}{} {} {} {}\n",
         case.n,
         counted(&bits),
         case.k,

@@ -25,6 +25,7 @@ mod damage;
 pub mod draw;
 pub mod driver;
 pub mod ends;
+pub mod every;
 pub mod first_move;
 pub use mittenschist::raw as ffi;
 pub mod lent;

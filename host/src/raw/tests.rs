@@ -243,26 +243,28 @@ fn no_moves() {
 
 #[test]
 fn list_no_positions() {
-    let (mut sets, mut result) = ([9; 2], [9; 2]);
-    // SAFETY: as said above.
-    let returned = unsafe {
-        [
-            mittenschist_nearby_cuts(
-                0,
-                null(),
-                0,
-                2,
-                1,
-                4,
-                sets.as_mut_ptr(),
-                2,
-                result.as_mut_ptr(),
-                2,
-            ),
-            mittenschist_nearby_cuts(0, null(), 0, 2, 1, 4, null_mut(), 0, null_mut(), 0),
-        ]
-    };
-    assert_eq!((returned, sets, result), ([0, 21], [9, 9], [0, 0]));
+    for listing in [mittenschist_nearby_cuts, mittenschist_every_nearby_cuts] {
+        let (mut sets, mut result) = ([9; 2], [9; 2]);
+        // SAFETY: as said above.
+        let returned = unsafe {
+            [
+                listing(
+                    0,
+                    null(),
+                    0,
+                    2,
+                    1,
+                    4,
+                    sets.as_mut_ptr(),
+                    2,
+                    result.as_mut_ptr(),
+                    2,
+                ),
+                listing(0, null(), 0, 2, 1, 4, null_mut(), 0, null_mut(), 0),
+            ]
+        };
+        assert_eq!((returned, sets, result), ([0, 21], [9, 9], [0, 0]));
+    }
 }
 
 #[test]

@@ -2,10 +2,19 @@ use crate::pools;
 use crate::support::lent::{filled, filled_usize, Lent};
 use crate::support::rules::{bad_k, first_refusal, too_many_stops, LONGEST_PIECE, MOST_NEIGHBOURS};
 use crate::support::{kept, kept_beyond, number, on_small_stack, written};
-use mittenschist::raw;
+use mittenschist::{raw, Listing, Refusal};
 
 const SHORTEST: [usize; 5] = [0, 1, 512, 513, usize::MAX];
 const NEIGHBOURS: [usize; 5] = [0, 4, 32, 33, usize::MAX];
+
+type Raw = fn(usize, &[f64], usize, usize, usize, &mut [usize], &mut [u64]) -> u32;
+type Safe = fn(usize, &[f64], usize, usize, usize, &mut [usize]) -> Result<Listing, Refusal>;
+
+/// Both listings: they take, write and refuse the same.
+const CALLS: [(Raw, Safe); 2] = [
+    (raw::nearby_cuts, mittenschist::nearby_cuts),
+    (raw::every_nearby_cuts, mittenschist::every_nearby_cuts),
+];
 
 struct Case<'c> {
     n: usize,
@@ -34,12 +43,12 @@ impl Case<'_> {
             || self.distances.iter().any(|distance| distance.is_nan())
     }
 
-    fn check(&self) {
+    fn check(&self, call: Raw) {
         let (no_sets, before) = (filled_usize(self.sets_room), filled(self.room));
         let mut distances = Lent::new("distances", self.distances);
         let mut sets = Lent::new("sets", &no_sets);
         let mut result = Lent::new("result", &before);
-        let returned = raw::nearby_cuts(
+        let returned = call(
             self.n,
             distances.slice(),
             self.k,
@@ -59,10 +68,10 @@ impl Case<'_> {
         kept_beyond(&sets, &no_sets, count * self.k);
     }
 
-    fn check_safe(&self) {
+    fn check_safe(&self, call: Safe) {
         let no_sets = filled_usize(self.sets_room);
         let mut sets = Lent::new("sets", &no_sets);
-        let answer = mittenschist::nearby_cuts(
+        let answer = call(
             self.n,
             self.distances,
             self.k,
@@ -87,6 +96,7 @@ fn tables() -> Vec<Vec<f64>> {
         vec![2.0; 24],
         vec![2.0; 25],
         vec![2.0; 26],
+        vec![2.0; 144],
         endless.repeat(5),
         holed,
     ]
@@ -105,8 +115,10 @@ fn every_limit(n: usize, distances: &[f64], k: usize) {
                     sets_room,
                     room,
                 };
-                case.check();
-                case.check_safe();
+                for (raw, safe) in CALLS {
+                    case.check(raw);
+                    case.check_safe(safe);
+                }
             }
         }
     }
@@ -115,7 +127,7 @@ fn every_limit(n: usize, distances: &[f64], k: usize) {
 fn every_call() {
     for k in pools::CUT_COUNTS {
         for distances in &tables() {
-            for n in [0, 1, 5, 512, 513, 1 << 32, usize::MAX] {
+            for n in [0, 1, 5, 12, 512, 513, 1 << 32, usize::MAX] {
                 every_limit(n, distances, k);
             }
         }

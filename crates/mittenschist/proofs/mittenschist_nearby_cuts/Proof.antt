@@ -1,5 +1,6 @@
 -- `mittenschist::mittenschist_nearby_cuts` meets its contract. Assumes nothing.
-use Rattle.mittenschist.proofs.NearbyReply.{call-refused, call-fine, call-listed}
+use Rattle.nearby.specs.Walk.{nearby-sets}
+use Rattle.mittenschist.proofs.ListingReply.{call-refused, call-fine, call-listed}
 use borrow.Author.Needs.{needs}
 use Rattle.mittenschist.proofs.mittenschist_nearby_cuts.Statement.{statement}
 use Rattle.mittenschist.proofs.mittenschist_nearby_cuts.Tie as tie
@@ -32,7 +33,7 @@ returns-2 : tie.Need-returns-2
 returns-2 c =
     let r = c .before .before .before .before .before .before .before .before .before .nearby-refusal-with-room in
     let s = c .before .before .before .before .before .before .before .before .before .before .before .before .before in
-    call-listed (s .args .n) (s .args .distances .now) (s .args .k) (s .args .min-segment-len) (s .args .max-nearby) (s .args .sets .now) (s .args .result .now) (r .result) (r .ensures) (c .before .before .before .before .before .before .before .before .if1 .left) _ _ (c .before .before .before .before .before .before .nearby-cuts .ensures) _ _ (c .before .before .put-listing .ensures)
+    call-listed (s .args .n) (s .args .distances .now) (s .args .k) (s .args .min-segment-len) (s .args .max-nearby) (s .args .sets .now) (s .args .result .now) (r .result) (r .ensures) (c .before .before .before .before .before .before .before .before .if1 .left) {all = nearby-sets (s .args .distances .now) (s .args .n) (s .args .k) (s .args .min-segment-len) (s .args .max-nearby)} _ _ (c .before .before .before .before .before .before .nearby-cuts .ensures) _ _ (c .before .before .put-listing .ensures)
 
 pub mittenschist-nearby-cuts-spec : {M : Type 1} → statement M
 mittenschist-nearby-cuts-spec =

@@ -1,5 +1,6 @@
 -- `mittenschist::nearby_cuts` meets its contract. Assumes nothing.
-use Rattle.mittenschist.proofs.NearbyReply.{listing-refused, listing-fine, listed}
+use Rattle.nearby.specs.Walk.{nearby-sets}
+use Rattle.mittenschist.proofs.ListingReply.{listing-refused, listing-fine, listed}
 use borrow.Author.Needs.{needs}
 use Rattle.mittenschist.proofs.nearby_cuts.Statement.{statement}
 use Rattle.mittenschist.proofs.nearby_cuts.Tie as tie
@@ -26,7 +27,7 @@ returns-2 : tie.Need-returns-2
 returns-2 c =
     let r = c .before .before .before .before .before .nearby-refusal in
     let s = c .before .before .before .before .before .before .before .before in
-    listed (s .args .n) (s .args .distances .now) (s .args .k) (s .args .min-segment-len) (s .args .max-nearby) (s .args .sets .now) (r .result) (r .ensures) (c .before .before .before .before .if1 .left) _ _ (c .before .before .nearby-cuts .ensures)
+    listed (s .args .n) (s .args .distances .now) (s .args .k) (s .args .min-segment-len) (s .args .max-nearby) (s .args .sets .now) (r .result) (r .ensures) (c .before .before .before .before .if1 .left) {all = nearby-sets (s .args .distances .now) (s .args .n) (s .args .k) (s .args .min-segment-len) (s .args .max-nearby)} _ _ (c .before .before .nearby-cuts .ensures)
 
 pub nearby-cuts-spec : {M : Type 1} → statement M
 nearby-cuts-spec =

@@ -1,5 +1,6 @@
 //! bench NEW.. [--old OLD..]: times the library and the Rust on the same inputs, in turn, and prints a Markdown table for polishing, one for the pair
-//! loop, one for the run and one for the nearby listing: nanoseconds a candidate or a set. NEW and OLD are drivers (driver/driver.c) of an archive, which lies
+//! loop, one for the run and one for the nearby listing: nanoseconds a candidate or a set; and one of every nearby cut set beside that listing, both the
+//! library's. NEW and OLD are drivers (driver/driver.c) of an archive, which lies
 //! in each of them at another place; with OLD the older archive is timed in the same turns.
 //! A call that ends sooner is repeated until some two million candidates have been examined, so short routes include what a
 //! call costs besides its candidates. The best of many turns counts, since other work may share the machine.
@@ -9,6 +10,7 @@
 use beside::cases::polish::Case;
 use beside::draw::plane;
 use beside::driver::{self, Driver};
+use beside::every::{bounds, Every};
 use beside::means::Means;
 use beside::polish::measured::{self, CANDIDATES};
 use beside::random::Random;
@@ -24,6 +26,7 @@ use std::time::{Duration, Instant};
 /// nothing better as there are places for an archive, more of them where the two are apart; but not beyond the longest.
 const ROUNDS: usize = 5;
 const TURNS: usize = 6;
+const SHORT_TURNS: usize = 20;
 const IDLE_ROUNDS: usize = 4;
 const IDLE_ROUNDS_APART: usize = 16;
 const CLEARLY: f64 = 0.995;
@@ -122,6 +125,7 @@ impl Bench {
         self.pair_loops()?;
         self.runs()?;
         self.listings()?;
+        self.every_listings()?;
         println!("\n{}", self.means);
         if !self.apart.is_empty() {
             println!("\nOLD AND NEW REPLY OTHERWISE: {}", self.apart.join("; "));
@@ -225,6 +229,50 @@ impl Bench {
         Ok(())
     }
 
+    /// Every nearby cut set beside the listing above, both the library's: where there are many sets, and where there is none.
+    fn every_listings(&mut self) -> Result<(), String> {
+        println!("\nEvery nearby cut set, 512 positions, 5 cuts, 32 neighbours\n");
+        println!("| sets a call | nearby ns a set | every ns a set | every / nearby |\n|---|---|---|---|");
+        let mut longest = 0.0;
+        for sets in LISTED {
+            let case = nearby::widest(&mut Random::new(1958), sets);
+            let ([near, every], count) = (self.both(&case)?, sets as f64);
+            let (near_set, every_set, ratio) = (near / count, every / count, every / near);
+            println!("| {sets} | {near_set:.2} | {every_set:.2} | {ratio:.3} |");
+            longest = near;
+        }
+        let most = LISTED[LISTED.len() - 1];
+        println!("\nNo set; beside nearby's call for {most} sets, near by position\n");
+        println!(
+            "| table | nearby us a call | every us a call | of that call |\n|---|---|---|---|"
+        );
+        for (name, table) in bounds::DEAD_ENDS {
+            let case = bounds::of_most(table(&mut Random::new(1958)), most);
+            let [near, every] = self.both(&case)?;
+            let (near, every, ratio) = (near / 1000.0, every / 1000.0, every / longest);
+            println!("| {name} | {near:.0} | {every:.0} | {ratio:.3} |");
+        }
+        Ok(())
+    }
+
+    /// Nanoseconds a call of both listings, the best of many turns. Both write as many sets.
+    fn both(&mut self, case: &cases::nearby::Case) -> Result<[f64; 2], String> {
+        let sets = same(case)?.number(1, 0);
+        if same(&Every(case.clone()))?.number(1, 0) != sets {
+            return Err(String::from("the listings write different numbers of sets"));
+        }
+        let asked = [driver::nearby(case), driver::every(case)];
+        let mut best = [f64::INFINITY; 2];
+        for round in 0..ROUNDS * self.new.len() {
+            let place = round % self.new.len();
+            for (question, best) in asked.iter().zip(&mut best) {
+                *best = best.min(shortest(&mut self.new[place], question)?);
+            }
+        }
+        // A driver counts a call that lists nothing as one set.
+        Ok(best.map(|time| time * sets.max(1) as f64))
+    }
+
     /// The best times of a case, its sides taken in turn: until none has become better for a while.
     fn timed(
         &mut self,
@@ -262,6 +310,16 @@ impl Bench {
             apart,
         })
     }
+}
+
+/// The best of a few short turns of a case.
+fn shortest(driver: &mut Driver, case: &str) -> Result<f64, String> {
+    driver.load(case)?;
+    let mut best = f64::INFINITY;
+    for _ in 0..SHORT_TURNS {
+        best = best.min(driver.turn(1)?.nanoseconds);
+    }
+    Ok(best)
 }
 
 /// An archive that is timed on a case.

@@ -6,7 +6,7 @@ mod damage;
 mod deltas;
 pub mod generate;
 mod lengths;
-mod plain;
+pub mod plain;
 mod replies;
 mod runs;
 mod short;

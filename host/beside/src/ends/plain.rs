@@ -60,7 +60,7 @@ fn rejoined(route: &[u32], cuts: &[usize], pattern: &Pattern) -> Vec<u32> {
 }
 
 /// k cuts from `from` to n that rise, in dictionary order.
-fn cut_sets(k: usize, from: usize, n: usize) -> Vec<Vec<usize>> {
+pub fn cut_sets(k: usize, from: usize, n: usize) -> Vec<Vec<usize>> {
     if k == 0 {
         return vec![Vec::new()];
     }

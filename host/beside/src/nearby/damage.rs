@@ -9,7 +9,7 @@ use crate::rules::{LONGEST_PIECE, MOST_NEIGHBOURS, MOST_STOPS};
 use crate::trial::{damaged, Drawn};
 
 /// The refusal numbers of the listing, the last of the stated order first.
-const NUMBERS: [u32; 4] = [21, 9, 5, 1];
+pub const NUMBERS: [u32; 4] = [21, 9, 5, 1];
 
 pub const SETS: u64 = 1 << NUMBERS.len();
 
@@ -20,7 +20,7 @@ pub fn draw(random: &mut Random, index: u64) -> Drawn {
     })
 }
 
-fn damage(random: &mut Random, case: &mut Case, number: u32) {
+pub fn damage(random: &mut Random, case: &mut Case, number: u32) {
     match number {
         1 => case.k = damage::wrong_k(random),
         5 => too_long(random, case),

@@ -38,8 +38,12 @@ pub fn random_case(random: &mut Random) -> Case {
     }
 }
 
-/// Walks of thousands of sets, often whole ones, so that each position is reached from many others and at every level.
 pub fn draw_long(random: &mut Random, _index: u64) -> Drawn {
+    (Box::new(long_case(random)), None)
+}
+
+/// Walks of thousands of sets, often whole ones, so that each position is reached from many others and at every level.
+pub fn long_case(random: &mut Random) -> Case {
     let k = random.within(2, 5);
     let min_segment_len = random.pick([1, 1, 2, 3]);
     let least = (k + 1) * min_segment_len;
@@ -51,7 +55,7 @@ pub fn draw_long(random: &mut Random, _index: u64) -> Drawn {
         };
     let max_nearby = random.pick([3, 6, 12, 20, 31, 32]);
     let sets = random.pick([500, 2000, 6000]);
-    let case = Case {
+    Case {
         n,
         distances: table(random, n),
         k,
@@ -59,8 +63,7 @@ pub fn draw_long(random: &mut Random, _index: u64) -> Drawn {
         max_nearby,
         sets_room: sets * k + random.index(k),
         room: 2,
-    };
-    (Box::new(case), None)
+    }
 }
 
 fn shortest_piece(random: &mut Random) -> usize {

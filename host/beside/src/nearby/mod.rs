@@ -1,8 +1,8 @@
 //! Nearby cuts: `mittenschist_nearby_cuts` beside `NearbyCutState` of nearby_state.rs in canonical order.
 
-mod bounds;
-mod damage;
-mod generate;
+pub mod bounds;
+pub mod damage;
+pub mod generate;
 mod replies;
 mod short;
 

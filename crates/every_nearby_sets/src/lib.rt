@@ -1,0 +1,1 @@
+// Every nearby cut set: definitions and laws only, in specs/ and proofs/.
