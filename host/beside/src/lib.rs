@@ -29,6 +29,7 @@ pub mod every;
 pub mod first_move;
 pub use mittenschist::raw as ffi;
 pub mod lent;
+pub mod lists;
 pub mod means;
 pub mod moves;
 pub mod nearby;

@@ -14,3 +14,4 @@ mod pools;
 mod run;
 #[path = "../support/mod.rs"]
 mod support;
+mod texts;

@@ -3,11 +3,18 @@
 use super::plain;
 use crate::cases::ends::Case;
 use crate::lent::{bits, filled, Lent};
+use crate::oracle::polish::Counts;
 use crate::trial::{put, Reply, Trial, NO_ANSWER};
 use crate::{ffi, oracle};
 
 /// Calls that are answered by the plain scan too: up to so many stops.
 const SHORT: usize = 6;
+
+impl Case {
+    fn by_the_documents(&self) -> (Counts, Vec<u32>) {
+        plain::polish(self, &plain::all_patterns(self.closed.k))
+    }
+}
 
 impl Trial for Case {
     fn expected(&self) -> Reply {
@@ -17,7 +24,7 @@ impl Trial for Case {
         let mut route = case.route.clone();
         if code == 0 {
             let counts = oracle::polish::polish(&self.as_closed(), case.allowance, &mut route);
-            if route.len() <= SHORT && plain::polish(self) != (counts, route.clone()) {
+            if route.len() <= SHORT && self.by_the_documents() != (counts, route.clone()) {
                 code = NO_ANSWER;
             }
             let numbers = [

@@ -12,7 +12,7 @@ use Rattle.theory.specs.Answers.{reply-of, counts-of, polish-values, six-number
 use Rattle.theory.specs.declared.Polished.{Polished}
 use Rattle.theory.specs.declared.Polished.the-variants.{Finished, Spent}
 use Rattle.theory.proofs.Taken.{refused-kept, taken-done}
-use Rattle.mittenschist.specs.Promises.{Replied}
+use Rattle.polish_numbers.specs.Replied.{Replied}
 
 -- The numbers of an answer are those of its reply, and the reply can be read off them again.
 values-are : (P : Problem) (route route′ : List ℕ) (answer : Polished) → counts-of answer .before ≡ tour-length P route → counts-of answer .after ≡ tour-length P route′ →
