@@ -33,6 +33,7 @@ pub mod lists;
 pub mod means;
 pub mod moves;
 pub mod nearby;
+mod one_route;
 pub mod oracle;
 pub mod pairs;
 pub mod parts;

@@ -7,6 +7,7 @@
 mod first_move;
 mod moves;
 mod nearby;
+mod one_route;
 mod pairs;
 mod parts;
 mod polish;

@@ -6,7 +6,7 @@ use lib.Dec.{ltb}
 use lib.ListN.{length, drop}
 use borrow.Author.Tests.{lt-ltb, le-ltb}
 use Rattle.theory.specs.Refusals.{any}
-use Rattle.refusals.proofs.Tests.{any-more, any-here, any-none}
+use Rattle.refusal_tests.proofs.Tests.{any-more, any-here, any-none}
 use borrow.Author.Needs.{needs}
 use Rattle.pattern_lists.proofs.any_above.Statement.{statement}
 use Rattle.pattern_lists.proofs.any_above.Tie as tie

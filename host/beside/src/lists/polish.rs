@@ -4,11 +4,11 @@ use super::rows::Rows;
 use crate::cases::ends;
 use crate::cases::polish::RESULT_PLACES;
 use crate::ends::plain;
-use crate::lent::{bits, filled, Lent};
+use crate::lent::Lent;
 use crate::oracle::polish::Counts;
 use crate::rules::{bad_k, first_refusal, too_many_stops};
-use crate::trial::{put, Reply, Trial};
-use crate::{ffi, oracle};
+use crate::trial::{Reply, Trial};
+use crate::{ffi, one_route, oracle};
 use std::fmt::{Display, Formatter, Result as Written};
 
 pub struct Case {
@@ -59,56 +59,33 @@ impl Case {
 
 impl Trial for Case {
     fn expected(&self) -> Reply {
-        let code = self.refusal();
-        let case = &self.ended.closed;
-        let mut result = filled(case.room);
-        let mut route = case.route.clone();
-        if code == 0 {
-            let (counts, polished) = self.polished();
-            let numbers = [
-                u64::from(counts.spent),
-                counts.examined,
-                counts.accepted,
-                self.ended.length(&route),
-                self.ended.length(&polished),
-                case.tables.late_position(case.depot, &polished),
-            ];
-            put(&mut result, &numbers);
-            route = polished;
-        }
-        Reply::new(code, [("route", bits(&route)), ("result", result)])
+        let (case, end) = (&self.ended.closed, self.ended.end);
+        one_route::expected(case, end, self.refusal(), || Ok(self.polished()))
     }
 
     fn given(&self) -> Result<Reply, String> {
-        let case = &self.ended.closed;
-        let room = filled(case.room);
+        let (case, end) = (&self.ended.closed, self.ended.end);
         let mut orders = Lent::new("orders", &self.rows.orders);
         let mut masks = Lent::new("masks", &self.rows.masks);
-        let mut legs = Lent::new("legs", &case.tables.legs);
-        let mut latest = Lent::new("deadlines", &case.tables.latest);
-        let mut service = Lent::new("service", &case.tables.service);
-        let mut route = Lent::new("route", &case.route);
-        let mut result = Lent::new("result", &room);
-        let code = ffi::polish_with_patterns(
-            case.k,
-            orders.slice(),
-            masks.slice(),
-            case.allowance,
-            case.tables.locations,
-            legs.slice(),
-            latest.slice(),
-            service.slice(),
-            case.depot,
-            self.ended.end,
-            route.slice(),
-            result.slice(),
-        );
+        let reply = one_route::given(case, |lent| {
+            ffi::polish_with_patterns(
+                case.k,
+                orders.slice(),
+                masks.slice(),
+                case.allowance,
+                case.tables.locations,
+                lent.legs,
+                lent.latest,
+                lent.service,
+                case.depot,
+                end,
+                lent.route,
+                lent.result,
+            )
+        });
         orders.kept()?;
         masks.kept()?;
-        legs.kept()?;
-        latest.kept()?;
-        service.kept()?;
-        Ok(Reply::new(code, [route.written()?, result.written()?]))
+        reply
     }
 
     fn kind(&self, expected: &Reply) -> &'static str {

@@ -1,14 +1,14 @@
--- `refusals::strictly_rising` meets its contract. The invariant: the test of the whole is that of the rest from the place before i on. Assumes nothing.
+-- `refusal_tests::strictly_rising` meets its contract. The invariant: the test of the whole is that of the rest from the place before i on. Assumes nothing.
 use Prim.Native.Nat.{_<_, _-_}
 use mathlib.Core.Path.{_≡_, refl}
 use lib.ListN.{length, drop}
 use borrow.Author.Tests.{lt-ltb, le-ltb}
 use Rattle.theory.specs.Refusals.{rises}
-use Rattle.refusals.proofs.Tests.{rises-more, rises-not, rises-end}
+use Rattle.refusal_tests.proofs.Tests.{rises-more, rises-not, rises-end}
 use native.Mathlib.Omega.{arith}
 use borrow.Author.Needs.{needs}
-use Rattle.refusals.proofs.strictly_rising.Statement.{statement}
-use Rattle.refusals.proofs.strictly_rising.Tie as tie
+use Rattle.refusal_tests.proofs.strictly_rising.Statement.{statement}
+use Rattle.refusal_tests.proofs.strictly_rising.Tie as tie
 
 abbrev Inv-loop : tie.InvT-loop
 Inv-loop cuts i₀ i = (0 < i) × (rises cuts ≡ rises (drop (i - 1) cuts))

@@ -1,14 +1,14 @@
--- `refusals::any_no_number` meets its contract. The invariant: the test of the whole is that of the rest. Assumes nothing.
+-- `refusal_tests::any_no_number` meets its contract. The invariant: the test of the whole is that of the rest. Assumes nothing.
 use Prim.Native.Nat.{_≤_, _-_}
 use mathlib.Core.Path.{_≡_, refl}
 use lib.Ieee.{nan}
 use lib.ListN.{length, drop}
 use Rattle.theory.specs.Refusals.{any, no-number}
-use Rattle.refusals.proofs.Tests.{any-more, any-here, any-none, differs, equals}
+use Rattle.refusal_tests.proofs.Tests.{any-more, any-here, any-none, differs, equals}
 use native.Mathlib.Omega.{arith}
 use borrow.Author.Needs.{needs}
-use Rattle.refusals.proofs.any_no_number.Statement.{statement}
-use Rattle.refusals.proofs.any_no_number.Tie as tie
+use Rattle.refusal_tests.proofs.any_no_number.Statement.{statement}
+use Rattle.refusal_tests.proofs.any_no_number.Tie as tie
 
 abbrev Inv-loop : tie.InvT-loop
 Inv-loop distances i₀ i = (i ≤ length distances) × (any no-number distances ≡ any no-number (drop i distances))

@@ -1,4 +1,4 @@
--- `refusals::any_other` meets its contract. The invariant: the test of the whole is that of the rest. Assumes nothing.
+-- `refusal_tests::any_other` meets its contract. The invariant: the test of the whole is that of the rest. Assumes nothing.
 use Prim.Native.Nat.{_≤_, _-_}
 use mathlib.Core.Path.{_≡_, refl, ap}
 use mathlib.Core.Bool.{not}
@@ -6,11 +6,11 @@ use lib.Dec.{eqb}
 use lib.ListN.{length, drop}
 use borrow.Author.Tests.{ne-eqb, eq-eqb}
 use Rattle.theory.specs.Refusals.{any}
-use Rattle.refusals.proofs.Tests.{any-more, any-here, any-none}
+use Rattle.refusal_tests.proofs.Tests.{any-more, any-here, any-none}
 use native.Mathlib.Omega.{arith}
 use borrow.Author.Needs.{needs}
-use Rattle.refusals.proofs.any_other.Statement.{statement}
-use Rattle.refusals.proofs.any_other.Tie as tie
+use Rattle.refusal_tests.proofs.any_other.Statement.{statement}
+use Rattle.refusal_tests.proofs.any_other.Tie as tie
 
 abbrev Inv-loop : tie.InvT-loop
 Inv-loop rounds round i₀ i = (i ≤ length rounds) × (any (λ x. not (eqb x round)) rounds ≡ any (λ x. not (eqb x round)) (drop i rounds))

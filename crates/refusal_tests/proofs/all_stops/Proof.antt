@@ -1,15 +1,15 @@
--- `refusals::all_stops` meets its contract. The invariant: the sum so far and the rest are the sum of all. Assumes nothing.
+-- `refusal_tests::all_stops` meets its contract. The invariant: the sum so far and the rest are the sum of all. Assumes nothing.
 use mathlib.Core.Path.{_≡_, refl}
 use Prim.Native.Nat.{_+_, _*_, _-_, _≤_}
 use lib.ListN.{length, drop}
 use Rattle.theory.specs.Moves.{total}
-use Rattle.refusals.proofs.Tests.{total-more, total-end}
+use Rattle.refusal_tests.proofs.Tests.{total-more, total-end}
 use native.Mathlib.Omega.{arith}
 use borrow.Author.Needs.{needs}
-use Rattle.refusals.proofs.all_stops.Statement.{statement}
-use Rattle.refusals.proofs.all_stops.Tie as tie
-use Rattle.refusals.proofs.all_stops.Reads as reads
-use Rattle.refusals.proofs.all_stops.Lts as lts
+use Rattle.refusal_tests.proofs.all_stops.Statement.{statement}
+use Rattle.refusal_tests.proofs.all_stops.Tie as tie
+use Rattle.refusal_tests.proofs.all_stops.Reads as reads
+use Rattle.refusal_tests.proofs.all_stops.Lts as lts
 
 abbrev Inv-loop : tie.InvT-loop
 Inv-loop lengths sum₀ i₀ sum i = (i ≤ length lengths) × (sum ≤ 512 * i) × (sum + total (λ n. n) (drop i lengths) ≡ total (λ n. n) lengths)

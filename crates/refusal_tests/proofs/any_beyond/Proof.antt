@@ -1,15 +1,15 @@
--- `refusals::any_beyond` meets its contract. The invariant: the test of the whole is that of the rest. Assumes nothing.
+-- `refusal_tests::any_beyond` meets its contract. The invariant: the test of the whole is that of the rest. Assumes nothing.
 use Prim.Native.Nat.{_≤_, _-_}
 use mathlib.Core.Path.{_≡_, refl}
 use lib.Dec.{ltb}
 use lib.ListN.{length, drop}
 use borrow.Author.Tests.{lt-ltb, le-ltb}
 use Rattle.theory.specs.Refusals.{any}
-use Rattle.refusals.proofs.Tests.{any-more, any-here, any-none}
+use Rattle.refusal_tests.proofs.Tests.{any-more, any-here, any-none}
 use native.Mathlib.Omega.{arith}
 use borrow.Author.Needs.{needs}
-use Rattle.refusals.proofs.any_beyond.Statement.{statement}
-use Rattle.refusals.proofs.any_beyond.Tie as tie
+use Rattle.refusal_tests.proofs.any_beyond.Statement.{statement}
+use Rattle.refusal_tests.proofs.any_beyond.Tie as tie
 
 abbrev Inv-loop : tie.InvT-loop
 Inv-loop cuts n i₀ i = (i ≤ length cuts) × (any (λ x. ltb n x) cuts ≡ any (λ x. ltb n x) (drop i cuts))

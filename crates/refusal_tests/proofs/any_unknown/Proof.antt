@@ -1,15 +1,15 @@
--- `refusals::any_unknown` meets its contract. The invariant: the test of the whole is that of the rest. Assumes nothing.
+-- `refusal_tests::any_unknown` meets its contract. The invariant: the test of the whole is that of the rest. Assumes nothing.
 use Prim.Native.Nat.{_≤_, _-_}
 use mathlib.Core.Path.{_≡_, refl}
 use lib.Dec.{leb}
 use lib.ListN.{length, drop}
 use borrow.Author.Tests.{le-leb, lt-leb}
 use Rattle.theory.specs.Refusals.{any}
-use Rattle.refusals.proofs.Tests.{any-more, any-here, any-none}
+use Rattle.refusal_tests.proofs.Tests.{any-more, any-here, any-none}
 use native.Mathlib.Omega.{arith}
 use borrow.Author.Needs.{needs}
-use Rattle.refusals.proofs.any_unknown.Statement.{statement}
-use Rattle.refusals.proofs.any_unknown.Tie as tie
+use Rattle.refusal_tests.proofs.any_unknown.Statement.{statement}
+use Rattle.refusal_tests.proofs.any_unknown.Tie as tie
 
 abbrev Inv-loop : tie.InvT-loop
 Inv-loop stops locations i₀ i = (i ≤ length stops) × (any (λ x. leb locations x) stops ≡ any (λ x. leb locations x) (drop i stops))

@@ -15,7 +15,7 @@ use lib.Seq.{drop-cons}
 use Rattle.theory.specs.Moves.{total}
 use Rattle.theory.proofs.Judged.{none-at}
 use Rattle.theory.specs.Refusals.{any, rises, no-number}
-use Rattle.refusals.specs.Rounds.{ShortRounds}
+use Rattle.refusal_tests.specs.Rounds.{ShortRounds}
 
 any-drop : {A : Type 0} (z : A) (t : A → Bool) (l : List A) (i : ℕ) → i < length l → any t (drop i l) ≡ (t (getD l i z) || any t (drop (i + 1) l))
 unfolding any

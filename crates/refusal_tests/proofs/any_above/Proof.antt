@@ -1,15 +1,15 @@
--- `refusals::any_above` meets its contract. The invariant: an entry is above the limit where the greatest so far is, or one of the rest. Assumes nothing.
+-- `refusal_tests::any_above` meets its contract. The invariant: an entry is above the limit where the greatest so far is, or one of the rest. Assumes nothing.
 use Prim.Native.Nat.{_≤_, _-_}
 use mathlib.Core.Path.{_≡_}
 use mathlib.Core.Bool.{_||_}
 use lib.Dec.{ltb}
 use lib.ListN.{length, drop}
 use Rattle.theory.specs.Refusals.{any}
-use Rattle.refusals.proofs.Tests.{above-none, above-more, above-all}
+use Rattle.refusal_tests.proofs.Tests.{above-none, above-more, above-all}
 use native.Mathlib.Omega.{arith}
 use borrow.Author.Needs.{needs}
-use Rattle.refusals.proofs.any_above.Statement.{statement}
-use Rattle.refusals.proofs.any_above.Tie as tie
+use Rattle.refusal_tests.proofs.any_above.Statement.{statement}
+use Rattle.refusal_tests.proofs.any_above.Tie as tie
 
 abbrev Inv-loop : tie.InvT-loop
 Inv-loop entries limit most₀ i₀ most i = (i ≤ length entries) × (any (λ x. ltb limit x) entries ≡ (ltb limit most || any (λ x. ltb limit x) (drop i entries)))
