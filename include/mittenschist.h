@@ -25,7 +25,11 @@ extern "C" {
 
 /* Refusals, in the stated order: where several apply, the first of it is returned. With each function: those that it gives, in that order. */
 enum {
+    MITTENSCHIST_TEXT_FORM = 10,     /* a text that is not of the form, or longer than 60,000 bytes */
     MITTENSCHIST_CUT_COUNT = 1,      /* k outside 2 to 5 */
+    MITTENSCHIST_ROW_COUNT = 26,     /* patterns outside 1 to 383, not the announced number, or orders not k + 1 for each mask */
+    MITTENSCHIST_ROW_SHAPE = 27,     /* an order that is no permutation of 0 to k with 0 first and k last, or a mask with a bit outside 1 to k - 1 */
+    MITTENSCHIST_ROW_REPEATED = 28,  /* a pattern that changes nothing, or that stands earlier in the list */
     MITTENSCHIST_TABLE_SIZE = 2,     /* locations outside 1 to 1,024; legs not locations x locations; latest not as many as locations */
     MITTENSCHIST_LONG_LEG = 3,       /* a leg above 1,000,000 seconds */
     MITTENSCHIST_SERVICE_LIST = 23,  /* service not as many as locations, or an entry above 1,000,000 seconds */
@@ -131,6 +135,31 @@ uint32_t mittenschist_route_length_to_end(size_t locations, const uint32_t *legs
 uint32_t mittenschist_delta_to_end(size_t k, size_t pattern, const size_t *cuts, size_t cuts_len,
     size_t locations, const uint32_t *legs, size_t legs_len, uint32_t depot, uint32_t end,
     const uint32_t *route, size_t route_len, int64_t *result, size_t result_len);
+
+/* ---- Own lists of patterns ---- */
+
+/* Reads a list of patterns from a text: the lines `k=`, `patterns=` with the number of rows, and for each row a line `pattern=` with the digits of its
+ * order, a comma and its mask; each line ends with a line feed.
+ *   text    read     at most 60,000 bytes
+ *   orders  written  k + 1 bytes a row, end to end: segment numbers in their order. 2,298 bytes suffice for every list
+ *   masks   written  a byte a row, of which bit i reverses segment i. 383 bytes suffice
+ *   result  written  2 places: k, then the number of rows
+ * The whole list is judged before anything is written. Refuses 10, 1, 26, 27, 28, 21 (orders under (k + 1) bytes a row, masks under a byte a row, or
+ * result under 2 places). */
+uint32_t mittenschist_load_patterns(const uint8_t *text, size_t text_len, uint8_t *orders, size_t orders_len, uint8_t *masks, size_t masks_len,
+    uint64_t *result, size_t result_len);
+
+/* mittenschist_polish_route_to_end with a list of patterns in place of all of them: its rows are tried in their order on each cut set, and finished means that no
+ * choice of k cuts and no row of the list gives a shorter route that keeps every deadline. The list of all patterns by index gives
+ * the replies of mittenschist_polish_route_to_end.
+ *   orders  read     k + 1 bytes a row, end to end
+ *   masks   read     a byte for each row; 1 to 383 rows
+ *   all others       as for it; the list is judged anew in each call
+ * Refuses 1, 26, 27, 28, 2, 3, 23, 4, 24, 5, 21 (result under 6 places). */
+uint32_t mittenschist_polish_with_patterns(size_t k, const uint8_t *orders, size_t orders_len, const uint8_t *masks, size_t masks_len,
+    uint64_t allowance, size_t locations,
+    const uint32_t *legs, size_t legs_len, const uint32_t *latest, size_t latest_len, const uint32_t *service, size_t service_len,
+    uint32_t depot, uint32_t end, uint32_t *route, size_t route_len, uint64_t *result, size_t result_len);
 
 /* ---- The others ---- */
 

@@ -29,6 +29,7 @@ mod moves;
 mod nearby;
 mod pairs;
 mod parts;
+mod patterns;
 mod polish;
 #[allow(unsafe_code)]
 pub mod raw;
@@ -46,6 +47,7 @@ pub use parts::{
     delta, next_cut_set, reconnect, reconnection_at, route_feasible, route_length, Deadline,
     Reconnection,
 };
+pub use patterns::{polish_with_patterns, PatternList, Patterns};
 pub use polish::{polish_route, Ending, Polished};
 pub use refusal::Refusal;
 pub use run::{run_list_k_opt, RoundReply, RoundState, Rounds};

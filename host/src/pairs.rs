@@ -1,5 +1,4 @@
-use crate::unknown::late_position;
-use crate::{raw, Ending, Refusal, Tables};
+use crate::{raw, Ending, Polished, Refusal, Tables};
 
 /// What the pair loop did.
 #[derive(Clone, Copy, Debug, PartialEq, Eq)]
@@ -57,7 +56,7 @@ pub fn pair_loop(
     depot: u32,
     route: &mut [u32],
 ) -> Result<PairLooped, Refusal> {
-    let mut result = [u64::MAX; 6];
+    let mut result = Polished::UNWRITTEN;
     Refusal::check(raw::pair_loop(
         allowance,
         tables.locations,
@@ -68,13 +67,21 @@ pub fn pair_loop(
         route,
         &mut result,
     ))?;
-    let [ending, examined, accepted, before, after, late] = result;
-    Ok(PairLooped {
-        ending: Ending::of(ending),
+    // The same six numbers, with pairs for candidates.
+    let Polished {
+        ending,
         examined,
         accepted,
         before,
         after,
-        late: late_position(late, route.len()),
+        late,
+    } = Polished::of(result, route.len());
+    Ok(PairLooped {
+        ending,
+        examined,
+        accepted,
+        before,
+        after,
+        late,
     })
 }

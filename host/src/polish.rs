@@ -40,6 +40,22 @@ pub struct Polished {
 }
 
 impl Polished {
+    /// No number of stops: an archive that writes five numbers is told by it.
+    pub(crate) const UNWRITTEN: [u64; 6] = [u64::MAX; 6];
+
+    /// The six numbers of a route of so many stops.
+    pub(crate) fn of(result: [u64; 6], stops: usize) -> Self {
+        let [ending, examined, accepted, before, after, late] = result;
+        Self {
+            ending: Ending::of(ending),
+            examined,
+            accepted,
+            before,
+            after,
+            late: late_position(late, stops),
+        }
+    }
+
     /// Seconds saved.
     pub fn saved(&self) -> u64 {
         self.before.saturating_sub(self.after)
@@ -81,8 +97,7 @@ pub fn polish_route(
     route: &mut [u32],
 ) -> Result<Polished, Refusal> {
     let Harbours { depot, end } = harbours.into();
-    // No number of stops: an archive that writes five numbers is told by it.
-    let mut result = [u64::MAX; 6];
+    let mut result = Polished::UNWRITTEN;
     Refusal::check(raw::polish_route_to_end(
         k,
         allowance,
@@ -95,15 +110,7 @@ pub fn polish_route(
         route,
         &mut result,
     ))?;
-    let [ending, examined, accepted, before, after, late] = result;
-    Ok(Polished {
-        ending: Ending::of(ending),
-        examined,
-        accepted,
-        before,
-        after,
-        late: late_position(late, route.len()),
-    })
+    Ok(Polished::of(result, route.len()))
 }
 
 #[cfg(test)]

@@ -37,6 +37,37 @@ extern "C" {
         result: *mut u64,
         result_len: usize,
     ) -> u32;
+    fn mittenschist_load_patterns(
+        text: *const u8,
+        text_len: usize,
+        orders: *mut u8,
+        orders_len: usize,
+        masks: *mut u8,
+        masks_len: usize,
+        result: *mut u64,
+        result_len: usize,
+    ) -> u32;
+    fn mittenschist_polish_with_patterns(
+        k: usize,
+        orders: *const u8,
+        orders_len: usize,
+        masks: *const u8,
+        masks_len: usize,
+        allowance: u64,
+        locations: usize,
+        legs: *const u32,
+        legs_len: usize,
+        latest: *const u32,
+        latest_len: usize,
+        service: *const u32,
+        service_len: usize,
+        depot: u32,
+        end: u32,
+        route: *mut u32,
+        route_len: usize,
+        result: *mut u64,
+        result_len: usize,
+    ) -> u32;
     fn mittenschist_pair_loop(
         allowance: u64,
         locations: usize,
@@ -305,6 +336,67 @@ pub fn polish_route_to_end(
     unsafe {
         mittenschist_polish_route_to_end(
             k,
+            allowance,
+            locations,
+            legs.as_ptr(),
+            legs.len(),
+            latest.as_ptr(),
+            latest.len(),
+            service.as_ptr(),
+            service.len(),
+            depot,
+            end,
+            route.as_mut_ptr(),
+            route.len(),
+            result.as_mut_ptr(),
+            result.len(),
+        )
+    }
+}
+
+/// The orders and masks of the rows into the first places; the result begins with k and the number of rows.
+#[must_use]
+pub fn load_patterns(text: &[u8], orders: &mut [u8], masks: &mut [u8], result: &mut [u64]) -> u32 {
+    // SAFETY: as said above.
+    unsafe {
+        mittenschist_load_patterns(
+            text.as_ptr(),
+            text.len(),
+            orders.as_mut_ptr(),
+            orders.len(),
+            masks.as_mut_ptr(),
+            masks.len(),
+            result.as_mut_ptr(),
+            result.len(),
+        )
+    }
+}
+
+/// As [`polish_route_to_end`], with the rows of a list.
+#[allow(clippy::too_many_arguments)]
+#[must_use]
+pub fn polish_with_patterns(
+    k: usize,
+    orders: &[u8],
+    masks: &[u8],
+    allowance: u64,
+    locations: usize,
+    legs: &[u32],
+    latest: &[u32],
+    service: &[u32],
+    depot: u32,
+    end: u32,
+    route: &mut [u32],
+    result: &mut [u64],
+) -> u32 {
+    // SAFETY: as said above.
+    unsafe {
+        mittenschist_polish_with_patterns(
+            k,
+            orders.as_ptr(),
+            orders.len(),
+            masks.as_ptr(),
+            masks.len(),
             allowance,
             locations,
             legs.as_ptr(),

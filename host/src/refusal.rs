@@ -14,8 +14,16 @@ use std::fmt::{Display, Formatter, Result as Written};
 #[derive(Clone, Copy, Debug, PartialEq, Eq, Hash)]
 #[non_exhaustive]
 pub enum Refusal {
+    /// 10: a text that is not of the form, or longer than 60,000 bytes.
+    TextForm,
     /// 1: k outside 2 to 5.
     CutCount,
+    /// 26: patterns outside 1 to 383, not the announced number, or orders not k + 1 for each mask.
+    RowCount,
+    /// 27: an order that is no permutation of 0 to k with 0 first and k last, or a mask with a bit outside 1 to k − 1.
+    RowShape,
+    /// 28: a pattern that changes nothing, or that stands earlier in the list.
+    RowRepeated,
     /// 2: locations outside 1 to 1,024, or a table or deadlines of another size.
     TableSize,
     /// 3: a leg above 1,000,000 seconds.
@@ -50,7 +58,11 @@ impl Refusal {
     /// The number that the C function returns for it.
     pub fn number(self) -> u32 {
         match self {
+            Self::TextForm => 10,
             Self::CutCount => 1,
+            Self::RowCount => 26,
+            Self::RowShape => 27,
+            Self::RowRepeated => 28,
             Self::TableSize => 2,
             Self::LongLeg => 3,
             Self::ServiceList => 23,
@@ -70,7 +82,11 @@ impl Refusal {
 
     fn of(number: u32) -> Self {
         match number {
+            10 => Self::TextForm,
             1 => Self::CutCount,
+            26 => Self::RowCount,
+            27 => Self::RowShape,
+            28 => Self::RowRepeated,
             2 => Self::TableSize,
             3 => Self::LongLeg,
             23 => Self::ServiceList,
@@ -100,6 +116,14 @@ impl Refusal {
 impl Display for Refusal {
     fn fmt(&self, out: &mut Formatter<'_>) -> Written {
         let words = match self {
+            Self::TextForm => "the text is not of the form, or is longer than 60,000 bytes",
+            Self::RowCount => {
+                "the patterns are not from 1 to 383, not the announced number, or their orders do not fit their masks"
+            }
+            Self::RowShape => {
+                "an order is no permutation of 0 to k with 0 first and k last, or a mask has a bit outside 1 to k - 1"
+            }
+            Self::RowRepeated => "a pattern changes nothing or stands earlier in the list",
             Self::CutCount => "k is not from 2 to 5",
             Self::TableSize => {
                 "locations are not from 1 to 1,024, or a table or the deadlines do not fit them"

@@ -7,9 +7,9 @@ mod support;
 
 use mittenschist::{
     every_nearby_cuts, find_move, k_opt_do_move, k_opt_is_doable, k_opt_undo_move, nearby_cuts,
-    next_cut_set, pair_loop, polish_route, reconnection_at, route_feasible, route_length,
-    run_list_k_opt, Deadline, Ending, Harbours, Move, PairLooped, Polished, Refusal, RoundReply,
-    RoundState, Rounds, Tables,
+    next_cut_set, pair_loop, polish_route, polish_with_patterns, reconnection_at, route_feasible,
+    route_length, run_list_k_opt, Deadline, Ending, Harbours, Move, PairLooped, PatternList,
+    Patterns, Polished, Refusal, RoundReply, RoundState, Rounds, Tables,
 };
 use support::lent::Lent;
 use support::{kept, written};
@@ -482,4 +482,68 @@ fn first_moves() {
     assert_eq!(first(2, &long[..3], &long[..4]), Err(Refusal::MoveRounds));
     assert_eq!(first(2, &long, &long), Err(Refusal::RoundSize));
     assert_eq!(first(6, &long, &long), Err(Refusal::CutCount));
+}
+
+/// The cases of ruling B57.
+#[test]
+fn lists_of_patterns() {
+    let load =
+        |lines: &str| PatternList::load(lines.as_bytes()).map(|list| list.lent().masks.len());
+    let one = |row: &str| load(&format!("k=3\npatterns=1\npattern={row}\n"));
+    assert_eq!(one("0213,6"), Ok(1));
+    assert_eq!(one(",2"), Err(Refusal::RowShape));
+    assert_eq!(one("0213,8"), Err(Refusal::RowShape));
+    assert_eq!(one("0213,1"), Err(Refusal::RowShape));
+    assert_eq!(one("0123,0"), Err(Refusal::RowRepeated));
+    for row in ["0213", "0213,06", "0x13,2"] {
+        assert_eq!(one(row), Err(Refusal::TextForm));
+    }
+    assert_eq!(load("k=3\npatterns=0\n"), Err(Refusal::RowCount));
+    let two = |announced: &str, first: &str, second: &str| {
+        load(&format!(
+            "k=3\npatterns={announced}\npattern={first}\npattern={second}\n"
+        ))
+    };
+    assert_eq!(two("3", "0213,0", "0213,2"), Err(Refusal::RowCount));
+    assert_eq!(
+        two("4294967296", "0213,0", "0213,2"),
+        Err(Refusal::TextForm)
+    );
+    assert_eq!(two("2", "0213,0", "0213,0"), Err(Refusal::RowRepeated));
+    assert_eq!(two("1", "0213,0", ",2"), Err(Refusal::RowCount));
+    let three = "k=3\npatterns=3\npattern=0213,0\npattern=0213,0\npattern=03,0\n";
+    assert_eq!(load(three), Err(Refusal::RowShape));
+    assert_eq!(
+        load("k=9\npatterns=1\npattern=,2\n"),
+        Err(Refusal::CutCount)
+    );
+}
+
+/// The text case with all seven patterns, and without the one that exchanges the two stops and turns neither.
+#[test]
+fn the_text_case_with_own_patterns() {
+    let tables = Tables::without_service(3, &TEXT_LEGS, &[NO_DEADLINE; 3]);
+    let polish = |skipped: usize| {
+        let rows = (0..7).filter(|&index| index != skipped);
+        let rows: Vec<_> = rows
+            .map(|index| reconnection_at(3, index).unwrap())
+            .collect();
+        let orders = rows
+            .iter()
+            .flat_map(|row| row.order.iter().map(|&segment| segment as u8));
+        let (orders, masks): (Vec<u8>, Vec<u8>) = (
+            orders.collect(),
+            rows.iter().map(|row| row.mask as u8).collect(),
+        );
+        let patterns = Patterns {
+            k: 3,
+            orders: &orders,
+            masks: &masks,
+        };
+        let mut route = [1, 2];
+        polish_with_patterns(patterns, 100, &tables, 0, &mut route)
+            .map(|polished| (polished.examined, route))
+    };
+    assert_eq!(polish(7), Ok((11, [2, 1])));
+    assert_eq!(polish(3), Ok((10, [2, 1])));
 }

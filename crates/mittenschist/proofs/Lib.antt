@@ -4,7 +4,6 @@ pub mod ReconnectionReply
 pub mod ReconnectReply
 pub mod DeltaReply
 pub mod FeasibleReply
-pub mod Replied
 pub mod PolishReply
 pub mod PairLoopReply
 pub mod Written

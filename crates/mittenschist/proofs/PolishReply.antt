@@ -1,13 +1,12 @@
--- The replies of the entries `mittenschist_polish_route_to_end` and `mittenschist_polish_route`, over plain values. Assumes nothing.
+-- The replies of the entries `mittenschist_polish_route_to_end` and `mittenschist_polish_route`, and that of a list of all patterns, over plain values. Assumes nothing.
 use mathlib.Core.Path.{_≡_, refl}
 use mathlib.Core.List.{List, _++_}
-use Prim.Native.Nat.{ℕ, _≤_}
+use Prim.Native.Nat.{ℕ, suc, _*_, _≤_}
 use lib.ListN.{length, drop}
 use Rattle.theory.specs.Moves.{patterns}
-use Rattle.theory.specs.Route.{Problem}
-use Rattle.theory.specs.Tables.{Tables, problem}
+use Rattle.theory.specs.Tables.{Tables, problem, pattern-rows}
 use Rattle.theory.specs.Refusals.{Rule, refusal}
-use Rattle.theory.specs.Question.{Question, question, question-rules, asked}
+use Rattle.theory.specs.Question.{Question, question, question-rules}
 use Rattle.theory.specs.Answers.{Polishes, polish-values}
 use Rattle.theory.specs.declared.Polished.{Polished}
 use Rattle.theory.proofs.Refusals.{Passes, known}
@@ -17,18 +16,17 @@ use Rattle.polishing.proofs.Judged.{polishable-fine}
 use Rattle.refusal_rules.specs.Rules.{polish-to-end-rules}
 use Rattle.refusal_rules.proofs.Parts.{pass-with-room}
 use Rattle.refusal_rules.proofs.Closed.{polish-closed}
+use Rattle.pattern_list_polishing.specs.Polishing.{PolishWithPatternsReply}
+use Rattle.pattern_list_polishing.proofs.Replies.{refused-with, polished-with, alike}
+use Rattle.pattern_list_polishing.proofs.Judging.{full-rules}
 use Rattle.mittenschist.specs.Promises.{PolishReply, PolishToEndReply}
-use Rattle.mittenschist.proofs.Replied.{nothing-told, told, read-back, judged-otherwise}
 
 module _ (q : Question) (result : List ℕ) (number : ℕ) (judged : number ≡ refusal (polish-to-end-rules q (length result))) where
   abbrev rules : List Rule
   rules = polish-to-end-rules q (length result)
 
-  abbrev P : Problem
-  P = problem (q .trip)
-
   pub refused : (number ≡ 0 → ⊥) → PolishToEndReply q result number (q .route) result
-  refused h = record { replied = nothing-told rules P (q .route) (asked q) result number judged h; demand3 = λ z. absurd (h z) }
+  refused = refused-with rules (patterns (q .k)) q result number judged
 
   module _ (h : number ≡ 0) where
     passes : Passes (question-rules q) × (6 ≤ length result)
@@ -41,17 +39,18 @@ module _ (q : Question) (result : List ℕ) (number : ℕ) (judged : number ≡ 
     pub space : 6 ≤ length result
     space = passes .1
 
-    pub polished : (answer : Polished) (route′ result′ : List ℕ) → Polishes P (patterns (q .k)) (q .k) (q .allowance) (q .route) answer route′ →
+    pub polished : (answer : Polished) (route′ result′ : List ℕ) → Polishes (problem (q .trip)) (patterns (q .k)) (q .k) (q .allowance) (q .route) answer route′ →
         result′ ≡ polish-values answer ++ drop 6 result → PolishToEndReply q result 0 route′ result′
-    polished answer route′ result′ p e =
-        record {
-          replied = told rules P (q .route) (asked q) result number judged h answer route′ result′ (p .scan) (p .before) (p .after) (p .late) e;
-          demand3 = λ z. rw (e, read-back answer (drop 6 result) route′) (p .demand3);
-        }
+    polished = polished-with rules (patterns (q .k)) q result number judged h
 
 -- A closed tour: the entry's own rules refuse the same.
 pub closed-polish : (k A : ℕ) (T : Tables) (depot : ℕ) (route result : List ℕ) {answer : ℕ} {route′ result′ : List ℕ} →
     PolishToEndReply (question k A (T .locations) (T .legs) (T .latest) (T .service) depot depot route) result answer route′ result′ →
     PolishReply (question k A (T .locations) (T .legs) (T .latest) (T .service) depot depot route) result answer route′ result′
-closed-polish k A T depot route result p =
-    record { replied = judged-otherwise (polish-closed k A T depot route (length result)) (p .replied); demand3 = p .demand3 }
+closed-polish k A T depot route result =
+    alike (question k A (T .locations) (T .legs) (T .latest) (T .service) depot depot route) result (polish-closed k A T depot route (length result)) refl
+
+-- "A list of all patterns in index order gives the built-in replies."
+pub full-list : (q : Question) (orders masks result : List ℕ) → pattern-rows (q .k) orders masks ≡ patterns (q .k) → length orders ≡ length masks * suc (q .k) →
+    {answer : ℕ} {route′ result′ : List ℕ} → PolishWithPatternsReply q orders masks result answer route′ result′ → PolishToEndReply q result answer route′ result′
+full-list q orders masks result all long = alike q result (full-rules q orders masks (length result) all long) all

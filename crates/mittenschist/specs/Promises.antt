@@ -9,13 +9,12 @@ use lib.Ieee.{Float}
 use lib.ListN.{length, getD, drop, replicate}
 use Rattle.theory.specs.Moves.{Pattern, patterns, next-cuts}
 use Rattle.theory.specs.Route.{Problem, tour-length, reconnected, late-position}
-use Rattle.theory.specs.Scan.{Reply}
-use Rattle.theory.specs.Polish.{move-at, Demand3}
+use Rattle.theory.specs.Polish.{move-at}
 use Rattle.theory.specs.Tables.{Tables, Fleet, problem, timetable-by, legs-only}
-use Rattle.theory.specs.Question.{Question, asked}
+use Rattle.theory.specs.Question.{Question}
 use Rattle.theory.specs.Refusals.{Rule, refusal, if-taken, problem-rules}
 use Rattle.refusal_rules.specs.Rules.{pattern-rules, next-cut-set-rules, reconnect-rules, route-length-rules, route-length-to-end-rules, delta-rules, delta-to-end-rules, polish-rules, polish-to-end-rules, pair-loop-rules, run-rules, run-to-ends-rules, nearby-rules, find-move-rules, with-room}
-use Rattle.theory.specs.Answers.{reply, step-answer, length-answer, delta-answer, feasibility-answer, listing-answer, Checked, six-numbers, handed-back}
+use Rattle.theory.specs.Answers.{reply, step-answer, length-answer, delta-answer, feasibility-answer, listing-answer, Checked, handed-back}
 use Rattle.moves.specs.Moves.{length-change}
 use Rattle.first_move.specs.FirstMove.{first-move, found-move, move-values, in-front, handed-move, Told}
 use Rattle.first_move.specs.declared.SoughtMove.{SoughtMove}
@@ -25,6 +24,8 @@ use Rattle.nearby.specs.Walk.{nearby-sets}
 use Rattle.nearby.specs.Listing.{written}
 use Rattle.every_nearby_sets.specs.Every.{every-sets}
 use Rattle.pair_loop.specs.PairLoop.{pair-loop, PairPromise}
+use Rattle.polish_numbers.specs.Replied.{Replied}
+use Rattle.pattern_list_polishing.specs.Polishing.{PolishedWith}
 use Rattle.run.specs.Run.{run, rounds, routes, numbers, Ran}
 use Rattle.theory.specs.declared.CutStep.{CutStep}
 use Rattle.theory.specs.declared.RouteLength.{RouteLength}
@@ -107,16 +108,9 @@ pub record FeasibleReply (T : Tables) (depot : ℕ) (route : List ℕ) (answer :
 
 -- ---- polishing and the pair loop
 
--- The refusal number or 0; and of the slices as they are handed in and as they are handed back: the route and the six numbers of a reply, where no rule applies.
-pub record Replied (rules : List Rule) (P : Problem) (route : List ℕ) (q : Reply (List ℕ)) (result : List ℕ) (answer : ℕ) (route′ result′ : List ℕ) : Type 0 where
-  pub number-is : answer ≡ refusal rules
-  pub route-is : route′ ≡ if-taken rules (q .route) route
-  pub result-is : result′ ≡ if-taken rules (six-numbers P route q ++ drop 6 result) result
-
--- Judged by some rules: route and result are those of document 01's scan; and demand 3, of what is handed back, whenever it returns 0.
-pub record PolishedBy (rules : List Rule) (q : Question) (result : List ℕ) (answer : ℕ) (route′ result′ : List ℕ) : Type 0 where
-  pub replied : Replied rules (problem (q .trip)) (q .route) (asked q) result answer route′ result′
-  pub demand3 : answer ≡ 0 → Demand3 (problem (q .trip)) (patterns (q .k)) (q .k) (q .allowance) (q .route) (handed-back result′ route′)
+-- With every pattern for k: the record of polishing with a list (crate pattern_list_polishing), over document 01's patterns.
+abbrev pub PolishedBy : List Rule → Question → List ℕ → ℕ → List ℕ → List ℕ → Type 0
+PolishedBy rules q = PolishedWith rules (patterns (q .k)) q
 
 -- A closed tour: the entry is handed a question whose end is its depot.
 abbrev pub PolishReply : Question → List ℕ → ℕ → List ℕ → List ℕ → Type 0

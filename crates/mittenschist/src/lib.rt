@@ -9,6 +9,8 @@ ghost use Rattle.theory.specs.Question.{question};
 ghost use Rattle.theory.specs.Refusals.{problem-rules};
 ghost use Rattle.move_calls.specs.Entries.{DoMoveReply, UndoReply, doable-rules};
 ghost use Rattle.moves.specs.Moves.{length-change, pattern-values};
+ghost use Rattle.pattern_list_loading.specs.Loading.{LoadReply};
+ghost use Rattle.pattern_list_polishing.specs.Polishing.{PolishWithPatternsReply};
 ghost use Rattle.refusal_rules.specs.Rules.{route-length-rules, route-length-to-end-rules, pattern-rules, delta-rules, delta-to-end-rules};
 ghost use Rattle.mittenschist.specs.Promises.{NextCutSetReply, RouteLengthReply, RouteLengthToEndReply, ReconnectionReply, ReconnectReply, DeltaReply, DeltaToEndReply, FeasibleReply, PolishReply, PolishToEndReply, PairLoopReply, Written, NextCutSetWritten, late-values, doable-values, RunReply, RunToEndsReply, NearbyReply, NearbyWritten, EveryReply, EveryWritten, FindMoveReply, FindMoveWritten};
 use first_move::SoughtMove;
@@ -658,4 +660,54 @@ pub extern "C" fn mittenschist_find_move(
     let answer = find_move::find_move(k, old, wanted);
     moves::put_move(k, answer, result);
     0
+}
+
+// ---- lists of patterns
+
+// Loads a list of patterns from text: its orders end to end, k + 1 bytes a row, its masks, and into the result its k and its number of rows. Refuses 10, 1, 26,
+// 27, 28, 21.
+#[no_mangle]
+pub extern "C" fn mittenschist_load_patterns(
+    text: &[u8],
+    orders: &mut [u8],
+    masks: &mut [u8],
+    result: &mut [u64],
+) -> u32
+    ensures { λ r. ⌜ LoadReply (now (text .entry)) (now (orders .entry)) (now (masks .entry)) (now (result .entry)) r (now (orders .exit)) (now (masks .exit)) (now (result .exit)) ⌝ }
+{
+    pattern_list_loading::load_patterns(text, orders, masks, result)
+}
+
+// Polishes a route from the depot to an end harbour with a list of patterns, its rows as they were loaded. Refuses 1, 26, 27, 28, 2, 3, 23, 4, 24, 5, 21.
+#[no_mangle]
+pub extern "C" fn mittenschist_polish_with_patterns(
+    k: usize,
+    orders: &[u8],
+    masks: &[u8],
+    allowance: u64,
+    locations: usize,
+    legs: &[u32],
+    latest: &[u32],
+    service: &[u32],
+    depot: u32,
+    end: u32,
+    route: &mut [u32],
+    result: &mut [u64],
+) -> u32
+    ensures { λ r. ⌜ PolishWithPatternsReply (question k allowance locations (now (legs .entry)) (now (latest .entry)) (now (service .entry)) depot end (now (route .entry))) (now (orders .entry)) (now (masks .entry)) (now (result .entry)) r (now (route .exit)) (now (result .exit)) ⌝ }
+{
+    pattern_list_polishing::polish_with_patterns(
+        k,
+        orders,
+        masks,
+        allowance,
+        locations,
+        legs,
+        latest,
+        service,
+        depot,
+        end,
+        route,
+        result,
+    )
 }

@@ -43,11 +43,11 @@ pub fn k_opt_is_doable(
     if positions.len() != k {
         return false;
     }
-    if refusals::any_beyond(positions, n) {
+    if refusal_tests::any_beyond(positions, n) {
         return false;
     }
-    if refusals::any_other(rounds, round) {
+    if refusal_tests::any_other(rounds, round) {
         return true;
     }
-    refusals::strictly_rising(positions)
+    refusal_tests::strictly_rising(positions)
 }

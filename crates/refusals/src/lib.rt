@@ -1,126 +1,9 @@
 // One small check for each refusal number: the number where its rule applies to the raw input, else 0. No entry: the crates above call them.
 ghost use mathlib.Core.Path.{_≡_};
-ghost use mathlib.Core.Bool.{not};
-ghost use Prim.Native.Nat.{max, _≤_};
-ghost use lib.Dec.{ltb, leb, eqb};
-ghost use Rattle.theory.specs.Refusals.{any, rises, no-number, either, number, cut-count, leg-table, deadline-list, leg-sizes, service-list, known-stops, known-end, stop-count, pattern-index, cut-positions, room, refusal, table-rules, problem-rules, trip-rules, cut-lists, own-round, journal-length, known-rounds, known-ends, round-lists, end-list, nearby-input};
-ghost use Rattle.theory.specs.Moves.{total};
+ghost use Prim.Native.Nat.{_≤_};
+ghost use Rattle.theory.specs.Refusals.{either, number, cut-count, leg-table, deadline-list, leg-sizes, service-list, known-stops, known-end, stop-count, pattern-index, cut-positions, room, refusal, table-rules, problem-rules, trip-rules, cut-lists, own-round, journal-length, known-rounds, known-ends, round-lists, end-list, nearby-input};
 ghost use Rattle.theory.specs.Tables.{tables, trip};
 ghost use Rattle.patterns.specs.Enumeration.{CutCount};
-ghost use Rattle.refusals.specs.Rounds.{ShortRounds};
-
-// ---- tests over a list
-
-// The greater of two.
-fn greater(a: u32, b: u32) -> u32
-    ensures { λ r. ⌜ r ≡ max a b ⌝ }
-{
-    if a < b {
-        return b;
-    }
-    a
-}
-
-// Whether an entry is above the limit: by the greatest, so that no turn of the loop leaves it and the compiler takes several entries at a time.
-pub fn any_above(entries: &[u32], limit: u32) -> bool
-    ensures { λ r. ⌜ r ≡ any (λ x. ltb limit x) (now (entries .entry)) ⌝ }
-{
-    let mut most = 0u32;
-    let mut i = 0;
-    while i < entries.len() {
-        most = greater(most, entries[i]);
-        i += 1;
-    }
-    limit < most
-}
-
-// Whether a stop is not below the locations.
-pub fn any_unknown(stops: &[u32], locations: usize) -> bool
-    ensures { λ r. ⌜ r ≡ any (λ x. leb locations x) (now (stops .entry)) ⌝ }
-{
-    let mut i = 0;
-    while i < stops.len() {
-        let stop = stops[i];
-        if locations <= stop as usize {
-            return true;
-        }
-        i += 1;
-    }
-    false
-}
-
-// Whether a cut lies beyond n.
-pub fn any_beyond(cuts: &[usize], n: usize) -> bool
-    ensures { λ r. ⌜ r ≡ any (λ x. ltb n x) (now (cuts .entry)) ⌝ }
-{
-    let mut i = 0;
-    while i < cuts.len() {
-        if n < cuts[i] {
-            return true;
-        }
-        i += 1;
-    }
-    false
-}
-
-// Whether each cut is below the next.
-pub fn strictly_rising(cuts: &[usize]) -> bool
-    ensures { λ r. ⌜ r ≡ rises (now (cuts .entry)) ⌝ }
-{
-    let mut i = 1;
-    while i < cuts.len() {
-        if cuts[i] <= cuts[i - 1] {
-            return false;
-        }
-        i += 1;
-    }
-    true
-}
-
-// Whether a cut names another round.
-pub fn any_other(rounds: &[usize], round: usize) -> bool
-    ensures { λ r. ⌜ r ≡ any (λ x. not (eqb x round)) (now (rounds .entry)) ⌝ }
-{
-    let mut i = 0;
-    while i < rounds.len() {
-        if rounds[i] != round {
-            return true;
-        }
-        i += 1;
-    }
-    false
-}
-
-// Whether an entry is no number: only that one differs from itself.
-pub fn any_no_number(distances: &[f64]) -> bool
-    ensures { λ r. ⌜ r ≡ any no-number (now (distances .entry)) ⌝ }
-{
-    let mut i = 0;
-    while i < distances.len() {
-        let d = distances[i];
-        if d != d {
-            return true;
-        }
-        i += 1;
-    }
-    false
-}
-
-// The stops of all rounds together.
-pub fn all_stops(lengths: &[usize]) -> usize
-    requires { ⌜ ShortRounds (now lengths) ⌝ }
-    ensures { λ r. ⌜ r ≡ total (λ n. n) (now (lengths .entry)) ⌝ }
-{
-    let mut sum = 0;
-    let mut i = 0;
-    while i < lengths.len() {
-        sum += lengths[i];
-        i += 1;
-    }
-    sum
-}
-
-// ---- the checks
 
 // The first of two numbers that is not 0.
 pub fn first(a: u32, b: u32) -> u32
@@ -171,7 +54,7 @@ pub fn check_deadline_list(locations: usize, latest: &[u32]) -> u32
 pub fn check_leg_sizes(legs: &[u32]) -> u32
     ensures { λ r. ⌜ r ≡ number (leg-sizes (now (legs .entry))) ⌝ }
 {
-    if any_above(legs, 1000000) {
+    if refusal_tests::any_above(legs, 1000000) {
         return 3;
     }
     0
@@ -183,7 +66,7 @@ pub fn check_service_list(locations: usize, service: &[u32]) -> u32
     if service.len() != locations {
         return 23;
     }
-    if any_above(service, 1000000) {
+    if refusal_tests::any_above(service, 1000000) {
         return 23;
     }
     0
@@ -195,7 +78,7 @@ pub fn check_known_stops(locations: usize, depot: u32, route: &[u32]) -> u32
     if locations <= depot as usize {
         return 4;
     }
-    if any_unknown(route, locations) {
+    if refusal_tests::any_unknown(route, locations) {
         return 4;
     }
     0
@@ -236,10 +119,10 @@ pub fn check_cut_positions(k: usize, n: usize, cuts: &[usize]) -> u32
     if cuts.len() != k {
         return 7;
     }
-    if any_beyond(cuts, n) {
+    if refusal_tests::any_beyond(cuts, n) {
         return 7;
     }
-    if strictly_rising(cuts) {
+    if refusal_tests::strictly_rising(cuts) {
         return 0;
     }
     7
@@ -257,7 +140,7 @@ pub fn check_cut_lists(rounds: &[usize], positions: &[usize]) -> u32
 pub fn check_own_round(round: usize, rounds: &[usize]) -> u32
     ensures { λ r. ⌜ r ≡ number (own-round round (now (rounds .entry))) ⌝ }
 {
-    if any_other(rounds, round) {
+    if refusal_tests::any_other(rounds, round) {
         return 8;
     }
     0
@@ -333,10 +216,10 @@ pub fn check_trip(
 pub fn check_known_rounds(locations: usize, depots: &[u32], stops: &[u32]) -> u32
     ensures { λ r. ⌜ r ≡ number (known-rounds locations (now (depots .entry)) (now (stops .entry))) ⌝ }
 {
-    if any_unknown(depots, locations) {
+    if refusal_tests::any_unknown(depots, locations) {
         return 4;
     }
-    if any_unknown(stops, locations) {
+    if refusal_tests::any_unknown(stops, locations) {
         return 4;
     }
     0
@@ -345,7 +228,7 @@ pub fn check_known_rounds(locations: usize, depots: &[u32], stops: &[u32]) -> u3
 pub fn check_known_ends(locations: usize, ends: &[u32]) -> u32
     ensures { λ r. ⌜ r ≡ number (known-ends locations (now (ends .entry))) ⌝ }
 {
-    if any_unknown(ends, locations) {
+    if refusal_tests::any_unknown(ends, locations) {
         return 24;
     }
     0
@@ -368,7 +251,7 @@ pub fn check_round_lists(lengths: &[usize], depots: &[u32], pins: &[u8], stops: 
     if 64 < rounds {
         return 5;
     }
-    if any_beyond(lengths, 512) {
+    if refusal_tests::any_beyond(lengths, 512) {
         return 5;
     }
     if depots.len() != rounds {
@@ -377,7 +260,7 @@ pub fn check_round_lists(lengths: &[usize], depots: &[u32], pins: &[u8], stops: 
     if pins.len() != rounds {
         return 5;
     }
-    if all_stops(lengths) != stops {
+    if refusal_tests::all_stops(lengths) != stops {
         return 5;
     }
     0
@@ -400,7 +283,7 @@ pub fn check_nearby_input(n: usize, distances: &[f64], m: usize, neighbours: usi
     if distances.len() != n * n {
         return 9;
     }
-    if any_no_number(distances) {
+    if refusal_tests::any_no_number(distances) {
         return 9;
     }
     0

@@ -104,7 +104,7 @@ list-complete room (x ∷ xs) r h l =
     let n = number-front (digits x ++ s) x s (number-complete x s (h .0) (omega (arith, no-digit xs r))) in
     rw (append-assoc (digits x) (further xs) (10 ∷ r), ne-eqb (front (digits x ++ s)) 10 (omega arith)) (entries-complete room x xs r h l)
 
-key-sound : (key t r : List ℕ) → after key t ≡ some r → t ≡ key ++ r
+pub key-sound : (key t r : List ℕ) → after key t ≡ some r → t ≡ key ++ r
 unfolding after
 key-sound [] t r e = Option·some-injective t r e
 key-sound (k ∷ key) [] r e = absurd (Option·none-ne-some r e)
@@ -114,7 +114,7 @@ key-sound (k ∷ key) (b ∷ t) r e = go (eqb b k) refl (key-sound key t r)
     go true i ih = rw (eqb-true b k i, ih (rw i at e))
     go false i ih = absurd (Option·none-ne-some r (rw i at e))
 
-key-complete : (key r : List ℕ) → after key (key ++ r) ≡ some r
+pub key-complete : (key r : List ℕ) → after key (key ++ r) ≡ some r
 unfolding after
 key-complete [] r = refl
 key-complete (k ∷ key) r = rw (eq-eqb k k refl) (key-complete key r)

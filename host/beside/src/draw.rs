@@ -196,6 +196,14 @@ pub fn lists(entries: &[u32], length: usize) -> Vec<Vec<u32>> {
     lists
 }
 
+/// Every list of up to `longest` stops.
+pub fn routes(locations: u32, longest: usize) -> Vec<Vec<u32>> {
+    let stops: Vec<u32> = (0..locations).collect();
+    (0..=longest)
+        .flat_map(|length| lists(&stops, length))
+        .collect()
+}
+
 pub fn with_times(tables: Tables, latest: Vec<u32>, service: Vec<u32>) -> Tables {
     Tables {
         latest,

@@ -7,6 +7,10 @@ pub const LONGEST_LEG: u32 = 1_000_000;
 pub const LONGEST_SERVICE: u32 = 1_000_000;
 pub const LONGEST_PIECE: usize = 512;
 pub const MOST_NEIGHBOURS: usize = 32;
+/// Patterns in a list.
+pub const MOST_ROWS: usize = 383;
+/// Bytes of a text.
+pub const MOST_BYTES: usize = 60_000;
 /// Stops of a round whose first move is looked for.
 pub const LONGEST_MOVED: usize = 48;
 
@@ -54,4 +58,21 @@ pub fn rising(cuts: &[usize]) -> bool {
 /// 5: more than 512 stops.
 pub fn too_many_stops(stops: usize) -> bool {
     stops > MOST_STOPS
+}
+
+/// 27, of one pattern: an order that is no permutation of 0 to k with 0 first and k last, or a mask with a bit outside 1 to k - 1.
+pub fn bad_row(k: usize, order: &[u8], mask: u64) -> bool {
+    let mut sorted = order.to_vec();
+    sorted.sort_unstable();
+    let all: Vec<u8> = (0..=k as u8).collect();
+    sorted != all
+        || order[0] != 0
+        || order[k] != k as u8
+        || (0..64).any(|bit| (mask >> bit) & 1 == 1 && !(1..k).contains(&bit))
+}
+
+/// 28, of a list of good patterns: one that changes nothing, or that stands earlier.
+pub fn bad_rows(rows: &[(&[u8], u64)]) -> bool {
+    let unchanged = |&(order, mask): &(&[u8], u64)| mask == 0 && order.is_sorted();
+    rows.iter().any(unchanged) || (1..rows.len()).any(|place| rows[..place].contains(&rows[place]))
 }

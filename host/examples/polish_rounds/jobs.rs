@@ -1,7 +1,7 @@
 //! Rounds polished on several threads, told in their order. The library has no state between calls.
 
 use crate::question::Question;
-use mittenschist::{polish_route, Polished, Refusal, Tables};
+use mittenschist::{polish_route, polish_with_patterns, Polished, Refusal, Tables};
 use std::collections::BTreeMap;
 use std::sync::atomic::{AtomicUsize, Ordering};
 use std::sync::mpsc::{self, Receiver, Sender};
@@ -46,8 +46,11 @@ fn polish(question: &Question, mut route: Vec<u32>) -> Outcome {
         latest: &question.latest,
         service: &question.service,
     };
-    let (k, allowance) = (question.k, question.allowance);
-    let polished = polish_route(k, allowance, &tables, question.harbours, &mut route)?;
+    let (k, allowance, harbours) = (question.k, question.allowance, question.harbours);
+    let polished = match &question.patterns {
+        None => polish_route(k, allowance, &tables, harbours, &mut route)?,
+        Some(list) => polish_with_patterns(list.lent(), allowance, &tables, harbours, &mut route)?,
+    };
     Ok((polished, route))
 }
 

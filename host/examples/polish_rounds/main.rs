@@ -1,4 +1,4 @@
-//! cargo run --release --example polish_rounds [--jobs N] FILE: polishes each round of a file and says what was saved, and which stop is late
+//! cargo run --release --example polish_rounds [--jobs N] [--patterns LIST] FILE: polishes each round of a file and says what was saved, and which stop is late
 //! if one is, a line for each round as it is done. The file has the form of the text program, with any number of lines `round=` at its
 //! end; see rounds.txt beside this file. Each round has the whole allowance. Exit 1 if the file is not of the form or a round is refused,
 //! 2 if the words are not understood.
@@ -10,15 +10,19 @@ mod options;
 mod question;
 
 use jobs::{polish_all, Outcome};
-use mittenschist::{Ending, Polished};
+use mittenschist::{Ending, PatternList, Polished};
 use options::{Options, USAGE};
 use question::Question;
 use std::process::ExitCode;
 use std::{env, fs};
 
 fn main() -> ExitCode {
-    let (file, jobs) = match Options::parse(env::args().skip(1)) {
-        Ok(Options::Polish { file, jobs }) => (file, jobs),
+    let (file, jobs, patterns) = match Options::parse(env::args().skip(1)) {
+        Ok(Options::Polish {
+            file,
+            jobs,
+            patterns,
+        }) => (file, jobs, patterns),
         Ok(Options::Help) => {
             println!("{USAGE}");
             return ExitCode::SUCCESS;
@@ -28,21 +32,28 @@ fn main() -> ExitCode {
             return ExitCode::from(2);
         }
     };
-    match read(&file) {
+    match read(&file, patterns.as_deref()) {
         Ok(question) => {
             let refused = tell_all(&question, jobs, &mut |line| println!("{line}"));
             ExitCode::from(u8::from(refused))
         }
         Err(fault) => {
-            eprintln!("{file}: {fault}");
+            eprintln!("{fault}");
             ExitCode::FAILURE
         }
     }
 }
 
-fn read(file: &str) -> Result<Question, String> {
-    let text = fs::read_to_string(file).map_err(|fault| fault.to_string())?;
-    Question::parse(&text)
+fn read(file: &str, patterns: Option<&str>) -> Result<Question, String> {
+    let of = |file: &str, fault: String| format!("{file}: {fault}");
+    let text = fs::read_to_string(file).map_err(|fault| of(file, fault.to_string()))?;
+    let mut question = Question::parse(&text).map_err(|fault| of(file, fault))?;
+    if let Some(list) = patterns {
+        let text = fs::read(list).map_err(|fault| of(list, fault.to_string()))?;
+        let loaded = PatternList::load(&text).map_err(|refused| of(list, refused.to_string()))?;
+        question.patterns = Some(loaded);
+    }
+    Ok(question)
 }
 
 /// Tells a line for each round and one for all; whether a round was refused.
@@ -149,6 +160,18 @@ mod tests {
             let (told, refused) = lines(include_str!("rounds.txt"), jobs);
             assert_eq!((&told[..], refused), (&wanted.map(String::from)[..], false));
         }
+    }
+
+    /// Three cuts whose two middle segments change places, and nothing is turned.
+    #[test]
+    fn with_one_pattern() {
+        let mut question = Question::parse(include_str!("rounds.txt")).unwrap();
+        let list = PatternList::load(b"k=3\npatterns=1\npattern=0213,0\n");
+        question.patterns = Some(list.unwrap());
+        let mut told = Vec::new();
+        assert!(!tell_all(&question, 1, &mut |line| told.push(line)));
+        let first = "round 1: 23 s before, 5 s after, 18 s saved; finished after 11 candidates; order 2,1,3,4";
+        assert_eq!(told[0], first);
     }
 
     #[test]

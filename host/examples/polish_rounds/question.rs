@@ -1,6 +1,6 @@
 //! The file of rounds. Its form is judged here, the lengths of its rows too; its numbers are judged by the library.
 
-use mittenschist::Harbours;
+use mittenschist::{Harbours, PatternList};
 use std::str::{FromStr, Lines};
 
 pub struct Question {
@@ -12,6 +12,8 @@ pub struct Question {
     pub latest: Vec<u32>,
     pub service: Vec<u32>,
     pub rounds: Vec<Vec<u32>>,
+    /// The patterns that are tried, where they are not all of them.
+    pub patterns: Option<PatternList>,
 }
 
 /// The lines not yet read, and the number of the one that was read last.
@@ -87,6 +89,7 @@ impl Question {
             latest: reader.row("latest", locations)?,
             service: reader.row("service", locations)?,
             rounds: rounds(&mut reader)?,
+            patterns: None,
         })
     }
 

@@ -353,3 +353,38 @@ fn the_first_move_of_nothing() {
     let returned = [find(&[7], 4), find(&[], 3), find(&[], 4)];
     assert_eq!((returned, result), ([25, 21, 0], [0, 9, 9, 9]));
 }
+
+/// No text, no rows and no room.
+#[test]
+fn lists_of_nothing() {
+    // SAFETY: as said above.
+    let loaded = unsafe {
+        mittenschist_load_patterns(null(), 0, null_mut(), 0, null_mut(), 0, null_mut(), 0)
+    };
+    // SAFETY: as said above.
+    let polish = |k| unsafe {
+        let (rows, read, write) = (null(), null(), null_mut());
+        mittenschist_polish_with_patterns(
+            k,
+            rows,
+            0,
+            rows,
+            0,
+            1,
+            1,
+            read,
+            0,
+            read,
+            0,
+            read,
+            0,
+            0,
+            0,
+            write,
+            0,
+            null_mut(),
+            0,
+        )
+    };
+    assert_eq!((loaded, polish(1), polish(2)), (10, 1, 26));
+}

@@ -7,6 +7,7 @@
 mod first_move;
 mod moves;
 mod nearby;
+mod one_route;
 mod pairs;
 mod parts;
 mod polish;
@@ -14,3 +15,4 @@ mod pools;
 mod run;
 #[path = "../support/mod.rs"]
 mod support;
+mod texts;

@@ -1,86 +1,53 @@
-use crate::pools::{self, Tables};
-use crate::support::lent::{filled, Lent};
+use crate::one_route::{Asked, PLACES};
+use crate::pools;
+use crate::support::lent::Lent;
 use crate::support::rules::{first_refusal, too_many_stops};
-use crate::support::{kept, kept_beyond, number, on_small_stack, written};
+use crate::support::{kept, number, on_small_stack};
 use mittenschist::{raw, Ending};
 
-/// What the result receives.
-const PLACES: usize = 6;
-
-struct Case<'c> {
-    allowance: u64,
-    tables: &'c Tables,
-    depot: u32,
-    route: &'c [u32],
-    room: usize,
-}
+struct Case<'c>(Asked<'c>);
 
 impl Case<'_> {
     fn refusal(&self, room: usize) -> u32 {
+        let Asked { tables, route, .. } = self.0;
         first_refusal(&[
-            (2, self.tables.bad_size()),
-            (3, self.tables.bad_leg()),
-            (23, self.tables.bad_service()),
-            (4, self.tables.unknown(&[self.depot], self.route)),
-            (5, too_many_stops(self.route.len())),
+            (2, tables.bad_size()),
+            (3, tables.bad_leg()),
+            (23, tables.bad_service()),
+            (4, tables.unknown(&[self.0.depot], route)),
+            (5, too_many_stops(route.len())),
             (21, room < PLACES),
         ])
     }
 
-    fn check(&self) {
-        let before = filled(self.room);
-        let mut legs = Lent::new("legs", &self.tables.legs);
-        let mut latest = Lent::new("latest", &self.tables.latest);
-        let mut service = Lent::new("service", &self.tables.service);
-        let mut route = Lent::new("route", self.route);
-        let mut result = Lent::new("result", &before);
-        let returned = raw::pair_loop(
-            self.allowance,
-            self.tables.locations,
-            legs.slice(),
-            latest.slice(),
-            service.slice(),
-            self.depot,
-            route.slice(),
-            result.slice(),
-        );
-        assert_eq!(returned, self.refusal(self.room));
-        kept(&legs);
-        kept(&latest);
-        kept(&service);
-        if returned != 0 {
-            kept(&route);
-            return kept(&result);
-        }
-        kept_beyond(&result, &before, PLACES);
-        written(&route);
-        self.check_reply(&written(&result), route.slice());
-    }
-
     /// Nothing is said of the lengths: the route can grow.
-    fn check_reply(&self, result: &[u64], route: &[u32]) {
-        assert!(result[0] < 2 && result[1] <= self.allowance && result[2] <= result[1]);
-        assert!(result[0] == 0 || result[1] == self.allowance);
-        assert_eq!(result[5], self.tables.late_position(self.depot, route));
-        assert!(result[2] == 0 || result[5] == route.len() as u64);
-        let (mut stops, mut handed_in) = (route.to_vec(), self.route.to_vec());
-        assert!(result[2] > 0 || stops == handed_in);
-        stops.sort_unstable();
-        handed_in.sort_unstable();
-        assert_eq!(stops, handed_in);
+    fn check(&self) {
+        let asked = &self.0;
+        asked.call(self.refusal(asked.room), |lent| {
+            raw::pair_loop(
+                asked.allowance,
+                asked.tables.locations,
+                lent.legs,
+                lent.latest,
+                lent.service,
+                asked.depot,
+                lent.route,
+                lent.result,
+            )
+        });
     }
 
     fn check_safe(&self) {
-        let mut route = Lent::new("route", self.route);
-        let (tables, depot) = (self.tables.lent(), self.depot);
-        let answer = mittenschist::pair_loop(self.allowance, &tables, depot, route.slice());
+        let mut route = Lent::new("route", self.0.route);
+        let (tables, depot) = (self.0.tables.lent(), self.0.depot);
+        let answer = mittenschist::pair_loop(self.0.allowance, &tables, depot, route.slice());
         assert_eq!(number(answer), self.refusal(PLACES));
         match answer {
             Ok(paired) => {
-                assert!(paired.ending == Ending::Finished || paired.examined == self.allowance);
+                assert!(paired.ending == Ending::Finished || paired.examined == self.0.allowance);
                 assert!(paired.accepted > 0 || paired.saved() == 0);
-                let late = self.tables.late_position(depot, route.slice());
-                assert_eq!(paired.late.unwrap_or(self.route.len()) as u64, late);
+                let late = self.0.tables.late_position(depot, route.slice());
+                assert_eq!(paired.late.unwrap_or(self.0.route.len()) as u64, late);
             }
             Err(_) => kept(&route),
         }
@@ -92,13 +59,13 @@ fn every_call() {
         for route in &pools::routes() {
             for depot in pools::PLACES {
                 for (allowance, room) in [(9, 0), (0, 5), (0, 6), (1, 6), (900, 8)] {
-                    let case = Case {
+                    let case = Case(Asked {
                         allowance,
                         tables,
                         depot,
                         route,
                         room,
-                    };
+                    });
                     case.check();
                     case.check_safe();
                 }

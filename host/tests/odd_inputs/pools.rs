@@ -1,6 +1,8 @@
 //! What the calls are handed, some of it in range.
 
-use crate::support::rules::{LONGEST_LEG, LONGEST_SERVICE, MOST_LOCATIONS};
+use crate::support::rules::{
+    bad_k, bad_row, bad_rows, LONGEST_LEG, LONGEST_SERVICE, MOST_LOCATIONS, MOST_ROWS,
+};
 
 pub const CUT_COUNTS: [usize; 8] = [0, 1, 2, 3, 4, 5, 6, usize::MAX];
 pub const PATTERNS: [usize; 7] = [0, 1, 7, 46, 382, 383, usize::MAX];
@@ -163,5 +165,60 @@ pub fn cuts() -> Vec<Vec<usize>> {
         vec![0, 1, 2, 3, 4],
         vec![0, 1, 2, 3, 4, 5],
         vec![7; 1000],
+    ]
+}
+
+/// A list of patterns, for some k or for none.
+pub struct List {
+    pub orders: Vec<u8>,
+    pub masks: Vec<u8>,
+}
+
+impl List {
+    /// 26, 27 and 28, of which the later are asked where the earlier do not apply.
+    pub fn rules(&self, k: usize) -> [(u32, bool); 3] {
+        if bad_k(k) {
+            return [(26, false); 3];
+        }
+        let (orders, masks) = (&self.orders, &self.masks);
+        let count =
+            !(1..=MOST_ROWS).contains(&masks.len()) || orders.len() != masks.len() * (k + 1);
+        let masks = masks.iter().map(|&mask| u64::from(mask));
+        let rows: Vec<(&[u8], u64)> = orders.chunks(k + 1).zip(masks).collect();
+        let shape = !count && rows.iter().any(|&(order, mask)| bad_row(k, order, mask));
+        [
+            (26, count),
+            (27, shape),
+            (28, !count && !shape && bad_rows(&rows)),
+        ]
+    }
+}
+
+pub fn lists() -> Vec<List> {
+    let list = |orders: &[u8], masks: &[u8]| List {
+        orders: orders.to_vec(),
+        masks: masks.to_vec(),
+    };
+    vec![
+        list(&[], &[]),
+        list(&[], &[0]),
+        list(&[0, 1, 2], &[2]),
+        list(&[0, 1, 2], &[0]),
+        list(&[0, 1, 2], &[1]),
+        list(&[0, 1, 2], &[4]),
+        list(&[0, 1, 2], &[255]),
+        list(&[0, 1, 2, 0, 1, 2], &[2, 2]),
+        list(&[1, 0, 2], &[2]),
+        list(&[0, 2, 1, 3], &[0]),
+        list(&[0, 2, 1, 3, 0, 1, 2, 3], &[6, 4]),
+        list(&[0, 2, 1, 3, 0, 1, 2], &[6, 4]),
+        list(&[0, 2, 1, 3, 0, 1, 2, 3], &[6, 0]),
+        list(&[0, 2, 1, 255, 0, 2, 1, 3, 0, 2, 1, 3], &[6, 4, 4]),
+        list(&[0, 3, 2, 1, 4], &[14]),
+        list(&[0, 4, 3, 2, 1, 5], &[30]),
+        list(&[0, 4, 3, 2, 1, 5], &[32]),
+        list(&[0; 383 * 3], &[2; 383]),
+        list(&[0; 384 * 4], &[2; 384]),
+        list(&[255; 600], &[255; 100]),
     ]
 }

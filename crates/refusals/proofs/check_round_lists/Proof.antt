@@ -1,7 +1,7 @@
 -- `refusals::check_round_lists` meets its contract. Assumes nothing.
 use mathlib.Core.Path.{sym, ap, _∙_}
 use borrow.Author.Tests.{lt-ltb, le-ltb, ne-eqb, eq-eqb}
-use Rattle.refusals.proofs.Tests.{rounds-short}
+use Rattle.refusal_tests.proofs.Tests.{rounds-short}
 use borrow.Author.Needs.{needs}
 use Rattle.refusals.proofs.check_round_lists.Statement.{statement}
 use Rattle.refusals.proofs.check_round_lists.Tie as tie

@@ -7,7 +7,9 @@
 use beside::random::Random;
 use beside::trial::{judge, Drawn, Family, Reply, Source, Trial};
 use beside::watch::Watch;
-use beside::{checks, ends, every, first_move, moves, nearby, pairs, parts, polish, run, text};
+use beside::{
+    checks, ends, every, first_move, lists, moves, nearby, pairs, parts, polish, run, text,
+};
 use std::collections::BTreeMap;
 use std::env;
 use std::process::ExitCode;
@@ -135,6 +137,7 @@ fn families() -> Vec<Family> {
     all.extend(parts::FAMILIES);
     all.extend(ends::FAMILIES);
     all.extend(first_move::FAMILIES);
+    all.extend(lists::FAMILIES);
     all.extend(every::FAMILIES);
     match text::program() {
         Ok(_) => all.extend(text::FAMILIES),

@@ -5,16 +5,17 @@ use crate::cases::ends::Case;
 use crate::oracle::polish::Counts;
 
 /// The order of the middle segments, from 1, and which of them are reversed.
-type Pattern = (Vec<usize>, Vec<bool>);
+pub type Pattern = (Vec<usize>, Vec<bool>);
 
-pub fn polish(case: &Case) -> (Counts, Vec<u32>) {
+/// With these patterns in their order.
+pub fn polish(case: &Case, patterns: &[Pattern]) -> (Counts, Vec<u32>) {
     let mut route = case.closed.route.clone();
     let mut counts = Counts {
         spent: false,
         examined: 0,
         accepted: 0,
     };
-    while let Some(better) = improved(case, &route, &mut counts) {
+    while let Some(better) = improved(case, patterns, &route, &mut counts) {
         counts.accepted += 1;
         route = better;
     }
@@ -22,10 +23,14 @@ pub fn polish(case: &Case) -> (Counts, Vec<u32>) {
 }
 
 /// The first candidate that improves the route, if one is examined.
-fn improved(case: &Case, route: &[u32], counts: &mut Counts) -> Option<Vec<u32>> {
-    let patterns = patterns(case.closed.k);
+fn improved(
+    case: &Case,
+    patterns: &[Pattern],
+    route: &[u32],
+    counts: &mut Counts,
+) -> Option<Vec<u32>> {
     for cuts in cut_sets(case.closed.k, 0, route.len()) {
-        for pattern in &patterns {
+        for pattern in patterns {
             if counts.examined == case.closed.allowance {
                 counts.spent = true;
                 return None;
@@ -74,7 +79,7 @@ pub fn cut_sets(k: usize, from: usize, n: usize) -> Vec<Vec<usize>> {
 }
 
 /// Orders in dictionary order, and for each the masks from 0 up, bit i for segment i; but not the one that changes nothing.
-fn patterns(k: usize) -> Vec<Pattern> {
+pub fn all_patterns(k: usize) -> Vec<Pattern> {
     let middle: Vec<usize> = (1..k).collect();
     let mut all = Vec::new();
     for order in orders(&middle) {

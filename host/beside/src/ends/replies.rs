@@ -2,61 +2,50 @@
 
 use super::plain;
 use crate::cases::ends::Case;
-use crate::lent::{bits, filled, Lent};
-use crate::trial::{put, Reply, Trial, NO_ANSWER};
-use crate::{ffi, oracle};
+use crate::oracle::polish::{polish, Counts};
+use crate::trial::{Reply, Trial, NO_ANSWER};
+use crate::{ffi, one_route};
 
 /// Calls that are answered by the plain scan too: up to so many stops.
 const SHORT: usize = 6;
 
+impl Case {
+    fn polished(&self) -> Result<(Counts, Vec<u32>), u32> {
+        let mut route = self.closed.route.clone();
+        let counts = polish(&self.as_closed(), self.closed.allowance, &mut route);
+        let by_rust = (counts, route);
+        if by_rust.1.len() <= SHORT && self.by_the_documents() != by_rust {
+            return Err(NO_ANSWER);
+        }
+        Ok(by_rust)
+    }
+
+    fn by_the_documents(&self) -> (Counts, Vec<u32>) {
+        plain::polish(self, &plain::all_patterns(self.closed.k))
+    }
+}
+
 impl Trial for Case {
     fn expected(&self) -> Reply {
-        let mut code = self.refusal();
-        let case = &self.closed;
-        let mut result = filled(case.room);
-        let mut route = case.route.clone();
-        if code == 0 {
-            let counts = oracle::polish::polish(&self.as_closed(), case.allowance, &mut route);
-            if route.len() <= SHORT && plain::polish(self) != (counts, route.clone()) {
-                code = NO_ANSWER;
-            }
-            let numbers = [
-                u64::from(counts.spent),
-                counts.examined,
-                counts.accepted,
-                self.length(&case.route),
-                self.length(&route),
-                case.tables.late_position(case.depot, &route),
-            ];
-            put(&mut result, &numbers);
-        }
-        Reply::new(code, [("route", bits(&route)), ("result", result)])
+        one_route::expected(&self.closed, self.end, self.refusal(), || self.polished())
     }
 
     fn given(&self) -> Result<Reply, String> {
         let case = &self.closed;
-        let room = filled(case.room);
-        let mut legs = Lent::new("legs", &case.tables.legs);
-        let mut latest = Lent::new("deadlines", &case.tables.latest);
-        let mut service = Lent::new("service", &case.tables.service);
-        let mut route = Lent::new("route", &case.route);
-        let mut result = Lent::new("result", &room);
-        let code = ffi::polish_route_to_end(
-            case.k,
-            case.allowance,
-            case.tables.locations,
-            legs.slice(),
-            latest.slice(),
-            service.slice(),
-            case.depot,
-            self.end,
-            route.slice(),
-            result.slice(),
-        );
-        legs.kept()?;
-        latest.kept()?;
-        service.kept()?;
-        Ok(Reply::new(code, [route.written()?, result.written()?]))
+        one_route::given(case, |lent| {
+            ffi::polish_route_to_end(
+                case.k,
+                case.allowance,
+                case.tables.locations,
+                lent.legs,
+                lent.latest,
+                lent.service,
+                case.depot,
+                self.end,
+                lent.route,
+                lent.result,
+            )
+        })
     }
 
     fn kind(&self, expected: &Reply) -> &'static str {

@@ -3,15 +3,15 @@
 
 use super::plain::{pair_loop, Paired};
 use crate::cases::pairs::Case;
-use crate::cases::polish::Case as Asked;
 use crate::cases::run::{NOT_REACHED, SHORT, SPENT};
-use crate::lent::{bits, filled, Lent};
-use crate::trial::{put, Reply, Trial, NO_ANSWER};
-use crate::{ffi, oracle};
+use crate::oracle::polish::Counts;
+use crate::oracle::run::run_by_rust;
+use crate::trial::{Reply, Trial, NO_ANSWER};
+use crate::{ffi, one_route};
 
 /// Whether the Rust's run agrees.
 fn agrees(case: &Case, paired: &Paired) -> bool {
-    let (stops, numbers) = oracle::run::run_by_rust(&case.as_run(), case.asked().allowance);
+    let (stops, numbers) = run_by_rust(&case.as_run(), case.asked().allowance);
     let [state, examined, accepted, _] = numbers[..] else {
         return false;
     };
@@ -23,57 +23,40 @@ fn agrees(case: &Case, paired: &Paired) -> bool {
     counted && spent == paired.spent && (spent || stops == paired.route)
 }
 
-fn numbers(asked: &Asked, paired: &Paired) -> [u64; 6] {
-    let length = |route: &[u32]| asked.tables.length(asked.depot, route);
-    [
-        u64::from(paired.spent),
-        paired.examined,
-        paired.accepted,
-        length(&asked.route),
-        length(&paired.route),
-        asked.tables.late_position(asked.depot, &paired.route),
-    ]
+/// As document 01 has it, with pairs for candidates.
+fn paired(case: &Case) -> Result<(Counts, Vec<u32>), u32> {
+    let paired = pair_loop(case, case.asked().allowance);
+    if !agrees(case, &paired) {
+        return Err(NO_ANSWER);
+    }
+    let counts = Counts {
+        spent: paired.spent,
+        examined: paired.examined,
+        accepted: paired.accepted,
+    };
+    Ok((counts, paired.route))
 }
 
 impl Trial for Case {
     fn expected(&self) -> Reply {
         let asked = self.asked();
-        let mut code = asked.refusal();
-        let mut result = filled(asked.room);
-        let mut route = asked.route.clone();
-        if code == 0 {
-            let paired = pair_loop(self, asked.allowance);
-            put(&mut result, &numbers(asked, &paired));
-            if !agrees(self, &paired) {
-                code = NO_ANSWER;
-            }
-            route = paired.route;
-        }
-        Reply::new(code, [("route", bits(&route)), ("result", result)])
+        one_route::expected(asked, asked.depot, asked.refusal(), || paired(self))
     }
 
     fn given(&self) -> Result<Reply, String> {
         let asked = self.asked();
-        let room = filled(asked.room);
-        let mut legs = Lent::new("legs", &asked.tables.legs);
-        let mut latest = Lent::new("deadlines", &asked.tables.latest);
-        let mut service = Lent::new("service", &asked.tables.service);
-        let mut route = Lent::new("route", &asked.route);
-        let mut result = Lent::new("result", &room);
-        let code = ffi::pair_loop(
-            asked.allowance,
-            asked.tables.locations,
-            legs.slice(),
-            latest.slice(),
-            service.slice(),
-            asked.depot,
-            route.slice(),
-            result.slice(),
-        );
-        legs.kept()?;
-        latest.kept()?;
-        service.kept()?;
-        Ok(Reply::new(code, [route.written()?, result.written()?]))
+        one_route::given(asked, |lent| {
+            ffi::pair_loop(
+                asked.allowance,
+                asked.tables.locations,
+                lent.legs,
+                lent.latest,
+                lent.service,
+                asked.depot,
+                lent.route,
+                lent.result,
+            )
+        })
     }
 
     /// As the Rust's run hands it back, or otherwise.

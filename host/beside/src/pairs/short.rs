@@ -2,7 +2,7 @@
 
 use crate::cases::pairs::Case;
 use crate::cases::polish::{Case as Asked, RESULT_PLACES};
-use crate::draw::{lists, with_times};
+use crate::draw::{lists, routes, with_times};
 use crate::random::Random;
 use crate::tables::Tables;
 use crate::trial::Visit;
@@ -57,12 +57,4 @@ fn case(tables: &Tables, depot: u32, route: &[u32], allowance: u64) -> Case {
         route: route.to_vec(),
         room: RESULT_PLACES,
     })
-}
-
-/// Every list of up to `longest` stops.
-fn routes(locations: u32, longest: usize) -> Vec<Vec<u32>> {
-    let stops: Vec<u32> = (0..locations).collect();
-    (0..=longest)
-        .flat_map(|length| lists(&stops, length))
-        .collect()
 }

@@ -1,7 +1,7 @@
 //! Every case of a few small kinds: two locations and up to four stops, three locations and up to three stops.
 
 use crate::cases::polish::{Case, RESULT_PLACES};
-use crate::draw::{lists, with_times};
+use crate::draw::{lists, routes, with_times};
 use crate::random::Random;
 use crate::tables::Tables;
 use crate::trial::Visit;
@@ -66,12 +66,4 @@ fn each_call(tables: &Tables, depot: u32, route: &[u32], allowances: &[u64], vis
             }));
         }
     }
-}
-
-/// Every list of up to `longest` stops.
-fn routes(locations: u32, longest: usize) -> Vec<Vec<u32>> {
-    let stops: Vec<u32> = (0..locations).collect();
-    (0..=longest)
-        .flat_map(|length| lists(&stops, length))
-        .collect()
 }

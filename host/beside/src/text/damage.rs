@@ -29,13 +29,18 @@ const NUMBERS: [&str; 14] = [
 ];
 
 pub fn draw(random: &mut Random, index: u64) -> Drawn {
-    let mut text = good(random);
+    let text = good(random);
+    (Box::new(Text(damaged_text(random, text, index))), None)
+}
+
+/// A text damaged once or twice.
+pub fn damaged_text(random: &mut Random, mut text: Vec<u8>, index: u64) -> Vec<u8> {
     damage(random, &mut text, index % KINDS);
     if random.one_in(4) {
         let kind = random.below(KINDS);
         damage(random, &mut text, kind);
     }
-    (Box::new(Text(text)), None)
+    text
 }
 
 fn damage(random: &mut Random, text: &mut Vec<u8>, kind: u64) {

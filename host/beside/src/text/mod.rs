@@ -1,9 +1,9 @@
 //! The text program, from bytes to bytes: the program as it is built, beside a reader of its own over the unchanged Rust.
 
 mod case;
-mod damage;
+pub mod damage;
 mod generate;
-mod reader;
+pub mod reader;
 
 use crate::trial::{Family, Source};
 use std::env;

@@ -4,9 +4,9 @@
 use crate::cases::ends::Case;
 use crate::cases::polish::{self, RESULT_PLACES};
 use crate::oracle::polish::{polish, Counts};
+use crate::rules::MOST_BYTES;
 use crate::tables::{listed, Tables};
 
-const MOST_BYTES: usize = 60_000;
 const MOST_LOCATIONS: usize = 96;
 
 /// What the program writes for a text.
@@ -91,7 +91,7 @@ fn read(text: &[u8]) -> Option<Case> {
     Some(Case { closed, end })
 }
 
-fn value<'t>(line: Option<&'t str>, name: &str) -> Option<&'t str> {
+pub fn value<'t>(line: Option<&'t str>, name: &str) -> Option<&'t str> {
     line?.strip_prefix(name)?.strip_prefix('=')
 }
 
@@ -104,7 +104,7 @@ fn numbers(words: &str) -> Option<Vec<u32>> {
 }
 
 /// 1 to 10 digits, no leading zero but in 0 itself, at most 4294967295.
-fn number(word: &str) -> Option<u32> {
+pub fn number(word: &str) -> Option<u32> {
     let digits = word.bytes().all(|byte| byte.is_ascii_digit());
     let leading = word.len() > 1 && word.starts_with('0');
     if !digits || leading || !(1..=10).contains(&word.len()) {

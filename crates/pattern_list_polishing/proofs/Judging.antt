@@ -1,0 +1,73 @@
+-- The rules of polishing with a list: judged in parts, what they establish, and where the list is that of all patterns. Assumes nothing.
+use mathlib.Core.Path.{_≡_, refl, sym, ap, ap₂, _∙_}
+use mathlib.Core.Bool.{Bool, true, false}
+use mathlib.Core.List.{List, _++_}
+use Prim.Native.Nat.{ℕ, suc, _*_, _≤_}
+use lib.ListN.{length}
+use borrow.Author.Tests.{eq-eqb}
+use Rattle.theory.specs.Moves.{patterns}
+use Rattle.theory.specs.Tables.{pattern-rows}
+use Rattle.theory.specs.Question.{Question}
+use Rattle.theory.specs.Refusals.{Rule, number, either, refusal, cut-count, trip-rules, room}
+use Rattle.theory.proofs.Refusals.{Passes, known, either-zero, either-assoc}
+use Rattle.theory.proofs.LastRule.{early}
+use Rattle.theory.proofs.Judged.{cut-count-fine}
+use Rattle.theory.proofs.Rows.{length-rows}
+use Rattle.theory.proofs.Taken.{taken-passes}
+use Rattle.polishing.specs.Loop.{PolishableRows}
+use Rattle.polishing.proofs.Judged.{timed-fine}
+use Rattle.refusal_rules.specs.Rules.{polish-to-end-rules}
+use Rattle.refusal_rules.proofs.Parts.{then-room, both-pass, pass-with-room}
+use Rattle.pattern_lists.specs.Lists.{list-rules, Counted}
+use Rattle.pattern_lists.proofs.Judging.{some-rows, as-many}
+use Rattle.pattern_lists.proofs.Lists.{judged-rows, full-list}
+use Rattle.pattern_list_polishing.specs.Polishing.{polish-list-rules}
+
+module _ (q : Question) (orders masks : List ℕ) (lent : ℕ) where
+  abbrev trip : List Rule
+  trip = trip-rules (q .trip) (q .route)
+
+  -- The list, and then the rest.
+  list-then : either (refusal (list-rules (q .k) orders masks)) (refusal trip) ≡ refusal (list-rules (q .k) orders masks ++ trip)
+  unfolding refusal
+  list-then = simp (either-assoc, either-zero)
+
+  pub polish-parts : (a b c : ℕ) → a ≡ refusal (list-rules (q .k) orders masks) → b ≡ refusal trip → c ≡ number (room 6 lent) → either a (either b c) ≡ refusal (polish-list-rules q orders masks lent)
+  unfolding early
+  polish-parts a b c p r s =
+      sym (either-assoc a b c) ∙ then-room (list-rules (q .k) orders masks ++ trip) refl 6 lent (either a b) c (ap₂ either p r ∙ list-then) s
+
+  module _ (number : ℕ) (judged : number ≡ refusal (polish-list-rules q orders masks lent)) (h : number ≡ 0) where
+    passes : Passes (list-rules (q .k) orders masks ++ trip) × (6 ≤ lent)
+    unfolding known
+    passes = pass-with-room (list-rules (q .k) orders masks ++ trip) 6 lent (taken-passes (polish-list-rules q orders masks lent) number judged refl h)
+
+    pub space : 6 ≤ lent
+    space = passes .1
+
+    pub polishable : PolishableRows (q .k) (q .trip) orders masks (q .route)
+    polishable =
+        let p = both-pass (list-rules (q .k) orders masks) trip (passes .0) in
+        let l = p .0 in
+        let c = cut-count-fine (q .k) (l .0) in
+        let r = some-rows (length masks) (l .1 .0) in
+        let counted : Counted (q .k) orders masks = record { least = c .0; most = c .1; some-row = r .0; few = r .1; long = as-many (q .k) orders masks (l .1 .1 .0) } in
+        record { least = c .0; most = c .1; timed = timed-fine (q .trip) (q .route) (p .1); patterns = judged-rows (q .k) orders masks counted (l .1 .1 .1 .0); not-empty = r .0 }
+
+  -- ---- "a list of all patterns in index order gives the built-in replies"
+
+  module _ (all : pattern-rows (q .k) orders masks ≡ patterns (q .k)) (long : length orders ≡ length masks * suc (q .k)) where
+    many : length masks ≡ length (patterns (q .k))
+    many = sym (length-rows (q .k) orders masks) ∙ ap length all
+
+    -- Is refused for the same.
+    pub full-rules : refusal (polish-list-rules q orders masks lent) ≡ refusal (polish-to-end-rules q lent)
+    unfolding refusal either
+    full-rules = by (cut-count (q .k) .1) refl
+      where
+        by : (b : Bool) → cut-count (q .k) .1 ≡ b → refusal (polish-list-rules q orders masks lent) ≡ refusal (polish-to-end-rules q lent)
+        by true e = rw e
+        by false e =
+            let c = cut-count-fine (q .k) e in
+            let f = full-list (q .k) (c .0) (c .1) in
+            rw (all, eq-eqb (length orders) (length masks * suc (q .k)) long, many, e, f .0, f .1, f .2)

@@ -1,0 +1,32 @@
+-- What polishing with a lent list of patterns promises: "takes its k and scans its rows in file order. The rival is then limited to those rows, and the
+-- candidate bound counts them."
+use mathlib.Core.Path.{_≡_}
+use mathlib.Core.List.{List, _++_}
+use Prim.Native.Nat.{ℕ}
+use lib.ListN.{length}
+use Rattle.theory.specs.Moves.{Pattern}
+use Rattle.theory.specs.Scan.{Reply}
+use Rattle.theory.specs.Polish.{polish-with, Demand3}
+use Rattle.theory.specs.Tables.{problem, pattern-rows}
+use Rattle.theory.specs.Question.{Question}
+use Rattle.theory.specs.Refusals.{Rule, trip-rules}
+use Rattle.theory.specs.Answers.{handed-back}
+use Rattle.polish_numbers.specs.Replied.{Replied}
+use Rattle.refusal_rules.specs.Rules.{with-room}
+use Rattle.pattern_lists.specs.Lists.{list-rules}
+
+-- Document 01's scan of a question, with the patterns listed in the order of the list.
+abbrev pub asked-with : List Pattern → Question → Reply (List ℕ)
+asked-with ps q = polish-with (problem (q .trip)) ps (q .k) (q .allowance) (q .route)
+
+-- Judged by some rules: route and result are those of the scan with the patterns listed; and demand 3 with them, of what is handed back, whenever it returns 0.
+pub record PolishedWith (rules : List Rule) (ps : List Pattern) (q : Question) (result : List ℕ) (answer : ℕ) (route′ result′ : List ℕ) : Type 0 where
+  pub replied : Replied rules (problem (q .trip)) (q .route) (asked-with ps q) result answer route′ result′
+  pub demand3 : answer ≡ 0 → Demand3 (problem (q .trip)) ps (q .k) (q .allowance) (q .route) (handed-back result′ route′)
+
+abbrev pub polish-list-rules : Question → (orders masks : List ℕ) → ℕ → List Rule
+polish-list-rules q orders masks lent = with-room (list-rules (q .k) orders masks ++ trip-rules (q .trip) (q .route)) 6 lent
+
+-- With the rows lent.
+abbrev pub PolishWithPatternsReply : Question → (orders masks result : List ℕ) → ℕ → List ℕ → List ℕ → Type 0
+PolishWithPatternsReply q orders masks result = PolishedWith (polish-list-rules q orders masks (length result)) (pattern-rows (q .k) orders masks) q result
