@@ -12,7 +12,7 @@ use lib.Pow.{shl-exact, pow-mono}
 use lib.ListN.{length, getD, set, take, length-set}
 use lib.Seq.{take-suc, take-all, length-take-le, getD-set-same, getD-set-other}
 use borrow.Author.Tests.{eq-eqb, ne-eqb}
-use Rattle.precedence.specs.Pairs.{pairs-of}
+use Rattle.theory.specs.Pairs.{pairs-of}
 use Rattle.precedence.specs.Words.{marks, Members, PairPuttable, PairPut}
 use Rattle.precedence.proofs.Words.{marks-below, marks-more}
 

@@ -9,7 +9,7 @@ use lib.Dec.{eqb}
 use lib.Bits.{bitAnd, bitOr}
 use lib.ListN.{length, getD, take, drop}
 use lib.Seq.{slice, take-suc, drop-append-le, length-take-le}
-use Rattle.precedence.specs.Pairs.{visited, pair-kept}
+use Rattle.theory.specs.Pairs.{visited, pair-kept}
 use Rattle.precedence.specs.Words.{marks, Members, PartMarks}
 use Rattle.precedence.proofs.Words.{marks-same, marks-or, marks-and, no-marks}
 use Rattle.precedence.proofs.Kept.{visited-append, visited-one, visited-reverse, kept-append}

@@ -10,7 +10,7 @@ use lib.Bits.{bitAnd, bitOr}
 use lib.ListN.{length, getD, take, drop, take-append-drop}
 use lib.Seq.{slice, slice-cons, slice-empty, drop-cons, drop-length, take-length}
 use borrow.Author.Tests.{le-leb, lt-leb, eq-eqb, ne-eqb}
-use Rattle.precedence.specs.Pairs.{visited, pair-kept, all, pairs-kept, front-kept}
+use Rattle.theory.specs.Pairs.{visited, pair-kept, all, pairs-kept, front-kept}
 use Rattle.precedence.specs.Words.{marks, Members, FrontReach}
 use Rattle.precedence.proofs.Words.{marks-same, marks-or, no-marks, all-same, all-and, all-true, disjoint-is}
 use Rattle.precedence.proofs.Kept.{visited-append, no-firsts}

@@ -4,7 +4,7 @@ use mathlib.Core.Bool.{Bool, true, false, not, _&&_, _||_}
 use mathlib.Core.List.{List, [], _∷_, _++_, reverse, reverse-cons}
 use Prim.Native.Nat.{ℕ, zero, suc, _+_, _<_, _≤_}
 use lib.Dec.{eqb}
-use Rattle.precedence.specs.Pairs.{visited, pair-kept, all, pairs-kept, front-kept, back-kept}
+use Rattle.theory.specs.Pairs.{visited, pair-kept, all, pairs-kept, front-kept, back-kept}
 use Rattle.precedence.proofs.Words.{all-same, all-and}
 
 or-assoc : (p q r : Bool) → ((p || q) || r) ≡ (p || (q || r))

@@ -11,7 +11,7 @@ use lib.Bits.{bitAnd, bitOr}
 use lib.ListN.{length, getD, take, drop}
 use lib.Seq.{slice, slice-empty, take-suc, take-length}
 use borrow.Author.Tests.{le-leb, lt-leb}
-use Rattle.precedence.specs.Pairs.{visited, pair-kept, all, pairs-kept, back-kept}
+use Rattle.theory.specs.Pairs.{visited, pair-kept, all, pairs-kept, back-kept}
 use Rattle.precedence.specs.Words.{marks, Members, BackSince}
 use Rattle.precedence.proofs.Words.{marks-same, marks-or, no-marks, all-same, all-and, all-true, disjoint-is}
 use Rattle.precedence.proofs.Kept.{visited-append, visited-one, kept-append, no-firsts}

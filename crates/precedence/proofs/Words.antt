@@ -9,7 +9,7 @@ use lib.Dec.{eqb}
 use lib.ListN.{length}
 use lib.Bits.{bitAnd, bitOr, and-block, or-block}
 use borrow.Author.Tests.{ne-eqb}
-use Rattle.precedence.specs.Pairs.{all}
+use Rattle.theory.specs.Pairs.{all}
 use Rattle.precedence.specs.Words.{marks}
 
 -- ---- the same pairs

@@ -6,7 +6,7 @@ use Prim.Native.Nat.{ℕ, _+_, _*_, _%_, _^_, _≤_, _<_}
 use lib.Dec.{leb, eqb}
 use lib.ListN.{length, getD, take, drop}
 use lib.Seq.{slice}
-use Rattle.precedence.specs.Pairs.{visited, pair-kept, pairs-kept, front-kept, back-kept}
+use Rattle.theory.specs.Pairs.{visited, pair-kept, pairs-kept, front-kept, back-kept}
 use Rattle.precedence.specs.declared.Marks.{Marks}
 
 -- The pairs that pass a test.

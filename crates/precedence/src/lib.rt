@@ -4,8 +4,8 @@ ghost use mathlib.Core.Path.{_≡_};
 ghost use Prim.Native.Nat.{_+_, _≤_};
 ghost use lib.Dec.{eqb};
 ghost use lib.ListN.{length, getD};
-ghost use Rattle.theory.specs.Refusals.{any, number};
-ghost use Rattle.precedence.specs.Pairs.{pairs-of, pair-list};
+ghost use Rattle.theory.specs.Refusals.{any, number, pair-list};
+ghost use Rattle.theory.specs.Pairs.{pairs-of};
 ghost use Rattle.precedence.specs.Words.{Members, Fillable, PairPuttable, PairPut, MemberOf, Readable, StopTaken, Growing, MarksGrown, Placed, FrontFound, BackFound, KeepsFound};
 
 // ---- 29

@@ -16,7 +16,7 @@ use Rattle.costs.proofs.Segments.{segment-is, segment-filled, cuts-parted, firs
 use Rattle.scan_joints.specs.States.{state-count, placed-in}
 use Rattle.scan_joints.proofs.States.{part-at, halves}
 use Rattle.precedence.specs.declared.Marks.{Marks}
-use Rattle.precedence.specs.Pairs.{visited, pair-kept}
+use Rattle.theory.specs.Pairs.{visited, pair-kept}
 use Rattle.precedence.specs.Words.{marks, Members, PartMarks, marks-of, MarksGrown}
 use Rattle.precedence.proofs.Words.{marks-same}
 use Rattle.precedence.proofs.Kept.{visited-reverse}

@@ -15,7 +15,7 @@ use Rattle.theory.proofs.Orders.{in-range}
 use Rattle.costs.proofs.Orders.{middle-is}
 use Rattle.scan_joints.specs.States.{state-count, state-of, placed-in}
 use Rattle.scan_joints.proofs.States.{state-below, placed-states}
-use Rattle.precedence.specs.Pairs.{visited, pairs-kept, front-kept, back-kept}
+use Rattle.theory.specs.Pairs.{visited, pairs-kept, front-kept, back-kept}
 use Rattle.precedence.specs.Words.{FrontReach, BackSince}
 use Rattle.precedence.proofs.Kept.{rejoined-kept}
 use Rattle.precedence_marks.specs.Held.{in-order, SegmentsMarked}

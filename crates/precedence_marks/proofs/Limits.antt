@@ -6,7 +6,7 @@ use mathlib.Core.List.{List, []}
 use Prim.Native.Nat.{ℕ, _≤_, _<_}
 use native.Mathlib.Omega.{arith}
 use lib.ListN.{length}
-use Rattle.precedence.specs.Pairs.{all, pairs-kept}
+use Rattle.theory.specs.Pairs.{all, pairs-kept}
 use Rattle.precedence.specs.Words.{Readable, FrontReach, BackSince, FrontFound, BackFound}
 use Rattle.precedence_marks.specs.Held.{PairsLent, RouteTellable, HeadLimit, TailSince}
 use Rattle.precedence_marks.proofs.Judged.{kept-reach, kept-since}

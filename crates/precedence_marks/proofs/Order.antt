@@ -10,7 +10,7 @@ use lib.Dec.{eqb}
 use lib.ListN.{length, getD}
 use lib.Seq.{slice, slice-cons, slice-empty}
 use borrow.Author.Tests.{eq-eqb, ne-eqb}
-use Rattle.precedence.specs.Pairs.{visited, pair-kept, all, pairs-kept, back-kept}
+use Rattle.theory.specs.Pairs.{visited, pair-kept, all, pairs-kept, back-kept}
 use Rattle.precedence.specs.Words.{marks}
 use Rattle.precedence.proofs.Words.{marks-same, marks-or, marks-and, no-marks, none-marked, all-same, all-and}
 use Rattle.precedence.proofs.Kept.{visited-append, kept-append}

@@ -77,7 +77,7 @@ pub clocked : {T : Trip} {route : List ℕ} → Timed T route → Clocked (T .ta
 clocked t = record { followable = followed (t .measurable); times = t .times }
 
 -- A closed tour.
-pub closed : {T : Tables} {depot : ℕ} {route : List ℕ} → Clocked T depot route → Timed (record { tables = T; depot = depot; end = depot }) route
+pub closed : {T : Tables} {depot : ℕ} {route : List ℕ} → Clocked T depot route → Timed (record { tables = T; depot = depot; end = depot; pairs = [] }) route
 closed c = record { measurable = to-end (c .followable) (c .followable .depot-known); times = c .times }
 
 pub times-fine : (T : Tables) → deadline-list (T .locations) (T .latest) .1 ≡ false → service-list (T .locations) (T .service) .1 ≡ false → Times T

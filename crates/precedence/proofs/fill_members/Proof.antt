@@ -3,7 +3,7 @@ use mathlib.Core.Path.{_≡_, sym, _∙_}
 use Prim.Native.Nat.{_+_, _-_, _*_, _/_, _≤_, _<_}
 use native.Mathlib.Omega.{arith}
 use lib.ListN.{length, getD, take}
-use Rattle.precedence.specs.Pairs.{pairs-of}
+use Rattle.theory.specs.Pairs.{pairs-of}
 use Rattle.precedence.specs.Words.{Members}
 use Rattle.precedence.proofs.Filling.{pairs-many, pair-at, no-members, below-bit, members-more, members-all}
 use borrow.Author.Needs.{needs}

@@ -2,10 +2,9 @@
 use mathlib.Core.Path.{_≡_}
 use mathlib.Core.Bool.{Bool, true, false, not, _&&_, _||_}
 use mathlib.Core.List.{List, [], _∷_}
-use Prim.Native.Nat.{ℕ, _%_, _<_}
-use lib.Dec.{leb, ltb, eqb}
+use Prim.Native.Nat.{ℕ, _<_}
+use lib.Dec.{eqb}
 use lib.ListN.{length, getD}
-use Rattle.theory.specs.Refusals.{Rule, any}
 
 -- A lent list: the members of the pairs end to end.
 unfoldable pub pairs-of : List ℕ → List (ℕ × ℕ)
@@ -50,12 +49,3 @@ front-kept ps h u = all (λ p. pair-kept p h && not (visited (p .1) h && visited
 unfoldable pub back-kept : List (ℕ × ℕ) → (g t : List ℕ) → Bool
 unfolding all pair-kept visited
 back-kept ps g t = all (λ p. pair-kept p t && not (visited (p .1) g && visited (p .0) t)) ps
-
--- ---- 29
-
--- "29, more than 64 pairs, a member without its partner or not below the locations, or both members equal."
-abbrev pub pair-list : ℕ → List ℕ → Rule
-pair-list locations pairs = (
-  29,
-  ltb 128 (length pairs) || not (eqb (length pairs % 2) 0) || any (λ x. leb locations x) pairs || any (λ p. eqb (p .0) (p .1)) (pairs-of pairs),
-)

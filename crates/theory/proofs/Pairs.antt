@@ -7,7 +7,7 @@ use native.Mathlib.Omega.{arith}
 use lib.Dec.{eqb}
 use lib.ListN.{length, getD}
 use borrow.Author.Tests.{eqb-true, eq-eqb}
-use Rattle.precedence.specs.Pairs.{visited, pair-kept, all, pairs-kept, KeepsPairs}
+use Rattle.theory.specs.Pairs.{visited, pair-kept, all, pairs-kept, KeepsPairs}
 
 and-both : (a b : Bool) → (a && b) ≡ true → (a ≡ true) × (b ≡ true)
 and-both true b e = (refl, e)
