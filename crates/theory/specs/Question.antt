@@ -1,5 +1,5 @@
 -- A question to polishing, as the entry's parameters and the lines of a text hold it.
-use mathlib.Core.List.{List, _∷_}
+use mathlib.Core.List.{List, [], _∷_}
 use Prim.Native.Nat.{ℕ}
 use Rattle.theory.specs.Scan.{Reply}
 use Rattle.theory.specs.Polish.{polish}
