@@ -1,6 +1,6 @@
 // Polishing with a list of patterns that the caller lends, judged. No entry: crate mittenschist hands it on.
 ghost use mathlib.Core.Path.{_≡_};
-ghost use mathlib.Core.List.{_++_};
+ghost use mathlib.Core.List.{[], _++_};
 ghost use Rattle.theory.specs.Tables.{trip};
 ghost use Rattle.theory.specs.Question.{question};
 ghost use Rattle.theory.specs.Refusals.{refusal, trip-rules};
@@ -22,7 +22,7 @@ fn polish_refusal(
     route: &[u32],
     lent: usize,
 ) -> u32
-    ensures { λ r. ⌜ r ≡ refusal (with-room (list-rules k (now (orders .entry)) (now (masks .entry)) ++ trip-rules (trip locations (now (legs .entry)) (now (latest .entry)) (now (service .entry)) depot end) (now (route .entry))) 6 lent) ⌝ }
+    ensures { λ r. ⌜ r ≡ refusal (with-room (list-rules k (now (orders .entry)) (now (masks .entry)) ++ trip-rules (trip locations (now (legs .entry)) (now (latest .entry)) (now (service .entry)) depot end []) (now (route .entry))) 6 lent) ⌝ }
 {
     let bad_list = pattern_lists::list_refusal(k, orders, masks);
     let bad_trip = refusals::check_trip(locations, legs, latest, service, depot, end, route);

@@ -3,6 +3,7 @@ use scan_joints::ROW_BYTES;
 use scan_loop::Scanned;
 use theory::Counts;
 use theory::Polished;
+ghost use mathlib.Core.List.{[]};
 ghost use Rattle.theory.specs.Moves.{patterns};
 ghost use Rattle.theory.specs.Tables.{problem, pattern-rows, trip};
 ghost use Rattle.theory.specs.Answers.{Polishes};
@@ -22,8 +23,8 @@ fn scanned_with(
     masks: &[u8],
     route: &mut [u32],
 ) -> Scanned
-    requires { ⌜ PolishableRows k (trip locations (now legs) (now latest) (now service) depot end) (now orders) (now masks) (now route) ⌝ }
-    ensures { λ r. ⌜ ScannedWith (problem (trip locations (now (legs .entry)) (now (latest .entry)) (now (service .entry)) depot end)) (pattern-rows k (now (orders .entry)) (now (masks .entry))) k allowance (now (route .entry)) r (now (route .exit)) ⌝ }
+    requires { ⌜ PolishableRows k (trip locations (now legs) (now latest) (now service) depot end []) (now orders) (now masks) (now route) ⌝ }
+    ensures { λ r. ⌜ ScannedWith (problem (trip locations (now (legs .entry)) (now (latest .entry)) (now (service .entry)) depot end [])) (pattern-rows k (now (orders .entry)) (now (masks .entry))) k allowance (now (route .entry)) r (now (route .exit)) ⌝ }
 {
     if route.len() + 1 < k {
         return Scanned {
@@ -65,8 +66,8 @@ pub fn polish_rows(
     masks: &[u8],
     route: &mut [u32],
 ) -> Polished
-    requires { ⌜ PolishableRows k (trip locations (now legs) (now latest) (now service) depot end) (now orders) (now masks) (now route) ⌝ }
-    ensures { λ r. ⌜ Polishes (problem (trip locations (now (legs .entry)) (now (latest .entry)) (now (service .entry)) depot end)) (pattern-rows k (now (orders .entry)) (now (masks .entry))) k allowance (now (route .entry)) r (now (route .exit)) ⌝ }
+    requires { ⌜ PolishableRows k (trip locations (now legs) (now latest) (now service) depot end []) (now orders) (now masks) (now route) ⌝ }
+    ensures { λ r. ⌜ Polishes (problem (trip locations (now (legs .entry)) (now (latest .entry)) (now (service .entry)) depot end [])) (pattern-rows k (now (orders .entry)) (now (masks .entry))) k allowance (now (route .entry)) r (now (route .exit)) ⌝ }
 {
     let before = costs::route_length(locations, legs, depot, end, &route[..]);
     let scanned = scanned_with(
@@ -116,8 +117,8 @@ pub fn polish_route(
     end: u32,
     route: &mut [u32],
 ) -> Polished
-    requires { ⌜ Polishable k (trip locations (now legs) (now latest) (now service) depot end) (now route) ⌝ }
-    ensures { λ r. ⌜ Polishes (problem (trip locations (now (legs .entry)) (now (latest .entry)) (now (service .entry)) depot end)) (patterns k) k allowance (now (route .entry)) r (now (route .exit)) ⌝ }
+    requires { ⌜ Polishable k (trip locations (now legs) (now latest) (now service) depot end []) (now route) ⌝ }
+    ensures { λ r. ⌜ Polishes (problem (trip locations (now (legs .entry)) (now (latest .entry)) (now (service .entry)) depot end [])) (patterns k) k allowance (now (route .entry)) r (now (route .exit)) ⌝ }
 {
     let part = pattern_table::part_of(k);
     let first_order = part.orders;

@@ -2,7 +2,7 @@
 // move_calls, the deadline check in crate refusals. A call without an end harbour is judged as one that ends at its depot. No entry: crates mittenschist and text
 // call it.
 ghost use mathlib.Core.Path.{_≡_};
-ghost use mathlib.Core.List.{_∷_};
+ghost use mathlib.Core.List.{[], _∷_};
 ghost use Prim.Native.Nat.{_+_, _*_};
 ghost use lib.ListN.{length};
 ghost use Rattle.theory.specs.Tables.{tables, trip, fleet};
@@ -96,7 +96,7 @@ pub fn question_refusal(
     end: u32,
     route: &[u32],
 ) -> u32
-    ensures { λ r. ⌜ r ≡ refusal (cut-count k ∷ trip-rules (trip locations (now (legs .entry)) (now (latest .entry)) (now (service .entry)) depot end) (now (route .entry))) ⌝ }
+    ensures { λ r. ⌜ r ≡ refusal (cut-count k ∷ trip-rules (trip locations (now (legs .entry)) (now (latest .entry)) (now (service .entry)) depot end []) (now (route .entry))) ⌝ }
 {
     let bad_k = refusals::check_cut_count(k);
     let bad_trip = refusals::check_trip(locations, legs, latest, service, depot, end, route);
@@ -114,7 +114,7 @@ pub fn polish_refusal(
     route: &[u32],
     lent: usize,
 ) -> u32
-    ensures { λ r. ⌜ r ≡ refusal (with-room (cut-count k ∷ trip-rules (trip locations (now (legs .entry)) (now (latest .entry)) (now (service .entry)) depot end) (now (route .entry))) 6 lent) ⌝ }
+    ensures { λ r. ⌜ r ≡ refusal (with-room (cut-count k ∷ trip-rules (trip locations (now (legs .entry)) (now (latest .entry)) (now (service .entry)) depot end []) (now (route .entry))) 6 lent) ⌝ }
 {
     let bad_question = question_refusal(k, locations, legs, latest, service, depot, end, route);
     let bad_room = refusals::check_room(6, lent);

@@ -3,6 +3,7 @@ use theory::Polished;
 use theory::RoundState;
 use theory::STOPS;
 ghost use mathlib.Core.Path.{_≡_};
+ghost use mathlib.Core.List.{[]};
 ghost use mathlib.Core.Bool.{cond};
 ghost use lib.ListN.{length};
 ghost use Rattle.theory.specs.Polish.{polish};
@@ -29,8 +30,8 @@ fn polish_round(
     end: u32,
     route: &mut [u32],
 ) -> Replied
-    requires { ⌜ Polishable k (trip locations (now legs) (now latest) (now service) depot end) (now route) ⌝ }
-    ensures { λ r. ⌜ Replies (problem (trip locations (now (legs .entry)) (now (latest .entry)) (now (service .entry)) depot end)) k left (now (route .entry)) r (now (route .exit)) ⌝ }
+    requires { ⌜ Polishable k (trip locations (now legs) (now latest) (now service) depot end []) (now route) ⌝ }
+    ensures { λ r. ⌜ Replies (problem (trip locations (now (legs .entry)) (now (latest .entry)) (now (service .entry)) depot end [])) k left (now (route .entry)) r (now (route .exit)) ⌝ }
 {
     match polishing::polish_route(k, left, locations, legs, latest, service, depot, end, route) {
         Polished::Finished(counts) => Replied {
@@ -68,8 +69,8 @@ fn polish_or_put_back(
     end: u32,
     route: &mut [u32],
 ) -> RoundState
-    requires { ⌜ Polishable k (trip locations (now legs) (now latest) (now service) depot end) (now route) ⌝ }
-    ensures { λ r. ⌜ Ends (outcome (now (route .entry)) (polish (problem (trip locations (now (legs .entry)) (now (latest .entry)) (now (service .entry)) depot end)) k left (now (route .entry)))) r (now (route .exit)) ⌝ }
+    requires { ⌜ Polishable k (trip locations (now legs) (now latest) (now service) depot end []) (now route) ⌝ }
+    ensures { λ r. ⌜ Ends (outcome (now (route .entry)) (polish (problem (trip locations (now (legs .entry)) (now (latest .entry)) (now (service .entry)) depot end [])) k left (now (route .entry)))) r (now (route .exit)) ⌝ }
 {
     let n = route.len();
     let mut old = [0u32; STOPS];
@@ -92,8 +93,8 @@ pub fn run_round(
     pin: u8,
     route: &mut [u32],
 ) -> RoundState
-    requires { ⌜ Polishable k (trip locations (now legs) (now latest) (now service) depot end) (now route) ⌝ }
-    ensures { λ r. ⌜ RoundRan (problem (trip locations (now (legs .entry)) (now (latest .entry)) (now (service .entry)) depot end)) k left pin (now (route .entry)) r (now (route .exit)) ⌝ }
+    requires { ⌜ Polishable k (trip locations (now legs) (now latest) (now service) depot end []) (now route) ⌝ }
+    ensures { λ r. ⌜ RoundRan (problem (trip locations (now (legs .entry)) (now (latest .entry)) (now (service .entry)) depot end [])) k left pin (now (route .entry)) r (now (route .exit)) ⌝ }
 {
     if left == 0 {
         return RoundState::NotReached;

@@ -7,6 +7,7 @@ use scan_joints::ROW_BYTES;
 use theory::CUT_PLACES;
 use theory::STOPS;
 ghost use mathlib.Core.Path.{_≡_};
+ghost use mathlib.Core.List.{[]};
 ghost use Prim.Native.Nat.{_-_};
 ghost use lib.ListN.{length, getD};
 ghost use Rattle.theory.specs.Tables.{trip};
@@ -101,8 +102,8 @@ pub fn first_gain(
     dues: &mut [u64; DUE_PLACES],
     limit: usize,
 ) -> usize
-    requires { ⌜ Findable (trip locations (now legs) (now latest) (now service) depot end) (now route) (now forward) (now backward) (now stayed) (now cuts) (now rows) (now lateness) (now joint) (now dues) limit ⌝ }
-    ensures { λ r. ⌜ Found (trip locations (now (legs .entry)) (now (latest .entry)) (now (service .entry)) depot end) (now (route .entry)) (now (cuts .entry)) (now (rows .entry)) limit r (now (joint .exit)) (now (dues .exit)) ⌝ }
+    requires { ⌜ Findable (trip locations (now legs) (now latest) (now service) depot end []) (now route) (now forward) (now backward) (now stayed) (now cuts) (now rows) (now lateness) (now joint) (now dues) limit ⌝ }
+    ensures { λ r. ⌜ Found (trip locations (now (legs .entry)) (now (latest .entry)) (now (service .entry)) depot end []) (now (route .entry)) (now (cuts .entry)) (now (rows .entry)) limit r (now (joint .exit)) (now (dues .exit)) ⌝ }
 {
     scan_joints::fill_joint(
         locations,

@@ -3,6 +3,7 @@ use scan_joints::CELLS;
 use scan_joints::ROW_BYTES;
 use theory::CUT_PLACES;
 use theory::STOPS;
+ghost use mathlib.Core.List.{[]};
 ghost use Rattle.theory.specs.Tables.{problem, pattern-rows, trip};
 ghost use Rattle.scan_loop.specs.Loop.{Scannable, Scans};
 
@@ -29,8 +30,8 @@ pub fn scan_cut_sets(
     rows: &[u8; ROW_BYTES],
     route: &mut [u32],
 ) -> Scanned
-    requires { ⌜ Scannable k (trip locations (now legs) (now latest) (now service) depot end) (now orders) (now masks) (now rows) (now route) ⌝ }
-    ensures { λ r. ⌜ Scans (problem (trip locations (now (legs .entry)) (now (latest .entry)) (now (service .entry)) depot end)) (pattern-rows k (now (orders .entry)) (now (masks .entry))) k allowance (now (route .entry)) r (now (route .exit)) ⌝ }
+    requires { ⌜ Scannable k (trip locations (now legs) (now latest) (now service) depot end []) (now orders) (now masks) (now rows) (now route) ⌝ }
+    ensures { λ r. ⌜ Scans (problem (trip locations (now (legs .entry)) (now (latest .entry)) (now (service .entry)) depot end [])) (pattern-rows k (now (orders .entry)) (now (masks .entry))) k allowance (now (route .entry)) r (now (route .exit)) ⌝ }
 {
     let mut forward = [0u64; STOPS];
     let mut backward = [0u64; STOPS];

@@ -7,6 +7,7 @@ use scan_shared::LOW_PLACES;
 use theory::CUT_PLACES;
 use theory::STOPS;
 ghost use mathlib.Core.Path.{_≡_};
+ghost use mathlib.Core.List.{[]};
 ghost use Prim.Native.Nat.{min, _*_, _≤_};
 ghost use Rattle.theory.specs.Tables.{problem, trip};
 ghost use Rattle.scan_stretch.specs.Stretch.{idle-end, Passable, Passed, Triable, Steppable, Carried, LastCutsScannable, Stretchable, Stretched};
@@ -89,8 +90,8 @@ fn try_cut_set(
     examined: u64,
     left: u64,
 ) -> Step
-    requires { ⌜ Triable (trip locations (now legs) (now latest) (now service) depot end) (now rows) patterns (now route) (now forward) (now backward) (now stayed) (now lateness) (now cuts) (now joint) (now dues) examined left ⌝ }
-    ensures { λ r. ⌜ Carried (trip locations (now (legs .entry)) (now (latest .entry)) (now (service .entry)) depot end) (now (rows .entry)) patterns (now (route .entry)) (now (cuts .entry)) (now (joint .entry)) (now (dues .entry)) examined left r (now (cuts .exit)) (now (joint .exit)) (now (dues .exit)) ⌝ }
+    requires { ⌜ Triable (trip locations (now legs) (now latest) (now service) depot end []) (now rows) patterns (now route) (now forward) (now backward) (now stayed) (now lateness) (now cuts) (now joint) (now dues) examined left ⌝ }
+    ensures { λ r. ⌜ Carried (trip locations (now (legs .entry)) (now (latest .entry)) (now (service .entry)) depot end []) (now (rows .entry)) patterns (now (route .entry)) (now (cuts .entry)) (now (joint .entry)) (now (dues .entry)) examined left r (now (cuts .exit)) (now (joint .exit)) (now (dues .exit)) ⌝ }
 {
     let limit = still_allowed(patterns, left - examined);
     let found = scan_cut_set::first_gain(
@@ -158,8 +159,8 @@ fn take_step(
     examined: u64,
     left: u64,
 ) -> Step
-    requires { ⌜ Steppable (trip locations (now legs) (now latest) (now service) depot end) (now rows) patterns (now route) (now forward) (now backward) (now stayed) (now lateness) (now cuts) (now entries) (now exits) (now inside) (now low) (now zero) (now joint) (now dues) examined left ⌝ }
-    ensures { λ r. ⌜ Carried (trip locations (now (legs .entry)) (now (latest .entry)) (now (service .entry)) depot end) (now (rows .entry)) patterns (now (route .entry)) (now (cuts .entry)) (now (joint .entry)) (now (dues .entry)) examined left r (now (cuts .exit)) (now (joint .exit)) (now (dues .exit)) ⌝ }
+    requires { ⌜ Steppable (trip locations (now legs) (now latest) (now service) depot end []) (now rows) patterns (now route) (now forward) (now backward) (now stayed) (now lateness) (now cuts) (now entries) (now exits) (now inside) (now low) (now zero) (now joint) (now dues) examined left ⌝ }
+    ensures { λ r. ⌜ Carried (trip locations (now (legs .entry)) (now (latest .entry)) (now (service .entry)) depot end []) (now (rows .entry)) patterns (now (route .entry)) (now (cuts .entry)) (now (joint .entry)) (now (dues .entry)) examined left r (now (cuts .exit)) (now (joint .exit)) (now (dues .exit)) ⌝ }
 {
     let last = cuts.len() - 1;
     let hit = scan_bound::next_promising(
@@ -228,8 +229,8 @@ fn scan_last_cuts(
     joint: &mut [u64; CELLS],
     left: u64,
 ) -> Stretch
-    requires { ⌜ LastCutsScannable (trip locations (now legs) (now latest) (now service) depot end) (now rows) patterns (now route) (now forward) (now backward) (now stayed) (now lateness) (now cuts) (now joint) ⌝ }
-    ensures { λ r. ⌜ Stretched (problem (trip locations (now (legs .entry)) (now (latest .entry)) (now (service .entry)) depot end)) patterns (now (rows .entry)) (now (route .entry)) (now (cuts .entry)) left r (now (cuts .exit)) (now (joint .exit)) ⌝ }
+    requires { ⌜ LastCutsScannable (trip locations (now legs) (now latest) (now service) depot end []) (now rows) patterns (now route) (now forward) (now backward) (now stayed) (now lateness) (now cuts) (now joint) ⌝ }
+    ensures { λ r. ⌜ Stretched (problem (trip locations (now (legs .entry)) (now (latest .entry)) (now (service .entry)) depot end [])) patterns (now (rows .entry)) (now (route .entry)) (now (cuts .entry)) left r (now (cuts .exit)) (now (joint .exit)) ⌝ }
 {
     let mut entries = [0u32; STATES];
     let mut exits = [0u32; STATES];
@@ -307,8 +308,8 @@ pub fn scan_stretch(
     joint: &mut [u64; CELLS],
     left: u64,
 ) -> Stretch
-    requires { ⌜ Stretchable (trip locations (now legs) (now latest) (now service) depot end) (now rows) patterns (now route) (now forward) (now backward) (now stayed) longest (now lateness) (now cuts) (now joint) ⌝ }
-    ensures { λ r. ⌜ Stretched (problem (trip locations (now (legs .entry)) (now (latest .entry)) (now (service .entry)) depot end)) patterns (now (rows .entry)) (now (route .entry)) (now (cuts .entry)) left r (now (cuts .exit)) (now (joint .exit)) ⌝ }
+    requires { ⌜ Stretchable (trip locations (now legs) (now latest) (now service) depot end []) (now rows) patterns (now route) (now forward) (now backward) (now stayed) longest (now lateness) (now cuts) (now joint) ⌝ }
+    ensures { λ r. ⌜ Stretched (problem (trip locations (now (legs .entry)) (now (latest .entry)) (now (service .entry)) depot end [])) patterns (now (rows .entry)) (now (route .entry)) (now (cuts .entry)) left r (now (cuts .exit)) (now (joint .exit)) ⌝ }
 {
     if longest < cuts[0] {
         return pass_stretch(route.len(), patterns, cuts, left);

@@ -1,4 +1,5 @@
 -- `polishing::polish_rows` meets its contract. Assumes nothing.
+use mathlib.Core.List.{[]}
 use Rattle.theory.specs.Tables.{Trip, trip}
 use Rattle.polishing.proofs.Replies.{measurable-after, late-asked, replies}
 use borrow.Author.Needs.{needs}
@@ -6,7 +7,7 @@ use Rattle.polishing.proofs.polish_rows.Statement.{statement}
 use Rattle.polishing.proofs.polish_rows.Tie as tie
 
 abbrev lent : tie.Start → Trip
-lent s = trip (s .args .locations) (s .args .legs .now) (s .args .latest .now) (s .args .service .now) (s .args .depot) (s .args .end)
+lent s = trip (s .args .locations) (s .args .legs .now) (s .args .latest .now) (s .args .service .now) (s .args .depot) (s .args .end) []
 
 route-length-requires : tie.Need-route-length-requires
 route-length-requires c κs = search needs

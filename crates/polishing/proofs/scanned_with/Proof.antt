@@ -1,5 +1,6 @@
 -- `polishing::scanned_with` meets its contract. Assumes nothing.
 use mathlib.Core.Path.{refl}
+use mathlib.Core.List.{[]}
 use native.Mathlib.Omega.{arith}
 use Rattle.theory.specs.Tables.{Trip, trip}
 use Rattle.polishing.proofs.Replies.{scannable, no-cut-set, scanned-so}
@@ -8,7 +9,7 @@ use Rattle.polishing.proofs.scanned_with.Statement.{statement}
 use Rattle.polishing.proofs.scanned_with.Tie as tie
 
 abbrev lent : tie.Start → Trip
-lent s = trip (s .args .locations) (s .args .legs .now) (s .args .latest .now) (s .args .service .now) (s .args .depot) (s .args .end)
+lent s = trip (s .args .locations) (s .args .legs .now) (s .args .latest .now) (s .args .service .now) (s .args .depot) (s .args .end) []
 
 add-if1 : tie.Need-add-if1
 add-if1 c = search needs

@@ -1,7 +1,7 @@
 -- `scan_loop::scan_cut_sets` meets its contract. The invariant: what is left from here is the whole scan, and what is measured is of the route at hand. Assumes
 -- nothing.
 use mathlib.Core.Path.{_≡_, refl, sym, ap, _∙_}
-use mathlib.Core.List.{_++_}
+use mathlib.Core.List.{[], _++_}
 use Prim.Native.Nat.{_+_, _-_}
 use lib.ListN.{length, take, drop, length-append, length-drop}
 use lib.Seq.{take-at}
@@ -24,7 +24,7 @@ use Rattle.scan_loop.proofs.scan_cut_sets.Tie as tie
 abbrev Inv-loop : tie.InvT-loop
 Inv-loop k allowance locations legs latest service depot end orders masks rows route₀ forward₀ backward₀ joint₀ stayed₀ lateness₀ longest₀ cut₀ examined₀ accepted₀ route forward backward joint stayed lateness longest cut examined accepted =
     (length cut ≡ 5)
-    × Polishing (problem (trip locations legs latest service depot end)) (pattern-rows k orders masks) k allowance route₀ (take k cut) examined accepted route
+    × Polishing (problem (trip locations legs latest service depot end [])) (pattern-rows k orders masks) k allowance route₀ (take k cut) examined accepted route
     × Measured (tables locations legs latest service) depot route forward backward stayed longest lateness
     × Padded joint
     × Opened (take k cut)
@@ -33,7 +33,7 @@ abbrev μ-loop : tie.MeasureT-loop
 μ-loop k allowance locations legs latest service depot end orders masks rows route₀ forward₀ backward₀ joint₀ stayed₀ lateness₀ longest₀ cut₀ examined₀ accepted₀ route forward backward joint stayed lateness longest cut examined accepted = allowance - examined
 
 abbrev lent : tie.Start Inv-loop μ-loop → Trip
-lent s = trip (s .args .locations) (s .args .legs .now) (s .args .latest .now) (s .args .service .now) (s .args .depot) (s .args .end)
+lent s = trip (s .args .locations) (s .args .legs .now) (s .args .latest .now) (s .args .service .now) (s .args .depot) (s .args .end) []
 
 measure-requires : tie.Need-measure-requires Inv-loop μ-loop
 measure-requires c κs =

@@ -1,6 +1,6 @@
 -- `scan_stretch::scan_last_cuts` meets its contract. The invariant, of whichever patterns the rows are: the candidates before the last cut at hand are examined, and none improves the route. Assumes nothing.
 use mathlib.Core.Path.{refl, _∙_}
-use mathlib.Core.List.{List}
+use mathlib.Core.List.{List, []}
 use Prim.Native.Nat.{_+_, _-_}
 use lib.ListN.{length}
 use native.Mathlib.Omega.{arith}
@@ -17,7 +17,7 @@ use Rattle.scan_stretch.proofs.scan_last_cuts.Tie as tie
 
 abbrev Inv-loop : tie.InvT-loop
 Inv-loop locations legs latest service depot end rows patterns route forward backward stayed lateness cuts₀ joint₀ left entries exits inside low dues₀ zero examined₀ cuts joint dues examined =
-    ((ps : List Pattern) → Listed (length cuts₀) patterns rows ps → Going (trip locations legs latest service depot end) ps route cuts₀ left cuts joint dues examined)
+    ((ps : List Pattern) → Listed (length cuts₀) patterns rows ps → Going (trip locations legs latest service depot end []) ps route cuts₀ left cuts joint dues examined)
     × PreparedNow locations legs depot route cuts₀ rows patterns entries exits inside low
 
 abbrev μ-loop : tie.MeasureT-loop

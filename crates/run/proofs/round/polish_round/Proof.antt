@@ -1,4 +1,5 @@
 -- `run::round::polish_round` meets its contract. Assumes nothing.
+use mathlib.Core.List.{[]}
 use Rattle.theory.specs.Tables.{problem, trip, Trip}
 use Rattle.run.proofs.Returns.{replied-finished, replied-spent}
 use borrow.Author.Needs.{needs}
@@ -6,7 +7,7 @@ use Rattle.run.proofs.round.polish_round.Statement.{statement}
 use Rattle.run.proofs.round.polish_round.Tie as tie
 
 abbrev lent : tie.Start → Trip
-lent s = trip (s .args .locations) (s .args .legs .now) (s .args .latest .now) (s .args .service .now) (s .args .depot) (s .args .end)
+lent s = trip (s .args .locations) (s .args .legs .now) (s .args .latest .now) (s .args .service .now) (s .args .depot) (s .args .end) []
 
 polish-route-requires : tie.Need-polish-route-requires
 polish-route-requires c κs = search needs

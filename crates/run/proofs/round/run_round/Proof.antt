@@ -1,4 +1,5 @@
 -- `run::round::run_round` meets its contract. Assumes nothing.
+use mathlib.Core.List.{[]}
 use Rattle.theory.specs.Tables.{problem, trip, Trip}
 use Rattle.run.proofs.Returns.{not-reached, pinned, short, polished}
 use borrow.Author.Needs.{needs}
@@ -6,7 +7,7 @@ use Rattle.run.proofs.round.run_round.Statement.{statement}
 use Rattle.run.proofs.round.run_round.Tie as tie
 
 abbrev lent : tie.Start → Trip
-lent s = trip (s .args .locations) (s .args .legs .now) (s .args .latest .now) (s .args .service .now) (s .args .depot) (s .args .end)
+lent s = trip (s .args .locations) (s .args .legs .now) (s .args .latest .now) (s .args .service .now) (s .args .depot) (s .args .end) []
 
 returns : tie.Need-returns
 returns c =
