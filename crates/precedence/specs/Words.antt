@@ -1,6 +1,7 @@
 -- Sets of pairs as words of 64 bits: the first pair is bit 0.
 use mathlib.Core.Path.{_≡_}
 use mathlib.Core.Bool.{Bool, true, false, cond, not}
+use mathlib.Core.Logic.{_⊎_}
 use mathlib.Core.List.{List, [], _∷_, _++_, reverse}
 use Prim.Native.Nat.{ℕ, _+_, _*_, _%_, _^_, _≤_, _<_}
 use lib.Dec.{leb, eqb}
@@ -20,6 +21,10 @@ marks t (p ∷ ps) = marks t ps * 2 + cond (t p) 1 0
 pub record Members (ps : List (ℕ × ℕ)) (members : List ℕ) : Type 0 where
   pub firsts : (x : ℕ) → x < 1024 → getD members x 0 ≡ marks (λ p. eqb (p .0) x) ps
   pub seconds : (x : ℕ) → x < 1024 → getD members (1024 + x) 0 ≡ marks (λ p. eqb (p .1) x) ps
+
+-- The words of the pairs, or no words where there are none: the calls without pairs fill no table.
+abbrev pub PairsLent : List (ℕ × ℕ) → List ℕ → Type 0
+PairsLent ps members = ((ps ≡ []) × (length members ≡ 0)) ⊎ ((length members ≡ 2048) × Members ps members)
 
 -- A list that 29 does not refuse, and places for the words, all 0.
 pub record Fillable (pairs members : List ℕ) : Type 0 where

@@ -34,7 +34,7 @@ pub fn check_pair_list(locations: usize, pairs: &[u32]) -> u32
     if pairs.len() % 2 != 0 {
         return 29;
     }
-    if refusals::any_unknown(pairs, locations) {
+    if refusal_tests::any_unknown(pairs, locations) {
         return 29;
     }
     if any_twins(pairs) {

@@ -7,8 +7,8 @@ use Prim.Native.Nat.{ℕ, _≤_, _<_}
 use native.Mathlib.Omega.{arith}
 use lib.ListN.{length}
 use Rattle.theory.specs.Pairs.{all, pairs-kept}
-use Rattle.precedence.specs.Words.{Readable, FrontReach, BackSince, FrontFound, BackFound}
-use Rattle.precedence_marks.specs.Held.{PairsLent, RouteTellable, HeadLimit, TailSince}
+use Rattle.precedence.specs.Words.{PairsLent, Readable, FrontReach, BackSince, FrontFound, BackFound}
+use Rattle.precedence_marks.specs.Held.{RouteTellable, HeadLimit, TailSince}
 use Rattle.precedence_marks.proofs.Judged.{kept-reach, kept-since}
 
 no-pairs : (ps : List (ℕ × ℕ)) (r : List ℕ) → ps ≡ [] → pairs-kept ps r ≡ true

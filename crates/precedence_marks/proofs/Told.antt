@@ -6,8 +6,8 @@ use Prim.Native.Nat.{ℕ, _+_, _-_, _*_, _≤_, _<_}
 use native.Mathlib.Omega.{arith}
 use lib.ListN.{length, getD}
 use Rattle.costs.specs.RouteCosts.{first-cuts}
-use Rattle.precedence.specs.Words.{marks, Members}
-use Rattle.precedence_marks.specs.Held.{SegmentsMarked, MarksHeld, MarksAsked, MarksReached, PairsLent, MarksKept, MarksTellable, MarksTold}
+use Rattle.precedence.specs.Words.{marks, Members, PairsLent}
+use Rattle.precedence_marks.specs.Held.{SegmentsMarked, MarksHeld, MarksAsked, MarksReached, MarksKept, MarksTellable, MarksTold}
 use Rattle.precedence_marks.proofs.Filling.{reached-held}
 
 -- Of no pairs every word is 0.

@@ -10,7 +10,7 @@ use lib.ListN.{length, getD, set, take}
 use lib.Seq.{slice}
 use Rattle.theory.specs.Tables.{CutSet}
 use Rattle.precedence.specs.declared.Marks.{Marks}
-use Rattle.precedence.specs.Words.{Members, Readable, PartMarks, FrontReach, BackSince, marks-of}
+use Rattle.precedence.specs.Words.{Members, PairsLent, Readable, PartMarks, FrontReach, BackSince, marks-of}
 
 -- ---- places
 
@@ -92,11 +92,7 @@ pub record MarksReached (members route cuts held held′ : List ℕ) : Type 0 wh
 
 -- ---- with pairs, or without
 
--- The words of the pairs, or no words where there are none: the calls without pairs fill no table.
-abbrev pub PairsLent : List (ℕ × ℕ) → List ℕ → Type 0
-PairsLent ps members = ((ps ≡ []) × (length members ≡ 0)) ⊎ ((length members ≡ 2048) × Members ps members)
-
--- What is held then: nothing but 0, or the words of the first cuts.
+-- What is held: nothing but 0 where there are no words, or the words of the first cuts.
 abbrev pub MarksKept : List (ℕ × ℕ) → (members route pre words : List ℕ) → Type 0
 MarksKept ps members route pre words =
     ((length members ≡ 0) × (length words ≡ 17) × ((c : ℕ) → getD words c 0 ≡ 0)) ⊎ ((0 < length members) × MarksHeld ps route pre words)

@@ -6,7 +6,7 @@ use lib.Dec.{eqb}
 use lib.ListN.{length, drop, getD}
 use borrow.Author.Tests.{eq-eqb, ne-eqb}
 use Rattle.theory.specs.Refusals.{any}
-use Rattle.refusals.proofs.Tests.{any-more, any-here, any-none}
+use Rattle.refusal_tests.proofs.Tests.{any-more, any-here, any-none}
 use Rattle.theory.specs.Pairs.{pairs-of}
 use Rattle.precedence.proofs.Filling.{pairs-many, pair-at}
 use borrow.Author.Needs.{needs}
