@@ -139,8 +139,8 @@ pub fn paired_refusal(
     let bad_end = refusals::check_known_end(locations, end);
     let bad_pairs = precedence::check_pair_list(locations, pairs);
     let bad_n = refusals::check_stop_count(route.len());
-    let bad_harbours = refusals::first(bad_stops, bad_end);
-    let bad_trip = refusals::first(bad_harbours, refusals::first(bad_pairs, bad_n));
+    let bad_lists = refusals::first(bad_pairs, bad_n);
+    let bad_trip = refusals::first(bad_stops, refusals::first(bad_end, bad_lists));
     refusals::first(bad_tables, bad_trip)
 }
 
@@ -219,8 +219,8 @@ fn rounds_paired_refusal(
     let bad_list = refusals::check_end_list(lengths, ends);
     let bad_room = refusals::check_room(4 * lengths.len(), lent);
     let bad_sizes = refusals::first(bad_rounds, refusals::first(bad_list, bad_room));
-    let bad_harbours = refusals::first(bad_stops, bad_ends);
-    refusals::first(bad_harbours, refusals::first(bad_pairs, bad_sizes))
+    let bad_lists = refusals::first(bad_pairs, bad_sizes);
+    refusals::first(bad_stops, refusals::first(bad_ends, bad_lists))
 }
 
 pub fn run_refusal(

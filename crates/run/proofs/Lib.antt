@@ -5,3 +5,4 @@ pub mod Judged
 pub mod Runs
 pub mod Facts
 pub mod Returns
+pub mod Paired
