@@ -1,3 +1,4 @@
 pub mod Replies
 pub mod Judging
+pub mod Paired
 pub mod Runs

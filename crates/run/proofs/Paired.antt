@@ -10,7 +10,6 @@ use Rattle.precedence.specs.Words.{Fillable, MembersFilled}
 use Rattle.run.specs.Run.{RunnableLent, RunnableWithPairs}
 
 zero-at : (n c : ℕ) → _≡_ {A = ℕ} (getD (replicate n 0) c 0) 0
-unfolding replicate
 zero-at zero c = refl
 zero-at (suc n) zero = refl
 zero-at (suc n) (suc c) = zero-at n c

@@ -1,0 +1,30 @@
+-- `pattern_list_polishing::polish_rows_with_pairs` meets its contract. Assumes nothing.
+use Rattle.pattern_list_polishing.proofs.Paired.{fillable, with-words}
+use borrow.Author.Needs.{needs}
+use Rattle.pattern_list_polishing.proofs.polish_rows_with_pairs.Statement.{statement}
+use Rattle.pattern_list_polishing.proofs.polish_rows_with_pairs.Tie as tie
+
+fill-members-requires : tie.Need-fill-members-requires
+fill-members-requires c κs = fillable (c .before .before .before .before .before .before .before .before .pre)
+
+slice-aggregate-polish-rows : tie.Need-slice-aggregate-polish-rows
+slice-aggregate-polish-rows c = search needs
+
+polish-rows-requires : tie.Need-polish-rows-requires
+polish-rows-requires c κs = with-words (c .before .before .before .before .before .before .before .before .before .before .before .pre) (c .before .before .fill-members .ensures)
+
+same-length : tie.Need-same-length
+same-length c = search needs
+
+returns : tie.Need-returns
+returns c = search needs
+
+pub polish-rows-with-pairs-spec : {M : Type 1} → statement M
+polish-rows-with-pairs-spec =
+    tie.close
+    (tie.spec
+    fill-members-requires
+    slice-aggregate-polish-rows
+    polish-rows-requires
+    same-length
+    returns)
