@@ -1,6 +1,6 @@
 -- The replies of the entry `mittenschist_pair_loop`, over plain values. Assumes nothing.
 use mathlib.Core.Path.{_≡_, refl}
-use mathlib.Core.List.{List, _++_}
+use mathlib.Core.List.{List, [], _++_}
 use Prim.Native.Nat.{ℕ, _≤_}
 use lib.ListN.{length, drop}
 use Rattle.theory.specs.Route.{Problem}
@@ -37,7 +37,7 @@ module _ (A : ℕ) (T : Tables) (depot : ℕ) (route result : List ℕ) (number 
     unfolding known
     passes = pass-with-room (problem-rules T depot route) 6 (length result) (taken-passes rules number judged refl h)
 
-    pub fine : Timed (record { tables = T; depot = depot; end = depot }) route
+    pub fine : Timed (record { tables = T; depot = depot; end = depot; pairs = [] }) route
     fine = closed (clocked-fine T depot route (passes .0))
 
     pub space : 6 ≤ length result

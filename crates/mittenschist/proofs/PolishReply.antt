@@ -1,25 +1,27 @@
--- The replies of the entries `mittenschist_polish_route_to_end` and `mittenschist_polish_route`, and that of a list of all patterns, over plain values. Assumes nothing.
+-- The replies of the entries that polish with every pattern, and that of a list of all patterns, over plain values. Assumes nothing.
 use mathlib.Core.Path.{_≡_, refl}
-use mathlib.Core.List.{List, _++_}
+use mathlib.Core.List.{List, [], _++_}
 use Prim.Native.Nat.{ℕ, suc, _*_, _≤_}
 use lib.ListN.{length, drop}
 use Rattle.theory.specs.Moves.{patterns}
 use Rattle.theory.specs.Tables.{Tables, problem, pattern-rows}
 use Rattle.theory.specs.Refusals.{Rule, refusal}
-use Rattle.theory.specs.Question.{Question, question, question-rules}
+use Rattle.theory.specs.Question.{Question, question, question-with-pairs, question-rules, paired-question-rules}
 use Rattle.theory.specs.Answers.{Polishes, polish-values}
 use Rattle.theory.specs.declared.Polished.{Polished}
 use Rattle.theory.proofs.Refusals.{Passes, known}
 use Rattle.theory.proofs.Taken.{taken-passes}
-use Rattle.polishing.specs.Loop.{Polishable}
-use Rattle.polishing.proofs.Judged.{polishable-fine}
-use Rattle.refusal_rules.specs.Rules.{polish-to-end-rules}
+use Rattle.theory.proofs.Judged.{cut-count-fine}
+use Rattle.polishing.specs.Loop.{Polishable, PolishableWithPairs}
+use Rattle.polishing.proofs.Judged.{timed-fine, polishable-fine}
+use Rattle.refusal_rules.specs.Rules.{polish-to-end-rules, polish-with-pairs-rules}
 use Rattle.refusal_rules.proofs.Parts.{pass-with-room}
-use Rattle.refusal_rules.proofs.Closed.{polish-closed}
+use Rattle.refusal_rules.proofs.Paired.{trip-passes, pairs-listed}
+use Rattle.refusal_rules.proofs.Closed.{polish-closed, polish-unpaired}
 use Rattle.pattern_list_polishing.specs.Polishing.{PolishWithPatternsReply}
 use Rattle.pattern_list_polishing.proofs.Replies.{refused-with, polished-with, alike}
 use Rattle.pattern_list_polishing.proofs.Judging.{full-rules}
-use Rattle.mittenschist.specs.Promises.{PolishReply, PolishToEndReply}
+use Rattle.mittenschist.specs.Promises.{PolishReply, PolishToEndReply, PolishWithPairsReply}
 
 module _ (q : Question) (result : List ℕ) (number : ℕ) (judged : number ≡ refusal (polish-to-end-rules q (length result))) where
   abbrev rules : List Rule
@@ -33,8 +35,8 @@ module _ (q : Question) (result : List ℕ) (number : ℕ) (judged : number ≡ 
     unfolding known
     passes = pass-with-room (question-rules q) 6 (length result) (taken-passes rules number judged refl h)
 
-    pub fine : Polishable (q .k) (q .trip) (q .route)
-    fine = polishable-fine q (passes .0)
+    pub fine : q .trip .pairs ≡ [] → Polishable (q .k) (q .trip) [] (q .route)
+    fine none = polishable-fine q none (passes .0)
 
     pub space : 6 ≤ length result
     space = passes .1
@@ -49,6 +51,41 @@ pub closed-polish : (k A : ℕ) (T : Tables) (depot : ℕ) (route result : List 
     PolishReply (question k A (T .locations) (T .legs) (T .latest) (T .service) depot depot route) result answer route′ result′
 closed-polish k A T depot route result =
     alike (question k A (T .locations) (T .legs) (T .latest) (T .service) depot depot route) result (polish-closed k A T depot route (length result)) refl
+
+-- ---- with pairs
+
+module _ (q : Question) (result : List ℕ) (number : ℕ) (judged : number ≡ refusal (polish-with-pairs-rules q (length result))) where
+  abbrev paired-rules : List Rule
+  paired-rules = polish-with-pairs-rules q (length result)
+
+  pub refused-paired : (number ≡ 0 → ⊥) → PolishWithPairsReply q result number (q .route) result
+  refused-paired = refused-with paired-rules (patterns (q .k)) q result number judged
+
+  module _ (h : number ≡ 0) where
+    passes-paired : Passes (paired-question-rules q) × (6 ≤ length result)
+    unfolding known
+    passes-paired = pass-with-room (paired-question-rules q) 6 (length result) (taken-passes paired-rules number judged refl h)
+
+    pub fine-paired : PolishableWithPairs (q .k) (q .trip) (q .route)
+    fine-paired =
+        let p = passes-paired .0 in
+        let n = cut-count-fine (q .k) (p .0) in
+        let l = pairs-listed (q .trip) (q .route) (p .1) in
+        record { least = n .0; most = n .1; timed = timed-fine (q .trip) (q .route) (trip-passes (q .trip) (q .route) (p .1)); few = l .few; even = l .even; known = l .known }
+
+    pub space-paired : 6 ≤ length result
+    space-paired = passes-paired .1
+
+    pub polished-paired : (answer : Polished) (route′ result′ : List ℕ) → Polishes (problem (q .trip)) (patterns (q .k)) (q .k) (q .allowance) (q .route) answer route′ →
+        result′ ≡ polish-values answer ++ drop 6 result → PolishWithPairsReply q result 0 route′ result′
+    polished-paired = polished-with paired-rules (patterns (q .k)) q result number judged h
+
+-- "Entries of before act as with an empty list."
+pub unpaired-polish : (k A : ℕ) (T : Tables) (depot end : ℕ) (route result : List ℕ) {answer : ℕ} {route′ result′ : List ℕ} →
+    PolishWithPairsReply (question-with-pairs k A (T .locations) (T .legs) (T .latest) (T .service) depot end [] route) result answer route′ result′ →
+    PolishToEndReply (question k A (T .locations) (T .legs) (T .latest) (T .service) depot end route) result answer route′ result′
+unpaired-polish k A T depot end route result =
+    alike (question k A (T .locations) (T .legs) (T .latest) (T .service) depot end route) result (polish-unpaired k A T depot end route (length result)) refl
 
 -- "A list of all patterns in index order gives the built-in replies."
 pub full-list : (q : Question) (orders masks result : List ℕ) → pattern-rows (q .k) orders masks ≡ patterns (q .k) → length orders ≡ length masks * suc (q .k) →

@@ -13,7 +13,7 @@ use Rattle.theory.specs.Polish.{move-at}
 use Rattle.theory.specs.Tables.{Tables, Fleet, problem, timetable-by, legs-only}
 use Rattle.theory.specs.Question.{Question}
 use Rattle.theory.specs.Refusals.{Rule, refusal, if-taken, problem-rules}
-use Rattle.refusal_rules.specs.Rules.{pattern-rules, next-cut-set-rules, reconnect-rules, route-length-rules, route-length-to-end-rules, delta-rules, delta-to-end-rules, polish-rules, polish-to-end-rules, pair-loop-rules, run-rules, run-to-ends-rules, nearby-rules, find-move-rules, with-room}
+use Rattle.refusal_rules.specs.Rules.{pattern-rules, next-cut-set-rules, reconnect-rules, route-length-rules, route-length-to-end-rules, delta-rules, delta-to-end-rules, polish-rules, polish-to-end-rules, polish-with-pairs-rules, pair-loop-rules, run-rules, run-to-ends-rules, run-with-pairs-rules, nearby-rules, find-move-rules, with-room}
 use Rattle.theory.specs.Answers.{reply, step-answer, length-answer, delta-answer, feasibility-answer, listing-answer, Checked, handed-back}
 use Rattle.moves.specs.Moves.{length-change}
 use Rattle.first_move.specs.FirstMove.{first-move, found-move, move-values, in-front, handed-move, Told}
@@ -119,9 +119,13 @@ PolishReply q result = PolishedBy (polish-rules q (length result)) q result
 abbrev pub PolishToEndReply : Question → List ℕ → ℕ → List ℕ → List ℕ → Type 0
 PolishToEndReply q result = PolishedBy (polish-to-end-rules q (length result)) q result
 
--- The pair loop "keeps closed tours".
+-- To an end harbour, with pairs; those above have none.
+abbrev pub PolishWithPairsReply : Question → List ℕ → ℕ → List ℕ → List ℕ → Type 0
+PolishWithPairsReply q result = PolishedBy (polish-with-pairs-rules q (length result)) q result
+
+-- The pair loop "keeps closed tours", and has no pairs.
 abbrev pub closed-tour : Tables → (depot : ℕ) → Problem
-closed-tour T depot = problem (record { tables = T; depot = depot; end = depot })
+closed-tour T depot = problem (record { tables = T; depot = depot; end = depot; pairs = [] })
 
 -- Route and result are those of the pair loop; and what it keeps whenever it returns 0.
 pub record PairLoopReply (allowance : ℕ) (T : Tables) (depot : ℕ) (route result : List ℕ) (answer : ℕ) (route′ result′ : List ℕ) : Type 0 where
@@ -138,18 +142,22 @@ doable-values k round n rounds positions = cond (doable k round n rounds positio
 
 -- Judged by some rules: stops and result are those of document 01's run; and whenever it returns 0 each round holds the same stops, none is reached after a spent
 -- one, and each that finished is k-optimal (`Ran`).
-pub record RunBy (rules : List Rule) (k allowance : ℕ) (T : Tables) (F : Fleet) (result : List ℕ) (answer : ℕ) (stops′ result′ : List ℕ) : Type 0 where
+pub record RunBy (rules : List Rule) (k allowance : ℕ) (T : Tables) (F : Fleet) (pairs result : List ℕ) (answer : ℕ) (stops′ result′ : List ℕ) : Type 0 where
   pub number-is : answer ≡ refusal rules
-  pub stops-are : stops′ ≡ if-taken rules (routes (run k allowance (rounds T F))) (F .stops)
-  pub result-is : result′ ≡ if-taken rules (numbers (run k allowance (rounds T F)) ++ drop (4 * length (F .lengths)) result) result
-  pub ran : answer ≡ 0 → Ran k allowance T F result stops′ result′
+  pub stops-are : stops′ ≡ if-taken rules (routes (run k allowance (rounds T F pairs))) (F .stops)
+  pub result-is : result′ ≡ if-taken rules (numbers (run k allowance (rounds T F pairs)) ++ drop (4 * length (F .lengths)) result) result
+  pub ran : answer ≡ 0 → Ran k allowance T F pairs result stops′ result′
 
 -- Closed tours: the entry is handed a fleet whose ends are its depots.
 abbrev pub RunReply : (k allowance : ℕ) → Tables → Fleet → List ℕ → ℕ → List ℕ → List ℕ → Type 0
-RunReply k allowance T F result = RunBy (run-rules k T F (length result)) k allowance T F result
+RunReply k allowance T F result = RunBy (run-rules k T F (length result)) k allowance T F [] result
 
 abbrev pub RunToEndsReply : (k allowance : ℕ) → Tables → Fleet → List ℕ → ℕ → List ℕ → List ℕ → Type 0
-RunToEndsReply k allowance T F result = RunBy (run-to-ends-rules k T F (length result)) k allowance T F result
+RunToEndsReply k allowance T F result = RunBy (run-to-ends-rules k T F (length result)) k allowance T F [] result
+
+-- With pairs, one list for all rounds; those above have none.
+abbrev pub RunWithPairsReply : (k allowance : ℕ) → Tables → Fleet → (pairs result : List ℕ) → ℕ → List ℕ → List ℕ → Type 0
+RunWithPairsReply k allowance T F pairs result = RunBy (run-with-pairs-rules k T F pairs (length result)) k allowance T F pairs result
 
 -- ---- nearby cuts, and every nearby cut set
 

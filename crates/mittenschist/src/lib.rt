@@ -5,16 +5,17 @@ ghost use Rattle.theory.specs.Route.{tour-length};
 ghost use Rattle.theory.specs.Polish.{move-at};
 ghost use Rattle.theory.specs.Moves.{patterns};
 ghost use Rattle.theory.specs.Tables.{tables, fleet, legs-only};
-ghost use Rattle.theory.specs.Question.{question};
+ghost use Rattle.theory.specs.Question.{question, question-with-pairs};
 ghost use Rattle.theory.specs.Refusals.{problem-rules};
 ghost use Rattle.move_calls.specs.Entries.{DoMoveReply, UndoReply, doable-rules};
 ghost use Rattle.moves.specs.Moves.{length-change, pattern-values};
 ghost use Rattle.pattern_list_loading.specs.Loading.{LoadReply};
-ghost use Rattle.pattern_list_polishing.specs.Polishing.{PolishWithPatternsReply};
+ghost use Rattle.pattern_list_polishing.specs.Polishing.{PolishWithPatternsReply, PolishWithPatternsAndPairsReply};
 ghost use Rattle.refusal_rules.specs.Rules.{route-length-rules, route-length-to-end-rules, pattern-rules, delta-rules, delta-to-end-rules};
-ghost use Rattle.mittenschist.specs.Promises.{NextCutSetReply, RouteLengthReply, RouteLengthToEndReply, ReconnectionReply, ReconnectReply, DeltaReply, DeltaToEndReply, FeasibleReply, PolishReply, PolishToEndReply, PairLoopReply, Written, NextCutSetWritten, late-values, doable-values, RunReply, RunToEndsReply, NearbyReply, NearbyWritten, EveryReply, EveryWritten, FindMoveReply, FindMoveWritten};
+ghost use Rattle.mittenschist.specs.Promises.{NextCutSetReply, RouteLengthReply, RouteLengthToEndReply, ReconnectionReply, ReconnectReply, DeltaReply, DeltaToEndReply, FeasibleReply, PolishReply, PolishToEndReply, PolishWithPairsReply, PairLoopReply, Written, NextCutSetWritten, late-values, doable-values, RunReply, RunToEndsReply, RunWithPairsReply, NearbyReply, NearbyWritten, EveryReply, EveryWritten, FindMoveReply, FindMoveWritten};
 use first_move::SoughtMove;
 use polishing::polish_route;
+use polishing::polish_with_pairs;
 use theory::CutStep;
 use theory::Feasibility;
 use theory::LengthDelta;
@@ -179,6 +180,7 @@ pub extern "C" fn mittenschist_polish_route_to_end(
     if refused != 0 {
         return refused;
     }
+    let none = [0u64; 1];
     let answer = polish_route(
         k,
         allowance,
@@ -188,6 +190,8 @@ pub extern "C" fn mittenschist_polish_route_to_end(
         service,
         depot,
         end,
+        &legs[..0],
+        &none[..0],
         route,
     );
     polish_numbers::put_polished(answer, result);
@@ -221,6 +225,54 @@ pub extern "C" fn mittenschist_polish_route(
         route,
         result,
     )
+}
+
+// Polishes a route that keeps pairs of locations, the first before the second: their members end to end. Refuses 1, 2, 3, 23, 4, 24, 29, 5, 21.
+#[no_mangle]
+pub extern "C" fn mittenschist_polish_route_with_pairs(
+    k: usize,
+    allowance: u64,
+    locations: usize,
+    legs: &[u32],
+    latest: &[u32],
+    service: &[u32],
+    depot: u32,
+    end: u32,
+    pairs: &[u32],
+    route: &mut [u32],
+    result: &mut [u64],
+) -> u32
+    ensures { λ r. ⌜ PolishWithPairsReply (question-with-pairs k allowance locations (now (legs .entry)) (now (latest .entry)) (now (service .entry)) depot end (now (pairs .entry)) (now (route .entry))) (now (result .entry)) r (now (route .exit)) (now (result .exit)) ⌝ }
+{
+    let refused = refusal_rules::polish_paired_refusal(
+        k,
+        locations,
+        legs,
+        latest,
+        service,
+        depot,
+        end,
+        pairs,
+        &route[..],
+        result.len(),
+    );
+    if refused != 0 {
+        return refused;
+    }
+    let answer = polish_with_pairs(
+        k,
+        allowance,
+        locations,
+        legs,
+        latest,
+        service,
+        depot,
+        end,
+        pairs,
+        route,
+    );
+    polish_numbers::put_polished(answer, result);
+    0
 }
 
 // The pair loop over a route. Refuses 2, 3, 23, 4, 5, 21. The result receives the six numbers of polishing; the length after may be above the length before.
@@ -462,6 +514,7 @@ pub extern "C" fn mittenschist_run_list_k_opt_to_ends(
     if refused != 0 {
         return refused;
     }
+    let none = [0u64; 1];
     run::run_list_k_opt_in_phase(
         k,
         allowance,
@@ -474,6 +527,8 @@ pub extern "C" fn mittenschist_run_list_k_opt_to_ends(
         depots,
         ends,
         pins,
+        &legs[..0],
+        &none[..0],
         result,
     );
     0
@@ -510,6 +565,61 @@ pub extern "C" fn mittenschist_run_list_k_opt(
         pins,
         result,
     )
+}
+
+// The run with pairs, one list for all rounds. Refuses 1, 2, 3, 23, 4, 24, 29, 5, 21.
+#[no_mangle]
+pub extern "C" fn mittenschist_run_list_k_opt_with_pairs(
+    k: usize,
+    allowance: u64,
+    locations: usize,
+    legs: &[u32],
+    latest: &[u32],
+    service: &[u32],
+    stops: &mut [u32],
+    lengths: &[usize],
+    depots: &[u32],
+    ends: &[u32],
+    pins: &[u8],
+    pairs: &[u32],
+    result: &mut [u64],
+) -> u32
+    ensures { λ r. ⌜ RunWithPairsReply k allowance (tables locations (now (legs .entry)) (now (latest .entry)) (now (service .entry))) (fleet (now (stops .entry)) (now (lengths .entry)) (now (depots .entry)) (now (ends .entry)) (now (pins .entry))) (now (pairs .entry)) (now (result .entry)) r (now (stops .exit)) (now (result .exit)) ⌝ }
+{
+    let lent = result.len();
+    let refused = refusal_rules::run_paired_refusal(
+        k,
+        locations,
+        legs,
+        latest,
+        service,
+        &stops[..],
+        lengths,
+        depots,
+        ends,
+        pins,
+        pairs,
+        lent,
+    );
+    if refused != 0 {
+        return refused;
+    }
+    run::run_with_pairs(
+        k,
+        allowance,
+        locations,
+        legs,
+        latest,
+        service,
+        stops,
+        lengths,
+        depots,
+        ends,
+        pins,
+        pairs,
+        result,
+    );
+    0
 }
 
 // Lists the nearby cut sets, k places each, until no whole set fits any more. Refuses 1, 5, 9, 21.
@@ -707,6 +817,42 @@ pub extern "C" fn mittenschist_polish_with_patterns(
         service,
         depot,
         end,
+        route,
+        result,
+    )
+}
+
+// The same with pairs. Refuses 1, 26, 27, 28, 2, 3, 23, 4, 24, 29, 5, 21.
+#[no_mangle]
+pub extern "C" fn mittenschist_polish_with_patterns_and_pairs(
+    k: usize,
+    orders: &[u8],
+    masks: &[u8],
+    allowance: u64,
+    locations: usize,
+    legs: &[u32],
+    latest: &[u32],
+    service: &[u32],
+    depot: u32,
+    end: u32,
+    pairs: &[u32],
+    route: &mut [u32],
+    result: &mut [u64],
+) -> u32
+    ensures { λ r. ⌜ PolishWithPatternsAndPairsReply (question-with-pairs k allowance locations (now (legs .entry)) (now (latest .entry)) (now (service .entry)) depot end (now (pairs .entry)) (now (route .entry))) (now (orders .entry)) (now (masks .entry)) (now (result .entry)) r (now (route .exit)) (now (result .exit)) ⌝ }
+{
+    pattern_list_polishing::polish_with_patterns_and_pairs(
+        k,
+        orders,
+        masks,
+        allowance,
+        locations,
+        legs,
+        latest,
+        service,
+        depot,
+        end,
+        pairs,
         route,
         result,
     )
