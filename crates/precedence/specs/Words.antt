@@ -7,7 +7,7 @@ use Prim.Native.Nat.{ℕ, _+_, _*_, _%_, _^_, _≤_, _<_}
 use lib.Dec.{leb, eqb}
 use lib.ListN.{length, getD, take, drop}
 use lib.Seq.{slice}
-use Rattle.theory.specs.Pairs.{visited, pair-kept, pairs-kept, front-kept, back-kept}
+use Rattle.theory.specs.Pairs.{pairs-of, visited, pair-kept, pairs-kept, front-kept, back-kept}
 use Rattle.precedence.specs.declared.Marks.{Marks}
 
 -- The pairs that pass a test.
@@ -26,13 +26,21 @@ pub record Members (ps : List (ℕ × ℕ)) (members : List ℕ) : Type 0 where
 abbrev pub PairsLent : List (ℕ × ℕ) → List ℕ → Type 0
 PairsLent ps members = ((ps ≡ []) × (length members ≡ 0)) ⊎ ((length members ≡ 2048) × Members ps members)
 
--- A list that 29 does not refuse, and places for the words, all 0.
-pub record Fillable (pairs members : List ℕ) : Type 0 where
+-- A list that 29 does not refuse: the words of its pairs can be made.
+pub record PairsFillable (pairs : List ℕ) : Type 0 where
   pub few : length pairs ≤ 128
   pub even : length pairs % 2 ≡ 0
   pub known : (i : ℕ) → i < length pairs → getD pairs i 0 < 1024
+
+-- With places for the words, all 0.
+pub record Fillable (pairs members : List ℕ) : Type 0 where
+  pub list : PairsFillable pairs
   pub places : length members ≡ 2048
   pub empty : (c : ℕ) → getD members c 0 ≡ 0
+
+pub record MembersFilled (pairs members : List ℕ) : Type 0 where
+  pub places : length members ≡ 2048
+  pub is : Members (pairs-of pairs) members
 
 -- One pair, of which no bit is set yet.
 pub record PairPuttable (first second bit : ℕ) (members : List ℕ) : Type 0 where

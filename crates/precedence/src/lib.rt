@@ -6,7 +6,7 @@ ghost use lib.Dec.{eqb};
 ghost use lib.ListN.{length, getD};
 ghost use Rattle.theory.specs.Refusals.{any, number, pair-list};
 ghost use Rattle.theory.specs.Pairs.{pairs-of};
-ghost use Rattle.precedence.specs.Words.{Members, Fillable, PairPuttable, PairPut, MemberOf, Readable, StopTaken, Growing, MarksGrown, Placed, FrontFound, BackFound, KeepsFound};
+ghost use Rattle.precedence.specs.Words.{MembersFilled, Fillable, PairPuttable, PairPut, MemberOf, Readable, StopTaken, Growing, MarksGrown, Placed, FrontFound, BackFound, KeepsFound};
 
 // ---- 29
 
@@ -64,7 +64,7 @@ fn put_pair(first: u32, second: u32, bit: usize, members: &mut [u64; MEMBERS])
 // The words of a list, into places that are 0.
 pub fn fill_members(pairs: &[u32], members: &mut [u64; MEMBERS])
     requires { ⌜ Fillable (now pairs) (now members) ⌝ }
-    ensures { λ _. ⌜ Members (pairs-of (now (pairs .entry))) (now (members .exit)) ⌝ }
+    ensures { λ _. ⌜ MembersFilled (now (pairs .entry)) (now (members .exit)) ⌝ }
 {
     let mut q = 0;
     while q < pairs.len() / 2 {
