@@ -11,12 +11,10 @@ use Rattle.theory.specs.Answers.{Polishes, polish-values}
 use Rattle.theory.specs.declared.Polished.{Polished}
 use Rattle.theory.proofs.Refusals.{Passes, known}
 use Rattle.theory.proofs.Taken.{taken-passes}
-use Rattle.theory.proofs.Judged.{cut-count-fine}
 use Rattle.polishing.specs.Loop.{Polishable, PolishableWithPairs}
-use Rattle.polishing.proofs.Judged.{timed-fine, polishable-fine}
+use Rattle.polishing.proofs.Judged.{polishable-fine, polishable-with-pairs-fine, none-lent}
 use Rattle.refusal_rules.specs.Rules.{polish-to-end-rules, polish-with-pairs-rules}
 use Rattle.refusal_rules.proofs.Parts.{pass-with-room}
-use Rattle.refusal_rules.proofs.Paired.{trip-passes, pairs-listed}
 use Rattle.refusal_rules.proofs.Closed.{polish-closed, polish-unpaired}
 use Rattle.pattern_list_polishing.specs.Polishing.{PolishWithPatternsReply}
 use Rattle.pattern_list_polishing.proofs.Replies.{refused-with, polished-with, alike}
@@ -36,7 +34,7 @@ module _ (q : Question) (result : List ℕ) (number : ℕ) (judged : number ≡ 
     passes = pass-with-room (question-rules q) 6 (length result) (taken-passes rules number judged refl h)
 
     pub fine : q .trip .pairs ≡ [] → Polishable (q .k) (q .trip) [] (q .route)
-    fine none = polishable-fine q none (passes .0)
+    fine none = polishable-fine q [] (rw none (none-lent [] refl)) (passes .0)
 
     pub space : 6 ≤ length result
     space = passes .1
@@ -67,11 +65,7 @@ module _ (q : Question) (result : List ℕ) (number : ℕ) (judged : number ≡ 
     passes-paired = pass-with-room (paired-question-rules q) 6 (length result) (taken-passes paired-rules number judged refl h)
 
     pub fine-paired : PolishableWithPairs (q .k) (q .trip) (q .route)
-    fine-paired =
-        let p = passes-paired .0 in
-        let n = cut-count-fine (q .k) (p .0) in
-        let l = pairs-listed (q .trip) (q .route) (p .1) in
-        record { least = n .0; most = n .1; timed = timed-fine (q .trip) (q .route) (trip-passes (q .trip) (q .route) (p .1)); few = l .few; even = l .even; known = l .known }
+    fine-paired = polishable-with-pairs-fine q (passes-paired .0)
 
     pub space-paired : 6 ≤ length result
     space-paired = passes-paired .1

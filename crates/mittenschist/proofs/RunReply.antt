@@ -1,20 +1,18 @@
 -- The replies of the entries of the run, over plain values. Assumes nothing.
 use mathlib.Core.Path.{_≡_, refl, sym, ap, _∙_}
 use mathlib.Core.Bool.{cond}
-use mathlib.Core.Logic.{inl}
 use mathlib.Core.List.{List, [], _∷_, _++_}
 use Prim.Native.Nat.{ℕ, _*_}
 use lib.Dec.{eqb}
 use lib.ListN.{length, drop}
-use Rattle.theory.specs.Pairs.{pairs-of}
 use Rattle.theory.specs.Tables.{Tables, Fleet, fleet}
 use Rattle.theory.specs.Refusals.{Rule, refusal, cut-count, table-rules}
 use Rattle.theory.proofs.Refusals.{known}
+use Rattle.polishing.proofs.Judged.{none-lent, pairs-fine}
 use Rattle.run.specs.Run.{run, rounds, routes, numbers, RunnableLent, RunnableWithPairs, Ran}
 use Rattle.run.proofs.Judged.{runnable-fine}
 use Rattle.refusal_rules.specs.Rules.{rounds-to-ends-rules, rounds-with-pairs-rules, run-rules, run-to-ends-rules, run-with-pairs-rules}
 use Rattle.refusal_rules.proofs.Parts.{both-pass, pass-with-room}
-use Rattle.refusal_rules.proofs.Paired.{listed}
 use Rattle.refusal_rules.proofs.Closed.{run-closed, run-unpaired}
 use Rattle.mittenschist.specs.Promises.{RunBy, RunReply, RunToEndsReply, RunWithPairsReply}
 use Rattle.theory.proofs.Taken.{refused-kept, taken-done, taken-passes}
@@ -47,14 +45,14 @@ module _ (rules : List Rule) (k A : ℕ) (T : Tables) (F : Fleet) (pairs result 
 
 -- Without pairs no words are lent.
 pub runnable : (k : ℕ) (T : Tables) (F : Fleet) (result : List ℕ) (number : ℕ) → number ≡ refusal (run-to-ends-rules k T F (length result)) → number ≡ 0 → RunnableLent k T F [] [] result
-unfolding known pairs-of
+unfolding known
 runnable k T F result number judged h =
     let rounds-of = rounds-to-ends-rules (T .locations) F in
     let p = pass-with-room (cut-count k ∷ (table-rules T ++ rounds-of)) (4 * length (F .lengths)) (length result) (taken-passes (run-to-ends-rules k T F (length result)) number judged refl h) in
     let t = both-pass (table-rules T) rounds-of (p .0 .1) in
     record {
       runnable = runnable-fine k T F result (p .0 .0) (t .0) (t .1 .0) (t .1 .1 .0) (t .1 .1 .1 .0) (t .1 .1 .1 .1 .0) (p .1);
-      lent = inl (refl, refl);
+      lent = none-lent [] refl;
     }
 
 pub runnable-with-pairs : (k : ℕ) (T : Tables) (F : Fleet) (pairs result : List ℕ) (number : ℕ) →
@@ -66,8 +64,7 @@ runnable-with-pairs k T F pairs result number judged h =
     let t = both-pass (table-rules T) rounds-of (p .0 .1) in
     let q = t .1 .1 .1 in
     let fine = runnable-fine k T F result (p .0 .0) (t .0) (t .1 .0) (t .1 .1 .0) (q .1 .0) (q .1 .1 .0) (p .1) in
-    let l = listed (T .locations) pairs (fine .table .few) (q .0) in
-    record { runnable = fine; few = l .few; even = l .even; known = l .known }
+    record { runnable = fine; fillable = pairs-fine (T .locations) pairs (fine .table .few) (q .0) }
 
 -- Rules that refuse the same.
 run-alike : {rules rules′ : List Rule} (k A : ℕ) (T : Tables) (F : Fleet) (pairs result : List ℕ) → refusal rules ≡ refusal rules′ → {answer : ℕ} {stops′ result′ : List ℕ} →

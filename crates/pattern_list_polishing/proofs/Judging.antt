@@ -1,13 +1,11 @@
 -- The rules of polishing with a list: judged in parts, what they establish, and where the list is that of all patterns. Assumes nothing.
 use mathlib.Core.Path.{_≡_, refl, sym, ap, ap₂, _∙_}
 use mathlib.Core.Bool.{Bool, true, false}
-use mathlib.Core.Logic.{inl}
 use mathlib.Core.List.{List, [], _∷_, _++_}
 use Prim.Native.Nat.{ℕ, suc, _*_, _≤_, _<_}
 use lib.ListN.{length}
 use borrow.Author.Tests.{eq-eqb}
 use Rattle.theory.specs.Moves.{patterns}
-use Rattle.theory.specs.Pairs.{pairs-of}
 use Rattle.theory.specs.Tables.{PatternRows, pattern-rows}
 use Rattle.theory.specs.Question.{Question}
 use Rattle.theory.specs.Refusals.{Rule, number, either, refusal, cut-count, known-stops, known-end, stop-count, table-rules, trip-rules, paired-rules, room}
@@ -18,10 +16,9 @@ use Rattle.theory.proofs.Judged.{cut-count-fine}
 use Rattle.theory.proofs.Rows.{length-rows}
 use Rattle.theory.proofs.Taken.{taken-passes}
 use Rattle.polishing.specs.Loop.{PolishableRows}
-use Rattle.polishing.proofs.Judged.{timed-fine}
+use Rattle.polishing.proofs.Judged.{timed-fine, none-lent, paired-fine, pairs-fine}
 use Rattle.refusal_rules.specs.Rules.{polish-to-end-rules}
 use Rattle.refusal_rules.proofs.Parts.{then-room, both-pass, pass-with-room}
-use Rattle.refusal_rules.proofs.Paired.{trip-passes, pairs-listed}
 use Rattle.pattern_lists.specs.Lists.{list-rules, Counted}
 use Rattle.pattern_lists.proofs.Judging.{some-rows, as-many}
 use Rattle.pattern_lists.proofs.Lists.{judged-rows, full-list}
@@ -65,11 +62,10 @@ module _ (q : Question) (orders masks : List ℕ) (lent : ℕ) where
 
     -- Without pairs no words are lent.
     pub polishable : q .trip .pairs ≡ [] → PolishableRows (q .k) (q .trip) orders masks [] (q .route)
-    unfolding pairs-of
     polishable none =
         let p = both-pass (list-rules (q .k) orders masks) trip (passes .0) in
         let r = rows-fine (p .0) in
-        record { least = r .least; most = r .most; timed = timed-fine (q .trip) (q .route) (p .1); patterns = r .patterns; not-empty = r .not-empty; lent = inl (ap pairs-of none, refl) }
+        record { least = r .least; most = r .most; timed = timed-fine (q .trip) (q .route) (p .1); patterns = r .patterns; not-empty = r .not-empty; lent = rw none (none-lent [] refl) }
 
   -- ---- with pairs
 
@@ -98,16 +94,14 @@ module _ (q : Question) (orders masks : List ℕ) (lent : ℕ) where
     rows-with-pairs =
         let p = both-pass (list-rules (q .k) orders masks) paired (passes-paired .0) in
         let r = rows-fine (p .0) in
-        let l = pairs-listed (q .trip) (q .route) (p .1) in
+        let t = paired-fine (q .trip) (q .route) (p .1) in
         record {
           least = r .least;
           most = r .most;
-          timed = timed-fine (q .trip) (q .route) (trip-passes (q .trip) (q .route) (p .1));
+          timed = t;
           patterns = r .patterns;
           not-empty = r .not-empty;
-          few = l .few;
-          even = l .even;
-          known = l .known;
+          fillable = pairs-fine (q .trip .tables .locations) (q .trip .pairs) (t .measurable .table .few) (p .1 .1 .1 .1 .1 .1 .1 .0);
         }
 
   -- "Entries of before act as with an empty list": with none the same is refused.

@@ -1,4 +1,3 @@
 pub mod Replies
 pub mod Judging
-pub mod Paired
 pub mod Runs

@@ -2,8 +2,8 @@
 -- candidate bound counts them."
 use mathlib.Core.Path.{_≡_}
 use mathlib.Core.List.{List, _++_}
-use Prim.Native.Nat.{ℕ, _%_, _≤_, _<_}
-use lib.ListN.{length, getD}
+use Prim.Native.Nat.{ℕ, _≤_, _<_}
+use lib.ListN.{length}
 use Rattle.theory.specs.Moves.{Pattern}
 use Rattle.theory.specs.Scan.{Reply}
 use Rattle.theory.specs.Polish.{polish-with, Demand3}
@@ -11,6 +11,7 @@ use Rattle.theory.specs.Tables.{Trip, problem, Timed, PatternRows, pattern-rows
 use Rattle.theory.specs.Question.{Question}
 use Rattle.theory.specs.Refusals.{Rule, trip-rules, paired-rules}
 use Rattle.theory.specs.Answers.{handed-back}
+use Rattle.precedence.specs.Words.{PairsFillable}
 use Rattle.polish_numbers.specs.Replied.{Replied}
 use Rattle.refusal_rules.specs.Rules.{with-room}
 use Rattle.pattern_lists.specs.Lists.{list-rules}
@@ -45,6 +46,4 @@ pub record RowsWithPairs (k : ℕ) (T : Trip) (orders masks route : List ℕ) : 
   pub timed : Timed T route
   pub patterns : PatternRows k orders masks
   pub not-empty : 0 < length masks
-  pub few : length (T .pairs) ≤ 128
-  pub even : length (T .pairs) % 2 ≡ 0
-  pub known : (i : ℕ) → i < length (T .pairs) → getD (T .pairs) i 0 < 1024
+  pub fillable : PairsFillable (T .pairs)

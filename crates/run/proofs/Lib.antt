@@ -5,4 +5,3 @@ pub mod Judged
 pub mod Runs
 pub mod Facts
 pub mod Returns
-pub mod Paired

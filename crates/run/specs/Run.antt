@@ -1,7 +1,7 @@
 -- Document 01, "Run": the rounds one after the other, with one allowance for all of them.
 use mathlib.Core.Path.{_≡_}
 use mathlib.Core.List.{List, [], _∷_, _++_, map, flatMap}
-use Prim.Native.Nat.{ℕ, _+_, _-_, _*_, _%_, _≤_, _<_}
+use Prim.Native.Nat.{ℕ, _+_, _-_, _*_, _≤_, _<_}
 use lib.ListN.{length, getD, take, drop}
 use Rattle.theory.specs.Moves.{patterns, total, upfrom}
 use Rattle.theory.specs.Pairs.{pairs-of}
@@ -9,7 +9,7 @@ use Rattle.theory.specs.Route.{count}
 use Rattle.theory.specs.Polish.{KOptimal}
 use Rattle.theory.specs.Tables.{Tables, Trip, Fleet, problem, LegTable, Times}
 use Rattle.theory.specs.Answers.{round-values}
-use Rattle.precedence.specs.Words.{PairsLent}
+use Rattle.precedence.specs.Words.{PairsLent, PairsFillable}
 use Rattle.run_numbers.specs.States.{examined-of, Finished}
 use Rattle.run.specs.Round.{Outcome, run-round}
 
@@ -78,9 +78,7 @@ pub record RunnableLent (k : ℕ) (T : Tables) (F : Fleet) (pairs members result
 
 pub record RunnableWithPairs (k : ℕ) (T : Tables) (F : Fleet) (pairs result : List ℕ) : Type 0 where
   pub runnable : Runnable k T F result
-  pub few : length pairs ≤ 128
-  pub even : length pairs % 2 ≡ 0
-  pub known : (i : ℕ) → i < length pairs → getD pairs i 0 < 1024
+  pub fillable : PairsFillable pairs
 
 -- What a run promises: stops and result by the definition, the places of the result beyond those written kept; each round holds the same stops, each as
 -- often, and in the order handed in unless its state is 4; all rounds together examine no more than the allowance, and a round is spent only when they

@@ -15,7 +15,7 @@ use Rattle.theory.specs.declared.Polished.the-variants.{Finished, Spent}
 use Rattle.theory.proofs.LatePosition.{late-position-none}
 use Rattle.theory.proofs.Refusals.{known, accepted}
 use Rattle.polishing.specs.Loop.{Polishable}
-use Rattle.polishing.proofs.Judged.{polishable-fine}
+use Rattle.polishing.proofs.Judged.{polishable-fine, none-lent}
 use Rattle.text_printing.specs.Answer.{none-line, late-line, refusal-text, Printed}
 use Rattle.text_printing.proofs.Answer.{none-exactly}
 use Rattle.text.specs.Program.{reply-text, question-text, polished-text}
@@ -44,4 +44,4 @@ module _ (q : Question) (number : ℕ) (judged : number ≡ refusal (question-ru
 
 pub fine : (q : Question) (number : ℕ) → number ≡ refusal (question-rules q) → number ≡ 0 → q .trip .pairs ≡ [] → Polishable (q .k) (q .trip) [] (q .route)
 unfolding known
-fine q number judged h none = polishable-fine q none (accepted (question-rules q) refl (sym judged ∙ h))
+fine q number judged h none = polishable-fine q [] (rw none (none-lent [] refl)) (accepted (question-rules q) refl (sym judged ∙ h))

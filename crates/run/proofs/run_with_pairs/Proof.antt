@@ -1,18 +1,17 @@
 -- `run::run_with_pairs` meets its contract. Assumes nothing.
-use mathlib.Core.Path.{sym}
-use Rattle.run.proofs.Paired.{fillable, with-words}
+use Rattle.polishing.proofs.Judged.{fillable, words-lent}
 use borrow.Author.Needs.{needs}
 use Rattle.run.proofs.run_with_pairs.Statement.{statement}
 use Rattle.run.proofs.run_with_pairs.Tie as tie
 
 fill-members-requires : tie.Need-fill-members-requires
-fill-members-requires c κs = fillable (c .before .before .before .before .before .before .before .before .before .before .before .pre)
+fill-members-requires c κs = fillable (c .before .before .before .before .before .before .before .before .before .before .before .pre .fillable)
 
 slice-aggregate-run-list-k-opt-in-phase : tie.Need-slice-aggregate-run-list-k-opt-in-phase
 slice-aggregate-run-list-k-opt-in-phase c = search needs
 
 run-list-k-opt-in-phase-requires : tie.Need-run-list-k-opt-in-phase-requires
-run-list-k-opt-in-phase-requires c κs = with-words (c .before .before .before .before .before .before .before .before .before .before .before .before .before .before .before .pre) (c .before .before .before .fill-members .ensures)
+run-list-k-opt-in-phase-requires c κs = record { runnable = c .before .before .before .before .before .before .before .before .before .before .before .before .before .before .before .pre .runnable; lent = words-lent (c .before .before .before .fill-members .ensures) }
 
 same-length : tie.Need-same-length
 same-length c = search needs
