@@ -106,7 +106,7 @@ fn polish_paired_refusal(
     ensures { λ r. ⌜ r ≡ refusal (with-room (list-rules k (now (orders .entry)) (now (masks .entry)) ++ paired-rules (trip locations (now (legs .entry)) (now (latest .entry)) (now (service .entry)) depot end (now (pairs .entry))) (now (route .entry))) 6 lent) ⌝ }
 {
     let bad_list = pattern_lists::list_refusal(k, orders, masks);
-    let bad_trip = refusal_rules::paired_refusal(
+    let bad_paired = refusal_rules::paired_refusal(
         locations,
         legs,
         latest,
@@ -117,7 +117,7 @@ fn polish_paired_refusal(
         route,
     );
     let bad_room = refusals::check_room(6, lent);
-    refusals::first(bad_list, refusals::first(bad_trip, bad_room))
+    refusals::first(bad_list, refusals::first(bad_paired, bad_room))
 }
 
 // Polishing with the words of the pairs, which stand here alone.

@@ -6,7 +6,7 @@ ghost use mathlib.Core.List.{[], _∷_};
 ghost use Prim.Native.Nat.{_+_, _*_};
 ghost use lib.ListN.{length};
 ghost use Rattle.theory.specs.Tables.{tables, trip, fleet};
-ghost use Rattle.theory.specs.Refusals.{refusal, number, cut-count, trip-rules, paired-rules};
+ghost use Rattle.theory.specs.Refusals.{refusal, number, cut-count, round-lists, end-list, trip-rules, paired-rules};
 ghost use Rattle.refusal_rules.specs.Rules.{pattern-rules, next-cut-set-rules, reconnect-rules, route-length-to-end-rules, delta-to-end-rules, pair-loop-rules, rounds-to-ends-rules, rounds-with-pairs-rules, run-to-ends-rules, run-with-pairs-rules, nearby-rules, short-pair, find-move-rules, with-room};
 
 pub fn pattern_refusal(k: usize, pattern: usize) -> u32
@@ -159,9 +159,9 @@ pub fn polish_paired_refusal(
     ensures { λ r. ⌜ r ≡ refusal (with-room (cut-count k ∷ paired-rules (trip locations (now (legs .entry)) (now (latest .entry)) (now (service .entry)) depot end (now (pairs .entry))) (now (route .entry))) 6 lent) ⌝ }
 {
     let bad_k = refusals::check_cut_count(k);
-    let bad_trip = paired_refusal(locations, legs, latest, service, depot, end, pairs, route);
-    let bad_room = refusals::check_room(6, lent);
-    refusals::first(refusals::first(bad_k, bad_trip), bad_room)
+    let bad_paired = paired_refusal(locations, legs, latest, service, depot, end, pairs, route);
+    let no_room = refusals::check_room(6, lent);
+    refusals::first(refusals::first(bad_k, bad_paired), no_room)
 }
 
 pub fn pair_loop_refusal(
@@ -180,6 +180,23 @@ pub fn pair_loop_refusal(
     refusals::first(bad_round, bad_result)
 }
 
+// The sizes of a run's lists, and of its result.
+fn sizes_refusal(
+    stops: usize,
+    lengths: &[usize],
+    depots: &[u32],
+    ends: &[u32],
+    pins: &[u8],
+    lent: usize,
+) -> u32
+    ensures { λ r. ⌜ r ≡ refusal (with-room (round-lists (now (lengths .entry)) (now (depots .entry)) (now (pins .entry)) stops ∷ end-list (now (lengths .entry)) (now (ends .entry)) ∷ []) (4 * length (now (lengths .entry))) lent) ⌝ }
+{
+    let bad_rounds = refusals::check_round_lists(lengths, depots, pins, stops);
+    let bad_list = refusals::check_end_list(lengths, ends);
+    let bad_room = refusals::check_room(4 * lengths.len(), lent);
+    refusals::first(bad_rounds, refusals::first(bad_list, bad_room))
+}
+
 fn rounds_refusal(
     locations: usize,
     stops: &[u32],
@@ -193,10 +210,7 @@ fn rounds_refusal(
 {
     let bad_stops = refusals::check_known_rounds(locations, depots, stops);
     let bad_ends = refusals::check_known_ends(locations, ends);
-    let bad_rounds = refusals::check_round_lists(lengths, depots, pins, stops.len());
-    let bad_list = refusals::check_end_list(lengths, ends);
-    let bad_room = refusals::check_room(4 * lengths.len(), lent);
-    let bad_sizes = refusals::first(bad_rounds, refusals::first(bad_list, bad_room));
+    let bad_sizes = sizes_refusal(stops.len(), lengths, depots, ends, pins, lent);
     refusals::first(bad_stops, refusals::first(bad_ends, bad_sizes))
 }
 
@@ -215,10 +229,7 @@ fn rounds_paired_refusal(
     let bad_stops = refusals::check_known_rounds(locations, depots, stops);
     let bad_ends = refusals::check_known_ends(locations, ends);
     let bad_pairs = precedence::check_pair_list(locations, pairs);
-    let bad_rounds = refusals::check_round_lists(lengths, depots, pins, stops.len());
-    let bad_list = refusals::check_end_list(lengths, ends);
-    let bad_room = refusals::check_room(4 * lengths.len(), lent);
-    let bad_sizes = refusals::first(bad_rounds, refusals::first(bad_list, bad_room));
+    let bad_sizes = sizes_refusal(stops.len(), lengths, depots, ends, pins, lent);
     let bad_lists = refusals::first(bad_pairs, bad_sizes);
     refusals::first(bad_stops, refusals::first(bad_ends, bad_lists))
 }
