@@ -10,6 +10,8 @@ pub struct Slices<'s> {
     pub legs: &'s [u32],
     pub latest: &'s [u32],
     pub service: &'s [u32],
+    /// Of the calls that take them.
+    pub pairs: &'s [u32],
     pub route: &'s mut [u32],
     pub result: &'s mut [u64],
 }
@@ -20,18 +22,21 @@ pub fn given(case: &Case, call: impl FnOnce(Slices) -> u32) -> Result<Reply, Str
     let mut legs = Lent::new("legs", &case.tables.legs);
     let mut latest = Lent::new("deadlines", &case.tables.latest);
     let mut service = Lent::new("service", &case.tables.service);
+    let mut pairs = Lent::new("pairs", case.tables.pairs());
     let mut route = Lent::new("route", &case.route);
     let mut result = Lent::new("result", &room);
     let code = call(Slices {
         legs: legs.slice(),
         latest: latest.slice(),
         service: service.slice(),
+        pairs: pairs.slice(),
         route: route.slice(),
         result: result.slice(),
     });
     legs.kept()?;
     latest.kept()?;
     service.kept()?;
+    pairs.kept()?;
     Ok(Reply::new(code, [route.written()?, result.written()?]))
 }
 

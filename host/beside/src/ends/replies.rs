@@ -1,4 +1,4 @@
-//! Both replies to a call of polishing to an end harbour.
+//! Both replies to a call of polishing to an end harbour, with pairs or without.
 
 use super::plain;
 use crate::cases::ends::Case;
@@ -20,6 +20,18 @@ impl Case {
         Ok(by_rust)
     }
 
+    /// How it was handed in, and whether it was changed.
+    fn paired_kind(&self, changed: bool) -> &'static str {
+        let kept = self.closed.tables.keeps_pairs(&self.closed.route);
+        match (self.closed.tables.pairs().is_empty(), kept, changed) {
+            (true, ..) => "no pairs",
+            (_, true, false) => "pairs kept",
+            (_, true, true) => "pairs kept and changed",
+            (_, false, false) => "pairs not kept",
+            (_, false, true) => "pairs not kept and mended",
+        }
+    }
+
     fn by_the_documents(&self) -> (Counts, Vec<u32>) {
         plain::polish(self, &plain::all_patterns(self.closed.k))
     }
@@ -32,8 +44,8 @@ impl Trial for Case {
 
     fn given(&self) -> Result<Reply, String> {
         let case = &self.closed;
-        one_route::given(case, |lent| {
-            ffi::polish_route_to_end(
+        one_route::given(case, |lent| match case.tables.pairs {
+            None => ffi::polish_route_to_end(
                 case.k,
                 case.allowance,
                 case.tables.locations,
@@ -44,11 +56,27 @@ impl Trial for Case {
                 self.end,
                 lent.route,
                 lent.result,
-            )
+            ),
+            Some(_) => ffi::polish_route_with_pairs(
+                case.k,
+                case.allowance,
+                case.tables.locations,
+                lent.legs,
+                lent.latest,
+                lent.service,
+                case.depot,
+                self.end,
+                lent.pairs,
+                lent.route,
+                lent.result,
+            ),
         })
     }
 
     fn kind(&self, expected: &Reply) -> &'static str {
+        if self.closed.tables.pairs.is_some() {
+            return self.paired_kind(expected.number(1, 2) > 0);
+        }
         let back = self.end == self.closed.depot;
         match (expected.number(1, 0), expected.number(1, 2)) {
             (0, 0) if back => "back at the depot",

@@ -11,6 +11,7 @@ use crate::trial::{Reply, Trial};
 use crate::{ffi, one_route, oracle};
 use std::fmt::{Display, Formatter, Result as Written};
 
+#[derive(Clone)]
 pub struct Case {
     pub ended: ends::Case,
     pub rows: Rows,
@@ -35,6 +36,7 @@ impl Case {
             service,
             (4, case.unknown_place()),
             (24, case.tables.unknown(&[self.ended.end])),
+            (29, case.tables.bad_pairs()),
             (5, too_many_stops(case.route.len())),
             (21, case.room < RESULT_PLACES),
         ])
@@ -67,8 +69,8 @@ impl Trial for Case {
         let (case, end) = (&self.ended.closed, self.ended.end);
         let mut orders = Lent::new("orders", &self.rows.orders);
         let mut masks = Lent::new("masks", &self.rows.masks);
-        let reply = one_route::given(case, |lent| {
-            ffi::polish_with_patterns(
+        let reply = one_route::given(case, |lent| match case.tables.pairs {
+            None => ffi::polish_with_patterns(
                 case.k,
                 orders.slice(),
                 masks.slice(),
@@ -81,7 +83,22 @@ impl Trial for Case {
                 end,
                 lent.route,
                 lent.result,
-            )
+            ),
+            Some(_) => ffi::polish_with_patterns_and_pairs(
+                case.k,
+                orders.slice(),
+                masks.slice(),
+                case.allowance,
+                case.tables.locations,
+                lent.legs,
+                lent.latest,
+                lent.service,
+                case.depot,
+                end,
+                lent.pairs,
+                lent.route,
+                lent.result,
+            ),
         });
         orders.kept()?;
         masks.kept()?;
