@@ -134,16 +134,14 @@ pub fn polish_route(
 ///
 /// let legs = [0, 5, 1, 1, 0, 5, 5, 1, 0];
 /// let tables = Tables::without_service(3, &legs, &[u32::MAX; 3]);
-/// let mut polish = |pairs: &[_], route| polish_route_with_pairs(3, 100, &tables, 0, pairs, route);
 /// let mut route = [1, 2];
-/// assert_eq!(polish(&[[1, 2]], &mut route)?.accepted, 0);
-/// // Not kept as it is handed in.
-/// assert_eq!(polish(&[[2, 1]], &mut route)?.saved(), 12);
-/// assert_eq!(route, [2, 1]);
+/// let kept = polish_route_with_pairs(3, 100, &tables, 0, &[[1, 2]], &mut route)?;
+/// assert_eq!((kept.accepted, route), (0, [1, 2]));
 ///
-/// let to_1 = Harbours { depot: 0, end: 1 };
-/// let kept = polish_route_with_pairs(3, 100, &tables, to_1, &[[2, 1]], &mut route)?;
-/// assert_eq!((kept.after, kept.late), (2, None));
+/// // From location 0 to location 1, with a pair that is not kept as the route is handed in.
+/// let harbours = Harbours { depot: 0, end: 1 };
+/// let mended = polish_route_with_pairs(3, 100, &tables, harbours, &[[2, 1]], &mut route)?;
+/// assert_eq!((mended.before, mended.after, route), (11, 2, [2, 1]));
 /// # Ok::<(), mittenschist::Refusal>(())
 /// ```
 pub fn polish_route_with_pairs(
