@@ -1,6 +1,6 @@
 //! Random lists of pairs that are not refused.
 
-use crate::draw::another_order;
+use crate::draw::{another_order, some_place};
 use crate::in_order::keeps_pairs;
 use crate::random::Random;
 use crate::rules::MOST_PAIRS;
@@ -8,18 +8,19 @@ use crate::tables::Tables;
 
 type Pair = [u32; 2];
 
-/// Pairs of one kind, drawn for one route, seldom with one of another kind: kept as the route stands, kept by an order near it, broken as it stands, or of
-/// any locations; then some of them again, or turned round, or with the depot.
+/// Pairs of one kind, drawn for one route: kept as the route stands, kept by an order near it, broken as it stands, of any locations, or one alone that
+/// matters. Then seldom one of them again, or turned round, or one with the depot.
 pub fn set_pairs(random: &mut Random, tables: &mut Tables, depot: u32, route: &[u32]) {
     let any = random.within(0, MOST_PAIRS);
     let count = random.pick([0, 1, 1, 2, 3, 16, 16, MOST_PAIRS, any]);
-    let mut pairs = match random.below(5) {
+    let mut pairs = match random.below(6) {
         0 | 1 => kept_by(random, route, count),
         2 => {
             let other = another_order(random, route);
             kept_by(random, &other, count)
         }
         3 => broken_by(random, route, count),
+        4 => one_that_matters(random, tables, route, count),
         _ => of_any(random, tables, count),
     };
     if pairs.len() < MOST_PAIRS && random.one_in(4) {
@@ -49,6 +50,29 @@ fn of_any(random: &mut Random, tables: &Tables, count: usize) -> Vec<Pair> {
         let pair = [(); 2].map(|_| random.index(tables.locations) as u32);
         Some(pair).filter(|pair| pair[0] != pair[1])
     })
+}
+
+/// One that the route keeps, at some place among pairs with a member that is no stop.
+fn one_that_matters(
+    random: &mut Random,
+    tables: &Tables,
+    route: &[u32],
+    count: usize,
+) -> Vec<Pair> {
+    let mut places = 0..tables.locations as u32;
+    let Some(absent) = places.find(|place| !route.contains(place)) else {
+        return kept_by(random, route, count);
+    };
+    let mut pairs = drawn(count, || {
+        let place = random.index(tables.locations) as u32;
+        let pair = random.pick([[absent, place], [place, absent]]);
+        Some(pair).filter(|_| place != absent)
+    });
+    let chosen = some_place(random, pairs.len());
+    for (place, pair) in pairs.iter_mut().skip(chosen).zip(kept_by(random, route, 1)) {
+        *place = pair;
+    }
+    pairs
 }
 
 /// Some draws give none.

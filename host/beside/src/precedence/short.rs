@@ -1,4 +1,4 @@
-//! Every call of a small kind: three locations, legs 0, 1 or 3, each list of pairs of a few; and the text case.
+//! Every call of a small kind: three locations, legs 0, 1 or 3, each list of pairs of a few; and the text case, with lists that are refused too.
 
 use crate::cases::ends::Case;
 use crate::cases::polish::{self, RESULT_PLACES};
@@ -20,8 +20,21 @@ const PAIRS: [&[u32]; 8] = [
     &[1, 2, 2, 0, 0, 1],
 ];
 
+/// A member without its partner, one that is no location, equal ones.
+const REFUSED: [&[u32]; 9] = [
+    &[1],
+    &[1, 2, 0],
+    &[1, 3],
+    &[3, 1],
+    &[1, 2, 0, u32::MAX],
+    &[1, 1],
+    &[0, 0],
+    &[1, 2, 2, 2],
+    &[3, 3],
+];
+
 pub fn each(random: &mut Random, visit: Visit) {
-    for pairs in PAIRS {
+    for pairs in PAIRS.into_iter().chain(REFUSED) {
         for allowance in [0, 6, 7, 10, 11, 100] {
             for route in [vec![1, 2], vec![1], vec![1, 2, 1], vec![2, 0, 1]] {
                 let mut closed = text_case(allowance);
@@ -30,6 +43,8 @@ pub fn each(random: &mut Random, visit: Visit) {
                 visit(Box::new(Case { closed, end: 0 }));
             }
         }
+    }
+    for pairs in PAIRS {
         for six in lists(&[0, 1, 3], 6) {
             let legs = vec![0, six[0], six[1], six[2], 0, six[3], six[4], six[5], 0];
             let mut tables = Tables::of_legs(3, legs);
