@@ -47,4 +47,5 @@ pub mod share;
 pub mod tables;
 pub mod text;
 pub mod trial;
+pub mod turns;
 pub mod watch;
