@@ -56,16 +56,10 @@ pub fn pair_loop(
     depot: u32,
     route: &mut [u32],
 ) -> Result<PairLooped, Refusal> {
+    let (locations, legs, latest, service) = tables.parts();
     let polished = Polished::by(route, |route, result| {
         raw::pair_loop(
-            allowance,
-            tables.locations,
-            tables.legs,
-            tables.latest,
-            tables.service,
-            depot,
-            route,
-            result,
+            allowance, locations, legs, latest, service, depot, route, result,
         )
     });
     // The same six numbers, with pairs for candidates.

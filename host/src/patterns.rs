@@ -91,20 +91,12 @@ pub fn polish_with_patterns(
     harbours: impl Into<Harbours>,
     route: &mut [u32],
 ) -> Result<Polished, Refusal> {
+    let Patterns { k, orders, masks } = patterns;
     let Harbours { depot, end } = harbours.into();
+    let (locations, legs, latest, service) = tables.parts();
     Polished::by(route, |route, result| {
         raw::polish_with_patterns(
-            patterns.k,
-            patterns.orders,
-            patterns.masks,
-            allowance,
-            tables.locations,
-            tables.legs,
-            tables.latest,
-            tables.service,
-            depot,
-            end,
-            route,
+            k, orders, masks, allowance, locations, legs, latest, service, depot, end, route,
             result,
         )
     })
@@ -134,22 +126,14 @@ pub fn polish_with_patterns_and_pairs(
     pairs: &[Pair],
     route: &mut [u32],
 ) -> Result<Polished, Refusal> {
+    let Patterns { k, orders, masks } = patterns;
     let Harbours { depot, end } = harbours.into();
+    let (locations, legs, latest, service) = tables.parts();
+    let members = pairs.as_flattened();
     Polished::by(route, |route, result| {
         raw::polish_with_patterns_and_pairs(
-            patterns.k,
-            patterns.orders,
-            patterns.masks,
-            allowance,
-            tables.locations,
-            tables.legs,
-            tables.latest,
-            tables.service,
-            depot,
-            end,
-            pairs.as_flattened(),
-            route,
-            result,
+            k, orders, masks, allowance, locations, legs, latest, service, depot, end, members,
+            route, result,
         )
     })
 }

@@ -107,18 +107,10 @@ pub fn polish_route(
     route: &mut [u32],
 ) -> Result<Polished, Refusal> {
     let Harbours { depot, end } = harbours.into();
+    let (locations, legs, latest, service) = tables.parts();
     Polished::by(route, |route, result| {
         raw::polish_route_to_end(
-            k,
-            allowance,
-            tables.locations,
-            tables.legs,
-            tables.latest,
-            tables.service,
-            depot,
-            end,
-            route,
-            result,
+            k, allowance, locations, legs, latest, service, depot, end, route, result,
         )
     })
 }
@@ -153,19 +145,11 @@ pub fn polish_route_with_pairs(
     route: &mut [u32],
 ) -> Result<Polished, Refusal> {
     let Harbours { depot, end } = harbours.into();
+    let (locations, legs, latest, service) = tables.parts();
+    let members = pairs.as_flattened();
     Polished::by(route, |route, result| {
         raw::polish_route_with_pairs(
-            k,
-            allowance,
-            tables.locations,
-            tables.legs,
-            tables.latest,
-            tables.service,
-            depot,
-            end,
-            pairs.as_flattened(),
-            route,
-            result,
+            k, allowance, locations, legs, latest, service, depot, end, members, route, result,
         )
     })
 }

@@ -93,22 +93,7 @@ pub fn run_list_k_opt(
     tables: &Tables,
     rounds: Rounds,
 ) -> Result<Vec<RoundReply>, Refusal> {
-    replies(rounds.lengths, |result| {
-        raw::run_list_k_opt_to_ends(
-            k,
-            allowance,
-            tables.locations,
-            tables.legs,
-            tables.latest,
-            tables.service,
-            rounds.stops,
-            rounds.lengths,
-            rounds.depots,
-            rounds.ends,
-            rounds.pins,
-            result,
-        )
-    })
+    run(k, allowance, tables, rounds, None)
 }
 
 /// As [`run_list_k_opt`], where every round keeps the same pairs: of a round it is what
@@ -132,33 +117,38 @@ pub fn run_list_k_opt_with_pairs(
     rounds: Rounds,
     pairs: &[Pair],
 ) -> Result<Vec<RoundReply>, Refusal> {
-    replies(rounds.lengths, |result| {
-        raw::run_list_k_opt_with_pairs(
-            k,
-            allowance,
-            tables.locations,
-            tables.legs,
-            tables.latest,
-            tables.service,
-            rounds.stops,
-            rounds.lengths,
-            rounds.depots,
-            rounds.ends,
-            rounds.pins,
-            pairs.as_flattened(),
-            result,
-        )
-    })
+    run(k, allowance, tables, rounds, Some(pairs.as_flattened()))
 }
 
-/// What a call answers of rounds of these lengths: it is lent room for four numbers a round.
-fn replies(
-    lengths: &[usize],
-    call: impl FnOnce(&mut [u64]) -> u32,
+/// With the members of pairs, or by the function that takes none.
+fn run(
+    k: usize,
+    allowance: u64,
+    tables: &Tables,
+    rounds: Rounds,
+    members: Option<&[u32]>,
 ) -> Result<Vec<RoundReply>, Refusal> {
-    let mut result = [[0; 4]; MOST_ROUNDS];
-    Refusal::check(call(result.as_flattened_mut()))?;
-    let replies = result.iter().take(lengths.len());
+    let (locations, legs, latest, service) = tables.parts();
+    let Rounds {
+        stops,
+        lengths,
+        depots,
+        ends,
+        pins,
+    } = rounds;
+    let mut replies = [[0; 4]; MOST_ROUNDS];
+    let result = replies.as_flattened_mut();
+    Refusal::check(match members {
+        None => raw::run_list_k_opt_to_ends(
+            k, allowance, locations, legs, latest, service, stops, lengths, depots, ends, pins,
+            result,
+        ),
+        Some(pairs) => raw::run_list_k_opt_with_pairs(
+            k, allowance, locations, legs, latest, service, stops, lengths, depots, ends, pins,
+            pairs, result,
+        ),
+    })?;
+    let replies = replies.iter().take(lengths.len());
     Ok(replies.map(RoundReply::of).collect())
 }
 

@@ -1,75 +1,25 @@
 //! Calls of polishing that are timed in turn, so that other work on the machine falls on all sides alike; the best of each side counts.
 
 use crate::cases::polish::Case;
-use crate::ffi;
 use crate::lists::rows::Rows;
+use crate::one_route::{polish, Slices};
 use std::time::{Duration, Instant};
 
 /// Six numbers of a call that is not refused, of a closed tour, with the case's pairs if it has a list of them. The route handed back is left in `route`.
 pub fn polished(case: &Case, rows: Option<&Rows>, route: &mut Vec<u32>) -> [u64; 6] {
     let mut result = [0; 6];
     route.clone_from(&case.route);
-    let (k, allowance, depot) = (case.k, case.allowance, case.depot);
     let tables = &case.tables;
-    let (locations, legs) = (tables.locations, &tables.legs[..]);
-    let (latest, service) = (&tables.latest[..], &tables.service[..]);
-    let refused = match (rows, &tables.pairs) {
-        (None, None) => ffi::polish_route_to_end(
-            k,
-            allowance,
-            locations,
-            legs,
-            latest,
-            service,
-            depot,
-            depot,
-            route,
-            &mut result,
-        ),
-        (None, Some(pairs)) => ffi::polish_route_with_pairs(
-            k,
-            allowance,
-            locations,
-            legs,
-            latest,
-            service,
-            depot,
-            depot,
-            pairs,
-            route,
-            &mut result,
-        ),
-        (Some(Rows { orders, masks }), None) => ffi::polish_with_patterns(
-            k,
-            orders,
-            masks,
-            allowance,
-            locations,
-            legs,
-            latest,
-            service,
-            depot,
-            depot,
-            route,
-            &mut result,
-        ),
-        (Some(Rows { orders, masks }), Some(pairs)) => ffi::polish_with_patterns_and_pairs(
-            k,
-            orders,
-            masks,
-            allowance,
-            locations,
-            legs,
-            latest,
-            service,
-            depot,
-            depot,
-            pairs,
-            route,
-            &mut result,
-        ),
+    let lent = Slices {
+        legs: &tables.legs,
+        latest: &tables.latest,
+        service: &tables.service,
+        pairs: tables.pairs(),
+        route,
+        result: &mut result,
     };
-    assert_eq!(refused, 0);
+    let rows = rows.map(|rows| (&rows.orders[..], &rows.masks[..]));
+    assert_eq!(polish(case, case.depot, rows, lent), 0);
     result
 }
 

@@ -123,49 +123,26 @@ impl Case<'_> {
         let mut pins = Lent::new("pins", &self.rounds.pins);
         let mut pairs = Lent::new("pairs", self.pairs.unwrap_or(&[]));
         let mut result = Lent::new("result", &before);
-        let returned = match (&self.rounds.ends, self.pairs) {
-            (_, Some(_)) => raw::run_list_k_opt_with_pairs(
-                self.k,
-                self.allowance,
-                self.tables.locations,
-                legs.slice(),
-                latest.slice(),
-                service.slice(),
-                stops.slice(),
-                lengths.slice(),
-                depots.slice(),
-                ends.slice(),
-                pins.slice(),
-                pairs.slice(),
-                result.slice(),
-            ),
-            (None, _) => raw::run_list_k_opt(
-                self.k,
-                self.allowance,
-                self.tables.locations,
-                legs.slice(),
-                latest.slice(),
-                service.slice(),
-                stops.slice(),
-                lengths.slice(),
-                depots.slice(),
-                pins.slice(),
-                result.slice(),
-            ),
-            (Some(_), _) => raw::run_list_k_opt_to_ends(
-                self.k,
-                self.allowance,
-                self.tables.locations,
-                legs.slice(),
-                latest.slice(),
-                service.slice(),
-                stops.slice(),
-                lengths.slice(),
-                depots.slice(),
-                ends.slice(),
-                pins.slice(),
-                result.slice(),
-            ),
+        let returned = {
+            let (k, allowance, locations) = (self.k, self.allowance, self.tables.locations);
+            let (legs, latest, service) = (legs.slice(), latest.slice(), service.slice());
+            let (stops, lengths, pins) = (stops.slice(), lengths.slice(), pins.slice());
+            let (depots, ends, pairs) = (depots.slice(), ends.slice(), pairs.slice());
+            let result = result.slice();
+            match (&self.rounds.ends, self.pairs) {
+                (_, Some(_)) => raw::run_list_k_opt_with_pairs(
+                    k, allowance, locations, legs, latest, service, stops, lengths, depots, ends,
+                    pins, pairs, result,
+                ),
+                (None, _) => raw::run_list_k_opt(
+                    k, allowance, locations, legs, latest, service, stops, lengths, depots, pins,
+                    result,
+                ),
+                (Some(_), _) => raw::run_list_k_opt_to_ends(
+                    k, allowance, locations, legs, latest, service, stops, lengths, depots, ends,
+                    pins, result,
+                ),
+            }
         };
         assert_eq!(returned, self.refusal(self.room));
         kept(&legs);

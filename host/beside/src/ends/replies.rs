@@ -2,9 +2,9 @@
 
 use super::plain;
 use crate::cases::ends::Case;
+use crate::one_route;
 use crate::oracle::polish::{polish, Counts};
 use crate::trial::{Reply, Trial, NO_ANSWER};
-use crate::{ffi, one_route};
 
 /// Calls that are answered by the plain scan too: up to so many stops.
 const SHORT: usize = 6;
@@ -43,33 +43,8 @@ impl Trial for Case {
     }
 
     fn given(&self) -> Result<Reply, String> {
-        let case = &self.closed;
-        one_route::given(case, |lent| match case.tables.pairs {
-            None => ffi::polish_route_to_end(
-                case.k,
-                case.allowance,
-                case.tables.locations,
-                lent.legs,
-                lent.latest,
-                lent.service,
-                case.depot,
-                self.end,
-                lent.route,
-                lent.result,
-            ),
-            Some(_) => ffi::polish_route_with_pairs(
-                case.k,
-                case.allowance,
-                case.tables.locations,
-                lent.legs,
-                lent.latest,
-                lent.service,
-                case.depot,
-                self.end,
-                lent.pairs,
-                lent.route,
-                lent.result,
-            ),
+        one_route::given(&self.closed, |lent| {
+            one_route::polish(&self.closed, self.end, None, lent)
         })
     }
 

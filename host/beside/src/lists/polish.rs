@@ -8,7 +8,7 @@ use crate::lent::Lent;
 use crate::oracle::polish::Counts;
 use crate::rules::{bad_k, first_refusal, too_many_stops};
 use crate::trial::{Reply, Trial};
-use crate::{ffi, one_route, oracle};
+use crate::{one_route, oracle};
 use std::fmt::{Display, Formatter, Result as Written};
 
 #[derive(Clone)]
@@ -69,36 +69,9 @@ impl Trial for Case {
         let (case, end) = (&self.ended.closed, self.ended.end);
         let mut orders = Lent::new("orders", &self.rows.orders);
         let mut masks = Lent::new("masks", &self.rows.masks);
-        let reply = one_route::given(case, |lent| match case.tables.pairs {
-            None => ffi::polish_with_patterns(
-                case.k,
-                orders.slice(),
-                masks.slice(),
-                case.allowance,
-                case.tables.locations,
-                lent.legs,
-                lent.latest,
-                lent.service,
-                case.depot,
-                end,
-                lent.route,
-                lent.result,
-            ),
-            Some(_) => ffi::polish_with_patterns_and_pairs(
-                case.k,
-                orders.slice(),
-                masks.slice(),
-                case.allowance,
-                case.tables.locations,
-                lent.legs,
-                lent.latest,
-                lent.service,
-                case.depot,
-                end,
-                lent.pairs,
-                lent.route,
-                lent.result,
-            ),
+        let reply = one_route::given(case, |lent| {
+            let rows = (&*orders.slice(), &*masks.slice());
+            one_route::polish(case, end, Some(rows), lent)
         });
         orders.kept()?;
         masks.kept()?;

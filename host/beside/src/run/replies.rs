@@ -35,49 +35,26 @@ impl Trial for Case {
         let mut result = Lent::new("result", &room);
         let mut ends = Lent::new("ends", self.ends());
         let mut pairs = Lent::new("pairs", self.tables.pairs());
-        let code = match (&self.ends, &self.tables.pairs) {
-            (_, Some(_)) => ffi::run_list_k_opt_with_pairs(
-                self.k,
-                self.allowance,
-                self.tables.locations,
-                legs.slice(),
-                latest.slice(),
-                service.slice(),
-                stops.slice(),
-                lengths.slice(),
-                depots.slice(),
-                ends.slice(),
-                pins.slice(),
-                pairs.slice(),
-                result.slice(),
-            ),
-            (None, _) => ffi::run_list_k_opt(
-                self.k,
-                self.allowance,
-                self.tables.locations,
-                legs.slice(),
-                latest.slice(),
-                service.slice(),
-                stops.slice(),
-                lengths.slice(),
-                depots.slice(),
-                pins.slice(),
-                result.slice(),
-            ),
-            (Some(_), _) => ffi::run_list_k_opt_to_ends(
-                self.k,
-                self.allowance,
-                self.tables.locations,
-                legs.slice(),
-                latest.slice(),
-                service.slice(),
-                stops.slice(),
-                lengths.slice(),
-                depots.slice(),
-                ends.slice(),
-                pins.slice(),
-                result.slice(),
-            ),
+        let code = {
+            let (k, allowance, locations) = (self.k, self.allowance, self.tables.locations);
+            let (legs, latest, service) = (legs.slice(), latest.slice(), service.slice());
+            let (stops, lengths, pins) = (stops.slice(), lengths.slice(), pins.slice());
+            let (depots, ends, pairs) = (depots.slice(), ends.slice(), pairs.slice());
+            let result = result.slice();
+            match (&self.ends, &self.tables.pairs) {
+                (_, Some(_)) => ffi::run_list_k_opt_with_pairs(
+                    k, allowance, locations, legs, latest, service, stops, lengths, depots, ends,
+                    pins, pairs, result,
+                ),
+                (None, _) => ffi::run_list_k_opt(
+                    k, allowance, locations, legs, latest, service, stops, lengths, depots, pins,
+                    result,
+                ),
+                (Some(_), _) => ffi::run_list_k_opt_to_ends(
+                    k, allowance, locations, legs, latest, service, stops, lengths, depots, ends,
+                    pins, result,
+                ),
+            }
         };
         legs.kept()?;
         latest.kept()?;
