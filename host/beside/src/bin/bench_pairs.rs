@@ -8,7 +8,7 @@ use beside::cases::polish::Case;
 use beside::lists::rows::Rows;
 use beside::oracle::polish::polish_marked;
 use beside::polish::measured::{self, KINDS};
-use beside::precedence::lists::kept_by;
+use beside::precedence::lists::{broken_for_good, kept_by};
 use beside::random::Random;
 use beside::turns::{polished, ratio, timed};
 use std::hint::black_box;
@@ -95,24 +95,23 @@ fn told_empty(case: &Case, rows: Option<&Rows>) -> String {
     format!(" {one:.2} | {other:.2} | {:.3} |", ratio(with, without))
 }
 
-/// Lists of pairs by their names: kept by the route; and as many with two more in their places that contradict each other, at the route's ends, its
-/// beginning or its middle.
+/// Lists of pairs by their names: kept by the route; and as many of which two contradict each other, at the route's ends, its beginning or its middle.
 fn lists(route: &[u32]) -> Vec<(String, Vec<u32>)> {
     let mut random = Random::new(1958);
     let mut all = Vec::new();
     let last = route.len() - 1;
     for count in [16, 64] {
-        let kept = kept_by(&mut random, route, count).concat();
-        for (name, one, other) in [
-            ("across", 0, last),
-            ("in front", 0, 1),
-            ("in the middle", last / 2, last / 2 + 1),
+        let kept = kept_by(&mut random, route, count);
+        all.push((format!("{count} kept"), kept.concat()));
+        for (name, at) in [
+            ("across", [0, last]),
+            ("in front", [0, 1]),
+            ("in the middle", [last / 2, last / 2 + 1]),
         ] {
-            let (one, other) = (route[one], route[other]);
-            let broken = [&[one, other, other, one], &kept[4..]].concat();
-            all.push((format!("{count}, two against each other {name}"), broken));
+            let broken = broken_for_good(&mut random, route, count, at);
+            let name = format!("{count}, two against each other {name}");
+            all.push((name, broken.concat()));
         }
-        all.push((format!("{count} kept"), kept));
     }
     all
 }

@@ -2,11 +2,13 @@
 
 use super::lists::set_pairs;
 use crate::cases::{ends, run};
-use crate::ends::generate::{near_the_whole, random_ended};
+use crate::draw::some_legs;
+use crate::ends::generate::{near_the_whole, random_ended, some_end};
 use crate::ends::runs::to_ends;
 use crate::lists;
 use crate::lists::generate::some_rows;
 use crate::lists::rows::Rows;
+use crate::polish::stretches::route_of;
 use crate::random::Random;
 use crate::run::damage::with_a_round;
 use crate::run::generate::random_run;
@@ -14,6 +16,19 @@ use crate::trial::Drawn;
 
 pub fn draw(random: &mut Random, _index: u64) -> Drawn {
     (Box::new(random_paired(random)), None)
+}
+
+/// Longer routes, of which many are finished for k = 2 and few for k = 5.
+pub fn draw_long(random: &mut Random, _index: u64) -> Drawn {
+    let k = random.within(2, 5);
+    let stops = random.within(8, [120, 40, 24, 16][k - 2]);
+    let mut closed = route_of(random, k, stops);
+    closed.tables.legs = some_legs(random, closed.tables.locations);
+    closed.allowance = random.below(1 << 17);
+    let end = some_end(random, &closed.tables, closed.depot);
+    let mut case = ends::Case { closed, end };
+    pair(random, &mut case);
+    (Box::new(case), None)
 }
 
 pub fn draw_list(random: &mut Random, _index: u64) -> Drawn {

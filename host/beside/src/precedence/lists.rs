@@ -44,6 +44,19 @@ fn broken_by(random: &mut Random, route: &[u32], count: usize) -> Vec<Pair> {
     })
 }
 
+/// So many pairs of which two contradict each other, at each of these two positions; the others are kept as the route stands.
+pub fn broken_for_good(
+    random: &mut Random,
+    route: &[u32],
+    count: usize,
+    at: [usize; 2],
+) -> Vec<Pair> {
+    let [one, other] = at.map(|position| route[position]);
+    let mut pairs = vec![[one, other], [other, one]];
+    pairs.extend(kept_by(random, route, count - 2));
+    pairs
+}
+
 /// Members may be no stops.
 fn of_any(random: &mut Random, tables: &Tables, count: usize) -> Vec<Pair> {
     drawn(count, || {

@@ -4,19 +4,39 @@
 
 mod bounds;
 mod damage;
+mod deep;
 mod empty;
 mod generate;
 pub mod lists;
+mod planted;
 mod short;
+mod stretches;
 
+use crate::polish::planted::PATTERNS;
 use crate::trial::{Family, Source};
 
 const POLISH: &str = "polish_route_with_pairs";
 const LIST: &str = "polish_with_patterns_and_pairs";
 const RUN: &str = "run_list_k_opt_with_pairs";
 
-pub const FAMILIES: [Family; 12] = [
+pub const FAMILIES: [Family; 16] = [
     Family::new(POLISH, "precedence/short", Source::Each(short::each)),
+    Family::new(
+        POLISH,
+        "precedence/stretches",
+        Source::Each(stretches::each),
+    ),
+    Family::new(POLISH, "precedence/deep", Source::Each(deep::each)),
+    Family::new(
+        POLISH,
+        "precedence/planted",
+        Source::Drawn(5, 3 * PATTERNS, planted::draw),
+    ),
+    Family::new(
+        POLISH,
+        "precedence/long",
+        Source::Drawn(8, 0, generate::draw_long),
+    ),
     Family::new(POLISH, "precedence/bounds", Source::Each(bounds::each)).on_small_stack(),
     Family::new(
         POLISH,
