@@ -128,6 +128,7 @@ fn tables(seed: u16) -> Tables {
         legs: filled(seed, 99, LOCATIONS * LOCATIONS),
         latest: filled(seed, 799, LOCATIONS),
         service: filled(seed, service_of(seed), LOCATIONS),
+        pairs: None,
     }
 }
 

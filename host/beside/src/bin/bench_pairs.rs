@@ -1,0 +1,199 @@
+//! bench_pairs: times polishing with pairs beside polishing with none, in turn and on the same inputs, and beside the Rust with the same pairs, and prints
+//! Markdown tables: an empty list beside the entry without pairs; 16 and 64 pairs that the round keeps, and pairs that contradict each other, so that no
+//! order keeps them, by the candidate. Every answer of a table with the Rust is checked first.
+
+#![forbid(unsafe_code)]
+
+use beside::cases::polish::Case;
+use beside::lists::rows::Rows;
+use beside::oracle::polish::polish_marked;
+use beside::polish::measured::{self, KINDS};
+use beside::precedence::lists::{broken_for_good, kept_by};
+use beside::random::Random;
+use beside::turns::{polished, ratio, timed};
+use std::hint::black_box;
+use std::process::ExitCode;
+use std::time::{Duration, Instant};
+
+/// Turns of each side, and the least time of one.
+const TURNS: usize = 41;
+const TURN: Duration = Duration::from_millis(2);
+
+/// Turns of the Rust, which takes long.
+const RUST_TURNS: usize = 3;
+
+/// *polished* is the route that polishing *busy* with the pairs has come to: nothing is left to take, and much is shorter that breaks a pair.
+const PAIRED_KINDS: [&str; 4] = ["quiet", "busy", "deadlines", "polished"];
+const LONG_SIZES: [usize; 3] = [64, 128, 512];
+
+/// The Rust fills a table of (stops + 1)² after each acceptance.
+const MOST_STOPS_OF_RUST: usize = 128;
+
+fn main() -> ExitCode {
+    empty_lists();
+    empty_lists_with_patterns();
+    match pairs() {
+        Ok(()) => ExitCode::SUCCESS,
+        Err(row) => {
+            println!("DIFFERENCE from the Rust: {row}");
+            ExitCode::FAILURE
+        }
+    }
+}
+
+fn with_pairs(case: &Case, pairs: Option<Vec<u32>>) -> Case {
+    let mut case = case.clone();
+    case.tables.pairs = pairs;
+    case
+}
+
+/// Best times of both, the same number of calls in each turn.
+fn both(one: &Case, other: &Case, rows: Option<&Rows>) -> [Duration; 2] {
+    let (mut route, mut second) = (Vec::new(), Vec::new());
+    let start = Instant::now();
+    polished(one, rows, &mut route);
+    let calls = TURN.as_nanos() / start.elapsed().as_nanos().max(1);
+    let [mut one, mut other] = [(one, &mut route), (other, &mut second)].map(|(case, route)| {
+        move || {
+            black_box(polished(black_box(case), rows, route));
+        }
+    });
+    let calls = calls.clamp(1, 5000) as u32;
+    timed(TURNS, calls, [&mut one, &mut other])
+}
+
+fn empty_lists() {
+    println!("An empty list beside the entry without pairs\n\n| k | stops | table | without us | empty list us | empty list / without |\n|---|---|---|---|---|---|");
+    for k in 2..=5 {
+        for stops in [20, 64, 128] {
+            for kind in KINDS {
+                let case = measured::case(kind, k, stops);
+                println!("| {k} | {stops} | {kind} |{}", told_empty(&case, None));
+            }
+        }
+    }
+}
+
+fn empty_lists_with_patterns() {
+    println!("\nThe same with the list of all patterns\n\n| k | stops | without us | empty list us | empty list / without |\n|---|---|---|---|---|");
+    for k in 2..=5 {
+        for stops in [20, 64] {
+            let case = measured::case("deadlines", k, stops);
+            let rows = Rows::whole(k);
+            println!("| {k} | {stops} |{}", told_empty(&case, Some(&rows)));
+        }
+    }
+}
+
+fn told_empty(case: &Case, rows: Option<&Rows>) -> String {
+    let empty = with_pairs(case, Some(Vec::new()));
+    let answer = |case| polished(case, rows, &mut Vec::new());
+    assert_eq!(answer(case), answer(&empty));
+    let [without, with] = both(case, &empty, rows);
+    let us = |time: Duration| time.as_nanos() as f64 / 1e3;
+    let (one, other) = (us(without), us(with));
+    format!(" {one:.2} | {other:.2} | {:.3} |", ratio(with, without))
+}
+
+/// Lists of pairs by their names: kept by the route; and as many of which two contradict each other, at the route's ends, its beginning or its middle.
+fn lists(route: &[u32]) -> Vec<(String, Vec<u32>)> {
+    let mut random = Random::new(1958);
+    let mut all = Vec::new();
+    let last = route.len() - 1;
+    for count in [16, 64] {
+        let kept = kept_by(&mut random, route, count);
+        all.push((format!("{count} kept"), kept.concat()));
+        for (name, at) in [
+            ("across", [0, last]),
+            ("in front", [0, 1]),
+            ("in the middle", [last / 2, last / 2 + 1]),
+        ] {
+            let broken = broken_for_good(&mut random, route, count, at);
+            let name = format!("{count}, two against each other {name}");
+            all.push((name, broken.concat()));
+        }
+    }
+    all
+}
+
+fn pairs() -> Result<(), String> {
+    println!("\nPairs beside an empty list, and beside the Rust with the same pairs\n\n| k | stops | table | pairs | accepted, with none | accepted | ns a candidate, with none | ns | pairs / none | Rust ns | library / Rust |\n|---|---|---|---|---|---|---|---|---|---|---|");
+    let mut highest = [(0.0_f64, 0.0_f64); 4];
+    for k in 2..=5 {
+        for stops in LONG_SIZES {
+            for kind in PAIRED_KINDS {
+                for (name, pairs) in lists(&measured::case(kind, k, stops).route) {
+                    let row = format!("| {k} | {stops} | {kind} | {name} |");
+                    let case = paired_case(kind, k, stops, &pairs);
+                    let (to_none, to_rust) = row_of(&row, &case)?;
+                    let so_far = &mut highest[k - 2];
+                    *so_far = (so_far.0.max(to_none), so_far.1.max(to_rust));
+                }
+            }
+        }
+    }
+    println!("\n| k | highest pairs / none | highest library / Rust |\n|---|---|---|");
+    for (k, (to_none, to_rust)) in (2..).zip(highest) {
+        println!("| {k} | {to_none:.3} | {to_rust:.3} |");
+    }
+    Ok(())
+}
+
+fn paired_case(kind: &str, k: usize, stops: usize, pairs: &[u32]) -> Case {
+    if kind != "polished" {
+        return with_pairs(&measured::case(kind, k, stops), Some(pairs.to_vec()));
+    }
+    let mut case = with_pairs(&measured::case("busy", k, stops), Some(pairs.to_vec()));
+    let mut route = Vec::new();
+    case.allowance *= 50;
+    polished(&case, None, &mut route);
+    Case {
+        route,
+        allowance: case.allowance / 50,
+        ..case
+    }
+}
+
+/// Prints a row; the time a candidate by that of an empty list, and by the Rust's, 0 where it was not timed.
+fn row_of(row: &str, case: &Case) -> Result<(f64, f64), String> {
+    let none = with_pairs(case, Some(Vec::new()));
+    let numbers = |case: &Case| polished(case, None, &mut Vec::new());
+    let (without, with) = (numbers(&none), numbers(case));
+    let times = both(&none, case, None);
+    let each = |time: Duration, numbers: [u64; 6]| time.as_nanos() as f64 / numbers[1] as f64;
+    let (free, paired) = (each(times[0], without), each(times[1], with));
+    let (accepted, of_none) = (with[2], without[2]);
+    let told = format!(
+        "{row} {of_none} | {accepted} | {free:.3} | {paired:.3} | {:.3} |",
+        paired / free
+    );
+    if case.route.len() > MOST_STOPS_OF_RUST {
+        println!("{told} | |");
+        return Ok((paired / free, 0.0));
+    }
+    let rust = each(by_rust(row, case)?, with);
+    println!("{told} {rust:.1} | {:.3} |", paired / rust);
+    Ok((paired / free, paired / rust))
+}
+
+/// The Rust's best time, if it answers the same.
+fn by_rust(row: &str, case: &Case) -> Result<Duration, String> {
+    let mut route = Vec::new();
+    let numbers = polished(case, None, &mut route);
+    let mut best = Duration::MAX;
+    for _ in 0..RUST_TURNS {
+        let mut order: Vec<usize> = case.route.iter().map(|&stop| stop as usize).collect();
+        let start = Instant::now();
+        let counts = polish_marked(black_box(case), case.allowance, &mut order);
+        best = start.elapsed().min(best);
+        let same = order
+            .iter()
+            .zip(&route)
+            .all(|(&one, &other)| one == other as usize);
+        let counted = [u64::from(counts.spent), counts.examined, counts.accepted];
+        if !same || counted != numbers[..3] {
+            return Err(String::from(row));
+        }
+    }
+    Ok(best)
+}
