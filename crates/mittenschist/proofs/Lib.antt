@@ -6,7 +6,5 @@ pub mod DeltaReply
 pub mod FeasibleReply
 pub mod PolishReply
 pub mod PairLoopReply
-pub mod Written
 pub mod RunReply
-pub mod ListingReply
 pub mod FindMoveReply

@@ -19,7 +19,7 @@ use Rattle.entry_results.specs.Handed.{Handed}
 use Rattle.entry_results.proofs.Handing.{handed-done}
 use Rattle.mittenschist.specs.Promises.{NextCutSetReply, step-values, NextCutSetWritten}
 use Rattle.theory.proofs.Taken.{refused-reply, taken-reply, refused-kept, taken-done, taken-passes}
-use Rattle.mittenschist.proofs.Written.{nothing-written, values-written}
+use Rattle.entry_results.proofs.Written.{nothing-written, values-written}
 
 module _ (k n : ℕ) (cuts : List ℕ) (number : ℕ) (judged : number ≡ refusal (next-cut-set-rules k n cuts)) where
   pub refused : (number ≡ 0 → ⊥) → NextCutSetReply k n cuts (Refused number) cuts

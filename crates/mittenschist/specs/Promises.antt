@@ -1,11 +1,9 @@
 -- What each entry promises: the rules by which it refuses, and a record that equates its reply and all lent memory with a definition.
 use mathlib.Core.Path.{_≡_}
 use mathlib.Core.Bool.{cond}
-use mathlib.Core.List.{List, [], _∷_, _++_, flatten}
+use mathlib.Core.List.{List, [], _∷_, _++_}
 use mathlib.Core.Option.{none}
-use Prim.Native.Nat.{ℕ, _+_, _-_, _*_, _/_}
-use lib.Dec.{ltb}
-use lib.Ieee.{Float}
+use Prim.Native.Nat.{ℕ, _+_, _-_, _*_}
 use lib.ListN.{length, getD, drop, replicate}
 use Rattle.theory.specs.Moves.{Pattern, patterns, next-cuts}
 use Rattle.theory.specs.Route.{Problem, tour-length, reconnected, late-position}
@@ -13,16 +11,14 @@ use Rattle.theory.specs.Polish.{move-at}
 use Rattle.theory.specs.Tables.{Tables, Fleet, problem, timetable-by, legs-only}
 use Rattle.theory.specs.Question.{Question}
 use Rattle.theory.specs.Refusals.{Rule, refusal, if-taken, problem-rules}
-use Rattle.refusal_rules.specs.Rules.{pattern-rules, next-cut-set-rules, reconnect-rules, route-length-rules, route-length-to-end-rules, delta-rules, delta-to-end-rules, polish-rules, polish-to-end-rules, pair-loop-rules, run-rules, run-to-ends-rules, nearby-rules, find-move-rules, with-room}
-use Rattle.theory.specs.Answers.{reply, step-answer, length-answer, delta-answer, feasibility-answer, listing-answer, Checked, handed-back}
+use Rattle.refusal_rules.specs.Rules.{pattern-rules, next-cut-set-rules, reconnect-rules, route-length-rules, route-length-to-end-rules, delta-rules, delta-to-end-rules, polish-rules, polish-to-end-rules, pair-loop-rules, run-rules, run-to-ends-rules, find-move-rules, with-room}
+use Rattle.theory.specs.Answers.{reply, step-answer, length-answer, delta-answer, feasibility-answer, Checked, handed-back}
+use Rattle.entry_results.specs.Written.{Written}
 use Rattle.moves.specs.Moves.{length-change}
 use Rattle.first_move.specs.FirstMove.{first-move, found-move, move-values, in-front, handed-move, Told}
 use Rattle.first_move.specs.declared.SoughtMove.{SoughtMove}
 use Rattle.cut_step.specs.Step.{found, or-unmoved}
 use Rattle.move_applying.specs.Applying.{doable}
-use Rattle.nearby.specs.Walk.{nearby-sets}
-use Rattle.nearby.specs.Listing.{written}
-use Rattle.every_nearby_sets.specs.Every.{every-sets}
 use Rattle.pair_loop.specs.PairLoop.{pair-loop, PairPromise}
 use Rattle.polish_numbers.specs.Replied.{Replied}
 use Rattle.pattern_list_polishing.specs.Polishing.{PolishedWith}
@@ -33,12 +29,6 @@ use Rattle.theory.specs.declared.LengthDelta.{LengthDelta}
 use Rattle.theory.specs.declared.Feasibility.{Feasibility}
 use Rattle.theory.specs.declared.Feasibility.the-variants as Judged
 use Rattle.theory.specs.declared.ReconnectionAt.{ReconnectionAt}
-use Rattle.theory.specs.declared.Listing.{Listing}
-
--- The refusal number or 0; and the values in the first places of the lent result, whose places beyond keep their contents.
-pub record Written {A : Type 0} (rules : List Rule) (needed : ℕ) (values result : List A) (answer : ℕ) (result′ : List A) : Type 0 where
-  pub number-is : answer ≡ refusal (with-room rules needed (length result))
-  pub result-is : result′ ≡ if-taken (with-room rules needed (length result)) (values ++ drop needed result) result
 
 -- ---- pattern of an index
 
@@ -150,43 +140,6 @@ RunReply k allowance T F result = RunBy (run-rules k T F (length result)) k allo
 
 abbrev pub RunToEndsReply : (k allowance : ℕ) → Tables → Fleet → List ℕ → ℕ → List ℕ → List ℕ → Type 0
 RunToEndsReply k allowance T F result = RunBy (run-to-ends-rules k T F (length result)) k allowance T F result
-
--- ---- nearby cuts, and every nearby cut set
-
--- The sets of a listing that fit.
-abbrev pub fitting : List (List ℕ) → (k : ℕ) → List ℕ → List (List ℕ)
-fitting all k sets = written all k (length sets)
-
--- Their number, and 1 exactly where the listing has another.
-abbrev pub listing-values : List (List ℕ) → (k : ℕ) → List ℕ → List ℕ
-listing-values all k sets = length (fitting all k sets) ∷ cond (ltb (length sets / k) (length all)) 1 0 ∷ []
-
--- The sets end to end in the first places, and the places beyond as they were.
-abbrev pub listing-places : List (List ℕ) → (k : ℕ) → List ℕ → List ℕ
-listing-places all k sets = flatten (fitting all k sets) ++ drop (length (fitting all k sets) * k) sets
-
--- Judged by some rules, of all sets of a listing.
-pub record ListingReply (rules : List Rule) (all : List (List ℕ)) (k : ℕ) (sets : List ℕ) (answer : Listing) (sets′ : List ℕ) : Type 0 where
-  pub reply-is : listing-answer answer ≡ reply (refusal rules) (listing-values all k sets)
-  pub sets-are : sets′ ≡ if-taken rules (listing-places all k sets) sets
-
-pub record ListingWritten (rules : List Rule) (all : List (List ℕ)) (k : ℕ) (sets result : List ℕ) (answer : ℕ) (sets′ result′ : List ℕ) : Type 0 where
-  pub written : Written rules 2 (listing-values all k sets) result answer result′
-  pub sets-are : sets′ ≡ if-taken (with-room rules 2 (length result)) (listing-places all k sets) sets
-
--- The sets of document 01's walk.
-abbrev pub NearbyReply : (n : ℕ) → List Float → (k m neighbours : ℕ) → List ℕ → Listing → List ℕ → Type 0
-NearbyReply n distances k m neighbours sets = ListingReply (nearby-rules n distances k m neighbours (length sets)) (nearby-sets distances n k m neighbours) k sets
-
-abbrev pub NearbyWritten : (n : ℕ) → List Float → (k m neighbours : ℕ) → List ℕ → List ℕ → ℕ → List ℕ → List ℕ → Type 0
-NearbyWritten n distances k m neighbours sets = ListingWritten (nearby-rules n distances k m neighbours (length sets)) (nearby-sets distances n k m neighbours) k sets
-
--- Every nearby set.
-abbrev pub EveryReply : (n : ℕ) → List Float → (k m neighbours : ℕ) → List ℕ → Listing → List ℕ → Type 0
-EveryReply n distances k m neighbours sets = ListingReply (nearby-rules n distances k m neighbours (length sets)) (every-sets distances n k m neighbours) k sets
-
-abbrev pub EveryWritten : (n : ℕ) → List Float → (k m neighbours : ℕ) → List ℕ → List ℕ → ℕ → List ℕ → List ℕ → Type 0
-EveryWritten n distances k m neighbours sets = ListingWritten (nearby-rules n distances k m neighbours (length sets)) (every-sets distances n k m neighbours) k sets
 
 -- ---- how did they get there
 

@@ -7,12 +7,14 @@ ghost use Rattle.theory.specs.Moves.{patterns};
 ghost use Rattle.theory.specs.Tables.{tables, fleet, legs-only};
 ghost use Rattle.theory.specs.Question.{question};
 ghost use Rattle.theory.specs.Refusals.{problem-rules};
+ghost use Rattle.entry_results.specs.Written.{Written};
+ghost use Rattle.listing_calls.specs.Listings.{NearbyReply, NearbyWritten, EveryReply, EveryWritten};
 ghost use Rattle.move_calls.specs.Entries.{DoMoveReply, UndoReply, doable-rules};
 ghost use Rattle.moves.specs.Moves.{length-change, pattern-values};
 ghost use Rattle.pattern_list_loading.specs.Loading.{LoadReply};
 ghost use Rattle.pattern_list_polishing.specs.Polishing.{PolishWithPatternsReply};
 ghost use Rattle.refusal_rules.specs.Rules.{route-length-rules, route-length-to-end-rules, pattern-rules, delta-rules, delta-to-end-rules};
-ghost use Rattle.mittenschist.specs.Promises.{NextCutSetReply, RouteLengthReply, RouteLengthToEndReply, ReconnectionReply, ReconnectReply, DeltaReply, DeltaToEndReply, FeasibleReply, PolishReply, PolishToEndReply, PairLoopReply, Written, NextCutSetWritten, late-values, doable-values, RunReply, RunToEndsReply, NearbyReply, NearbyWritten, EveryReply, EveryWritten, FindMoveReply, FindMoveWritten};
+ghost use Rattle.mittenschist.specs.Promises.{NextCutSetReply, RouteLengthReply, RouteLengthToEndReply, ReconnectionReply, ReconnectReply, DeltaReply, DeltaToEndReply, FeasibleReply, PolishReply, PolishToEndReply, PairLoopReply, NextCutSetWritten, late-values, doable-values, RunReply, RunToEndsReply, FindMoveReply, FindMoveWritten};
 use first_move::SoughtMove;
 use polishing::polish_route;
 use theory::CutStep;
@@ -523,18 +525,7 @@ pub fn nearby_cuts(
 ) -> Listing
     ensures { λ r. ⌜ NearbyReply n (now (distances .entry)) k «min_segment_len» «max_nearby» (now (sets .entry)) r (now (sets .exit)) ⌝ }
 {
-    let refused = refusal_rules::nearby_refusal(
-        n,
-        distances,
-        k,
-        min_segment_len,
-        max_nearby,
-        sets.len(),
-    );
-    if refused != 0 {
-        return Listing::Refused(refused);
-    }
-    nearby::nearby_cuts(n, distances, k, min_segment_len, max_nearby, sets)
+    listing_calls::nearby_cuts(n, distances, k, min_segment_len, max_nearby, sets)
 }
 
 // The same; the result receives the number of sets written, then 0 ended or 1 more. Refuses 1, 5, 9, 21.
@@ -550,20 +541,7 @@ pub extern "C" fn mittenschist_nearby_cuts(
 ) -> u32
     ensures { λ r. ⌜ NearbyWritten n (now (distances .entry)) k «min_segment_len» «max_nearby» (now (sets .entry)) (now (result .entry)) r (now (sets .exit)) (now (result .exit)) ⌝ }
 {
-    let refused = refusal_rules::nearby_refusal_with_room(
-        n,
-        distances,
-        k,
-        min_segment_len,
-        max_nearby,
-        sets.len(),
-        result.len(),
-    );
-    if refused != 0 {
-        return refused;
-    }
-    let answer = nearby::nearby_cuts(n, distances, k, min_segment_len, max_nearby, sets);
-    entry_results::put_listing(answer, result)
+    listing_calls::write_nearby_cuts(n, distances, k, min_segment_len, max_nearby, sets, result)
 }
 
 // Lists every nearby cut set, k places each, until no whole set fits any more. Refuses 1, 5, 9, 21.
@@ -577,18 +555,7 @@ pub fn every_nearby_cuts(
 ) -> Listing
     ensures { λ r. ⌜ EveryReply n (now (distances .entry)) k «min_segment_len» «max_nearby» (now (sets .entry)) r (now (sets .exit)) ⌝ }
 {
-    let refused = refusal_rules::nearby_refusal(
-        n,
-        distances,
-        k,
-        min_segment_len,
-        max_nearby,
-        sets.len(),
-    );
-    if refused != 0 {
-        return Listing::Refused(refused);
-    }
-    every_nearby::every_nearby_cuts(n, distances, k, min_segment_len, max_nearby, sets)
+    listing_calls::every_nearby_cuts(n, distances, k, min_segment_len, max_nearby, sets)
 }
 
 // The same; the result receives the number of sets written, then 0 ended or 1 more. Refuses 1, 5, 9, 21.
@@ -604,27 +571,15 @@ pub extern "C" fn mittenschist_every_nearby_cuts(
 ) -> u32
     ensures { λ r. ⌜ EveryWritten n (now (distances .entry)) k «min_segment_len» «max_nearby» (now (sets .entry)) (now (result .entry)) r (now (sets .exit)) (now (result .exit)) ⌝ }
 {
-    let refused = refusal_rules::nearby_refusal_with_room(
-        n,
-        distances,
-        k,
-        min_segment_len,
-        max_nearby,
-        sets.len(),
-        result.len(),
-    );
-    if refused != 0 {
-        return refused;
-    }
-    let answer = every_nearby::every_nearby_cuts(
+    listing_calls::write_every_nearby_cuts(
         n,
         distances,
         k,
         min_segment_len,
         max_nearby,
         sets,
-    );
-    entry_results::put_listing(answer, result)
+        result,
+    )
 }
 
 // The first cuts and pattern in scan order that turn one route into another, or none. Refuses 1, 5, 25.

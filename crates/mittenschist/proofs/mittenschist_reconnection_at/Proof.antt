@@ -4,7 +4,7 @@ use Prim.Native.Nat.{_+_}
 use Rattle.moves.specs.Moves.{pattern-values}
 use Rattle.refusal_rules.specs.Rules.{pattern-rules}
 use Rattle.mittenschist.proofs.ReconnectionReply.{shown}
-use Rattle.mittenschist.proofs.Written.{nothing-written, values-written}
+use Rattle.entry_results.proofs.Written.{nothing-written, values-written}
 use borrow.Author.Needs.{needs}
 use Rattle.mittenschist.proofs.mittenschist_reconnection_at.Statement.{statement}
 use Rattle.mittenschist.proofs.mittenschist_reconnection_at.Tie as tie

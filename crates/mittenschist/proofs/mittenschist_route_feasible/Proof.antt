@@ -6,7 +6,7 @@ use Rattle.theory.specs.Refusals.{problem-rules}
 use Rattle.theory.specs.Answers.{feasibility-answer}
 use Rattle.theory.proofs.LastRule.{early}
 use Rattle.mittenschist.specs.Promises.{late-values}
-use Rattle.mittenschist.proofs.Written.{answer-written}
+use Rattle.entry_results.proofs.Written.{answer-written}
 use borrow.Author.Needs.{needs}
 use Rattle.mittenschist.proofs.mittenschist_route_feasible.Statement.{statement}
 use Rattle.mittenschist.proofs.mittenschist_route_feasible.Tie as tie

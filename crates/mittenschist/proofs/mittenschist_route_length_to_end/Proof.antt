@@ -6,7 +6,7 @@ use Rattle.theory.specs.Route.{tour-length}
 use Rattle.theory.specs.Tables.{legs-only}
 use Rattle.theory.specs.Answers.{length-answer}
 use Rattle.refusal_rules.specs.Rules.{route-length-to-end-rules}
-use Rattle.mittenschist.proofs.Written.{answer-written}
+use Rattle.entry_results.proofs.Written.{answer-written}
 use borrow.Author.Needs.{needs}
 use Rattle.mittenschist.proofs.mittenschist_route_length_to_end.Statement.{statement}
 use Rattle.mittenschist.proofs.mittenschist_route_length_to_end.Tie as tie

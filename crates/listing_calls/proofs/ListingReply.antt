@@ -1,4 +1,4 @@
--- The replies of the two listings, `nearby_cuts` and `every_nearby_cuts`, and of their C functions, over plain values. Assumes nothing.
+-- The replies of the two listings and of those that write their number, over plain values. Assumes nothing.
 use mathlib.Core.Path.{_≡_, refl, _∙_, subst}
 use mathlib.Core.List.{List}
 use Prim.Native.Nat.{ℕ, _≤_}
@@ -16,8 +16,8 @@ use Rattle.nearby.proofs.Judged.{nearby-fine}
 use Rattle.refusal_rules.specs.Rules.{nearby-rules, with-room}
 use Rattle.entry_results.specs.Handed.{Handed}
 use Rattle.entry_results.proofs.Handing.{handed-done}
-use Rattle.mittenschist.specs.Promises.{listing-values, listing-places, ListingReply, ListingWritten}
-use Rattle.mittenschist.proofs.Written.{nothing-written, values-written}
+use Rattle.listing_calls.specs.Listings.{listing-values, listing-places, ListingReply, ListingWritten}
+use Rattle.entry_results.proofs.Written.{nothing-written, values-written}
 
 module _ (n : ℕ) (distances : List Float) (k m neighbours : ℕ) (sets : List ℕ) (number : ℕ) (judged : number ≡ refusal (nearby-rules n distances k m neighbours (length sets))) where
   abbrev rules : List Rule

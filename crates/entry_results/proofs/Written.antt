@@ -11,8 +11,8 @@ use Rattle.theory.specs.Answers.{Answer, reply}
 use Rattle.theory.proofs.LastRule.{early, room-last}
 use Rattle.theory.proofs.Taken.{refused-kept, taken-done}
 use Rattle.refusal_rules.specs.Rules.{with-room}
 use Rattle.entry_results.specs.Handed.{Handed}
-use Rattle.mittenschist.specs.Promises.{Written}
+use Rattle.entry_results.specs.Written.{Written}
 
 -- ---- judged with the room
 

@@ -1,9 +1,9 @@
--- `mittenschist::every_nearby_cuts` meets its contract. Assumes nothing.
+-- `listing_calls::every_nearby_cuts` meets its contract. Assumes nothing.
 use Rattle.every_nearby_sets.specs.Every.{every-sets}
-use Rattle.mittenschist.proofs.ListingReply.{listing-refused, listing-fine, listed}
+use Rattle.listing_calls.proofs.ListingReply.{listing-refused, listing-fine, listed}
 use borrow.Author.Needs.{needs}
-use Rattle.mittenschist.proofs.every_nearby_cuts.Statement.{statement}
-use Rattle.mittenschist.proofs.every_nearby_cuts.Tie as tie
+use Rattle.listing_calls.proofs.every_nearby_cuts.Statement.{statement}
+use Rattle.listing_calls.proofs.every_nearby_cuts.Tie as tie
 
 nearby-refusal-requires : tie.Need-nearby-refusal-requires
 nearby-refusal-requires c κs = search needs
