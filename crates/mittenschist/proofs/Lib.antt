@@ -1,10 +1,3 @@
-pub mod NextCutSet
-pub mod RouteLengthReply
-pub mod ReconnectionReply
-pub mod ReconnectReply
-pub mod DeltaReply
-pub mod FeasibleReply
 pub mod PolishReply
 pub mod PairLoopReply
 pub mod RunReply
-pub mod FindMoveReply

@@ -1,19 +1,12 @@
 -- What the rules of a route and of polishing establish, where none applies. Assumes nothing.
 use mathlib.Core.List.{List}
 use Prim.Native.Nat.{ℕ}
-use Rattle.theory.specs.Tables.{Tables, Trip, Clocked, Timed}
-use Rattle.theory.specs.Refusals.{problem-rules, trip-rules}
+use Rattle.theory.specs.Tables.{Trip, Timed}
+use Rattle.theory.specs.Refusals.{trip-rules}
 use Rattle.theory.specs.Question.{Question, question-rules}
 use Rattle.theory.proofs.Refusals.{Passes}
-use Rattle.theory.proofs.Judged.{cut-count-fine, followable-fine, measurable-fine, times-fine}
+use Rattle.theory.proofs.Judged.{cut-count-fine, measurable-fine, times-fine}
 use Rattle.polishing.specs.Loop.{Polishable}
-
-pub clocked-fine : (T : Tables) (depot : ℕ) (route : List ℕ) → Passes (problem-rules T depot route) → Clocked T depot route
-clocked-fine T depot route p =
-    record {
-      followable = followable-fine (T .locations) (T .legs) depot route (p .0) (p .1 .1 .0) (p .1 .1 .1 .1 .0) (p .1 .1 .1 .1 .1 .0);
-      times = times-fine T (p .1 .0) (p .1 .1 .1 .0);
-    }
 
 pub timed-fine : (T : Trip) (route : List ℕ) → Passes (trip-rules T route) → Timed T route
 timed-fine T route p =
