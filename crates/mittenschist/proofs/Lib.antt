@@ -1,12 +1,3 @@
-pub mod NextCutSet
-pub mod RouteLengthReply
-pub mod ReconnectionReply
-pub mod ReconnectReply
-pub mod DeltaReply
-pub mod FeasibleReply
 pub mod PolishReply
 pub mod PairLoopReply
-pub mod Written
 pub mod RunReply
-pub mod ListingReply
-pub mod FindMoveReply

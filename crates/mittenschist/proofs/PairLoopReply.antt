@@ -12,7 +12,7 @@ use Rattle.theory.specs.declared.Polished.{Polished}
 use Rattle.theory.proofs.Refusals.{Passes, known}
 use Rattle.theory.proofs.Taken.{taken-passes}
 use Rattle.theory.proofs.Judged.{closed}
-use Rattle.polishing.proofs.Judged.{clocked-fine}
+use Rattle.theory.proofs.Judged.{clocked-fine}
 use Rattle.pair_loop.specs.PairLoop.{pair-loop, PairsTried}
 use Rattle.refusal_rules.specs.Rules.{pair-loop-rules}
 use Rattle.refusal_rules.proofs.Parts.{pass-with-room}

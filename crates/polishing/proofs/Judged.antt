@@ -9,20 +9,13 @@ use lib.Dec.{leb, ltb, eqb}
 use lib.ListN.{length, getD, replicate}
 use borrow.Author.Tests.{ltb-false, leb-false, eqb-true, not-false}
 use Rattle.theory.specs.Pairs.{pairs-of}
-use Rattle.theory.specs.Tables.{Tables, Trip, Clocked, Timed}
-use Rattle.theory.specs.Refusals.{any, pair-list, problem-rules, trip-rules, paired-rules}
+use Rattle.theory.specs.Tables.{Tables, Trip, Timed}
+use Rattle.theory.specs.Refusals.{any, pair-list, trip-rules, paired-rules}
 use Rattle.theory.specs.Question.{Question, question-rules, paired-question-rules}
 use Rattle.theory.proofs.Refusals.{Passes}
-use Rattle.theory.proofs.Judged.{or-false, none-at, cut-count-fine, followable-fine, measurable-fine, times-fine}
+use Rattle.theory.proofs.Judged.{or-false, none-at, cut-count-fine, measurable-fine, times-fine}
 use Rattle.precedence.specs.Words.{PairsLent, PairsFillable, Fillable, MembersFilled}
 use Rattle.polishing.specs.Loop.{Polishable, PolishableWithPairs}
-
-pub clocked-fine : (T : Tables) (depot : ℕ) (route : List ℕ) → Passes (problem-rules T depot route) → Clocked T depot route
-clocked-fine T depot route p =
-    record {
-      followable = followable-fine (T .locations) (T .legs) depot route (p .0) (p .1 .1 .0) (p .1 .1 .1 .1 .0) (p .1 .1 .1 .1 .1 .0);
-      times = times-fine T (p .1 .0) (p .1 .1 .1 .0);
-    }
 
 pub timed-fine : (T : Trip) (route : List ℕ) → Passes (trip-rules T route) → Timed T route
 timed-fine T route p =
