@@ -1,4 +1,4 @@
-// The entries. Each takes whatever it is handed, judges it, and refuses it or calls the crate below that does the work.
+// The entries. Each takes whatever it is handed and hands it on to the crate below that judges it, refuses it or does the work.
 ghost use mathlib.Core.List.{[], _∷_};
 ghost use Prim.Native.Nat.{_+_};
 ghost use Rattle.theory.specs.Route.{tour-length};
@@ -9,17 +9,16 @@ ghost use Rattle.theory.specs.Question.{question, question-with-pairs};
 ghost use Rattle.theory.specs.Refusals.{problem-rules};
 ghost use Rattle.entry_results.specs.Written.{Written};
 ghost use Rattle.listing_calls.specs.Listings.{NearbyReply, NearbyWritten, EveryReply, EveryWritten};
-ghost use Rattle.move_calls.specs.Entries.{DoMoveReply, UndoReply, doable-rules};
+ghost use Rattle.move_calls.specs.Entries.{DoMoveReply, UndoReply, doable-rules, doable-values};
 ghost use Rattle.moves.specs.Moves.{length-change, pattern-values};
 ghost use Rattle.pattern_list_loading.specs.Loading.{LoadReply};
 ghost use Rattle.pattern_list_polishing.specs.Polishing.{PolishWithPatternsReply, PolishWithPatternsAndPairsReply};
 ghost use Rattle.refusal_rules.specs.Rules.{route-length-rules, route-length-to-end-rules, pattern-rules, delta-rules, delta-to-end-rules};
 ghost use Rattle.measure_calls.specs.Measures.{RouteLengthReply, RouteLengthToEndReply, DeltaReply, DeltaToEndReply, FeasibleReply, late-values};
 ghost use Rattle.cut_calls.specs.Cuts.{ReconnectionReply, NextCutSetReply, NextCutSetWritten, ReconnectReply, FindMoveReply, FindMoveWritten};
-ghost use Rattle.mittenschist.specs.Promises.{PolishReply, PolishToEndReply, PolishWithPairsReply, PairLoopReply, doable-values, RunReply, RunToEndsReply, RunWithPairsReply};
+ghost use Rattle.polish_calls.specs.Polishing.{PolishReply, PolishToEndReply, PolishWithPairsReply, PairLoopReply};
+ghost use Rattle.run_calls.specs.Runs.{RunReply, RunToEndsReply, RunWithPairsReply};
 use first_move::SoughtMove;
-use polishing::polish_route;
-use polishing::polish_with_pairs;
 use theory::CutStep;
 use theory::Feasibility;
 use theory::LengthDelta;
@@ -130,22 +129,7 @@ pub extern "C" fn mittenschist_polish_route_to_end(
 ) -> u32
     ensures { λ r. ⌜ PolishToEndReply (question k allowance locations (now (legs .entry)) (now (latest .entry)) (now (service .entry)) depot end (now (route .entry))) (now (result .entry)) r (now (route .exit)) (now (result .exit)) ⌝ }
 {
-    let refused = refusal_rules::polish_refusal(
-        k,
-        locations,
-        legs,
-        latest,
-        service,
-        depot,
-        end,
-        &route[..],
-        result.len(),
-    );
-    if refused != 0 {
-        return refused;
-    }
-    let none = [0u64; 1];
-    let answer = polish_route(
+    polish_calls::polish_route_to_end(
         k,
         allowance,
         locations,
@@ -154,12 +138,9 @@ pub extern "C" fn mittenschist_polish_route_to_end(
         service,
         depot,
         end,
-        &legs[..0],
-        &none[..0],
         route,
-    );
-    polish_numbers::put_polished(answer, result);
-    0
+        result,
+    )
 }
 
 // Polishes a closed tour. Refuses 1, 2, 3, 23, 4, 5, 21.
@@ -177,14 +158,13 @@ pub extern "C" fn mittenschist_polish_route(
 ) -> u32
     ensures { λ r. ⌜ PolishReply (question k allowance locations (now (legs .entry)) (now (latest .entry)) (now (service .entry)) depot depot (now (route .entry))) (now (result .entry)) r (now (route .exit)) (now (result .exit)) ⌝ }
 {
-    mittenschist_polish_route_to_end(
+    polish_calls::polish_closed_tour(
         k,
         allowance,
         locations,
         legs,
         latest,
         service,
-        depot,
         depot,
         route,
         result,
@@ -208,22 +188,7 @@ pub extern "C" fn mittenschist_polish_route_with_pairs(
 ) -> u32
     ensures { λ r. ⌜ PolishWithPairsReply (question-with-pairs k allowance locations (now (legs .entry)) (now (latest .entry)) (now (service .entry)) depot end (now (pairs .entry)) (now (route .entry))) (now (result .entry)) r (now (route .exit)) (now (result .exit)) ⌝ }
 {
-    let refused = refusal_rules::polish_paired_refusal(
-        k,
-        locations,
-        legs,
-        latest,
-        service,
-        depot,
-        end,
-        pairs,
-        &route[..],
-        result.len(),
-    );
-    if refused != 0 {
-        return refused;
-    }
-    let answer = polish_with_pairs(
+    polish_calls::polish_route_with_pairs(
         k,
         allowance,
         locations,
@@ -234,9 +199,8 @@ pub extern "C" fn mittenschist_polish_route_with_pairs(
         end,
         pairs,
         route,
-    );
-    polish_numbers::put_polished(answer, result);
-    0
+        result,
+    )
 }
 
 // The pair loop over a route. Refuses 2, 3, 23, 4, 5, 21. The result receives the six numbers of polishing; the length after may be above the length before.
@@ -253,21 +217,16 @@ pub extern "C" fn mittenschist_pair_loop(
 ) -> u32
     ensures { λ r. ⌜ PairLoopReply allowance (tables locations (now (legs .entry)) (now (latest .entry)) (now (service .entry))) depot (now (route .entry)) (now (result .entry)) r (now (route .exit)) (now (result .exit)) ⌝ }
 {
-    let refused = refusal_rules::pair_loop_refusal(
+    polish_calls::try_pair_loop(
+        allowance,
         locations,
         legs,
         latest,
         service,
         depot,
-        &route[..],
-        result.len(),
-    );
-    if refused != 0 {
-        return refused;
-    }
-    let answer = pair_loop::pair_loop(allowance, locations, legs, latest, service, depot, route);
-    polish_numbers::put_polished(answer, result);
-    0
+        route,
+        result,
+    )
 }
 
 // The C functions of the other entries: the same refusals, then 21, and the values into the first places of the lent result.
@@ -446,25 +405,7 @@ pub extern "C" fn mittenschist_run_list_k_opt_to_ends(
 ) -> u32
     ensures { λ r. ⌜ RunToEndsReply k allowance (tables locations (now (legs .entry)) (now (latest .entry)) (now (service .entry))) (fleet (now (stops .entry)) (now (lengths .entry)) (now (depots .entry)) (now (ends .entry)) (now (pins .entry))) (now (result .entry)) r (now (stops .exit)) (now (result .exit)) ⌝ }
 {
-    let lent = result.len();
-    let refused = refusal_rules::run_refusal(
-        k,
-        locations,
-        legs,
-        latest,
-        service,
-        &stops[..],
-        lengths,
-        depots,
-        ends,
-        pins,
-        lent,
-    );
-    if refused != 0 {
-        return refused;
-    }
-    let none = [0u64; 1];
-    run::run_list_k_opt_in_phase(
+    run_calls::run_to_ends(
         k,
         allowance,
         locations,
@@ -476,11 +417,8 @@ pub extern "C" fn mittenschist_run_list_k_opt_to_ends(
         depots,
         ends,
         pins,
-        &legs[..0],
-        &none[..0],
         result,
-    );
-    0
+    )
 }
 
 // The run over closed tours. Refuses 1, 2, 3, 23, 4, 5, 21.
@@ -500,7 +438,7 @@ pub extern "C" fn mittenschist_run_list_k_opt(
 ) -> u32
     ensures { λ r. ⌜ RunReply k allowance (tables locations (now (legs .entry)) (now (latest .entry)) (now (service .entry))) (fleet (now (stops .entry)) (now (lengths .entry)) (now (depots .entry)) (now (depots .entry)) (now (pins .entry))) (now (result .entry)) r (now (stops .exit)) (now (result .exit)) ⌝ }
 {
-    mittenschist_run_list_k_opt_to_ends(
+    run_calls::run_closed_tours(
         k,
         allowance,
         locations,
@@ -509,7 +447,6 @@ pub extern "C" fn mittenschist_run_list_k_opt(
         service,
         stops,
         lengths,
-        depots,
         depots,
         pins,
         result,
@@ -535,25 +472,7 @@ pub extern "C" fn mittenschist_run_list_k_opt_with_pairs(
 ) -> u32
     ensures { λ r. ⌜ RunWithPairsReply k allowance (tables locations (now (legs .entry)) (now (latest .entry)) (now (service .entry))) (fleet (now (stops .entry)) (now (lengths .entry)) (now (depots .entry)) (now (ends .entry)) (now (pins .entry))) (now (pairs .entry)) (now (result .entry)) r (now (stops .exit)) (now (result .exit)) ⌝ }
 {
-    let lent = result.len();
-    let refused = refusal_rules::run_paired_refusal(
-        k,
-        locations,
-        legs,
-        latest,
-        service,
-        &stops[..],
-        lengths,
-        depots,
-        ends,
-        pins,
-        pairs,
-        lent,
-    );
-    if refused != 0 {
-        return refused;
-    }
-    run::run_with_pairs(
+    run_calls::run_with_pairs(
         k,
         allowance,
         locations,
@@ -567,8 +486,7 @@ pub extern "C" fn mittenschist_run_list_k_opt_with_pairs(
         pins,
         pairs,
         result,
-    );
-    0
+    )
 }
 
 // Lists the nearby cut sets, k places each, until no whole set fits any more. Refuses 1, 5, 9, 21.

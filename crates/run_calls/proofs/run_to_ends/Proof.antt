@@ -1,12 +1,12 @@
--- `mittenschist::mittenschist_run_list_k_opt_to_ends` meets its contract. Assumes nothing.
+-- `run_calls::run_to_ends` meets its contract. Assumes nothing.
 use mathlib.Core.List.{[]}
 use lib.ListN.{length}
 use Rattle.theory.specs.Tables.{Tables, tables, Fleet, fleet}
 use Rattle.refusal_rules.specs.Rules.{run-to-ends-rules}
-use Rattle.mittenschist.proofs.RunReply.{run-refused, runnable, has-run}
+use Rattle.run_calls.proofs.RunReply.{run-refused, runnable, has-run}
 use borrow.Author.Needs.{needs}
-use Rattle.mittenschist.proofs.mittenschist_run_list_k_opt_to_ends.Statement.{statement}
-use Rattle.mittenschist.proofs.mittenschist_run_list_k_opt_to_ends.Tie as tie
+use Rattle.run_calls.proofs.run_to_ends.Statement.{statement}
+use Rattle.run_calls.proofs.run_to_ends.Tie as tie
 
 abbrev tables-at : tie.Start → Tables
 tables-at s = tables (s .args .locations) (s .args .legs .now) (s .args .latest .now) (s .args .service .now)
@@ -53,8 +53,8 @@ returns-2 c =
     let s = c .before .before .before .before .before .before .before .before .before .before .before .before .before .before .before .before .before .before .before .before .before in
     has-run (run-to-ends-rules (s .args .k) (tables-at s) (fleet-at s) (length (s .args .result .now))) (s .args .k) (s .args .allowance) (tables-at s) (fleet-at s) [] (s .args .result .now) (r .result) (r .ensures) (c .before .before .before .before .before .before .before .before .before .if1 .left) _ _ (c .before .before .before .before .run-list-k-opt-in-phase .ensures)
 
-pub mittenschist-run-list-k-opt-to-ends-spec : {M : Type 1} → statement M
-mittenschist-run-list-k-opt-to-ends-spec =
+pub run-to-ends-spec : {M : Type 1} → statement M
+run-to-ends-spec =
     tie.close
     (tie.spec
     run-refusal-requires

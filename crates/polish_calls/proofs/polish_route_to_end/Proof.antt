@@ -1,10 +1,10 @@
--- `mittenschist::mittenschist_polish_route_to_end` meets its contract: no pairs, and no words. Assumes nothing.
+-- `polish_calls::polish_route_to_end` meets its contract: no pairs, and no words. Assumes nothing.
 use mathlib.Core.Path.{refl}
 use Rattle.theory.specs.Question.{Question, question}
-use Rattle.mittenschist.proofs.PolishReply.{refused, fine, space, polished}
+use Rattle.polish_calls.proofs.PolishReply.{refused, fine, space, polished}
 use borrow.Author.Needs.{needs}
-use Rattle.mittenschist.proofs.mittenschist_polish_route_to_end.Statement.{statement}
-use Rattle.mittenschist.proofs.mittenschist_polish_route_to_end.Tie as tie
+use Rattle.polish_calls.proofs.polish_route_to_end.Statement.{statement}
+use Rattle.polish_calls.proofs.polish_route_to_end.Tie as tie
 
 abbrev question-at : tie.Start → Question
 question-at s = question (s .args .k) (s .args .allowance) (s .args .locations) (s .args .legs .now) (s .args .latest .now) (s .args .service .now) (s .args .depot) (s .args .end) (s .args .route .now)
@@ -54,8 +54,8 @@ returns-2 c =
     let s = c .before .before .before .before .before .before .before .before .before .before .before .before .before .before .before .before .before .before in
     polished (question-at s) (s .args .result .now) (r .result) (r .ensures) (c .before .before .before .before .before .before .before .before .before .before .if1 .left) _ _ _ (c .before .before .before .before .before .before .polish-route .ensures) (c .before .before .put-polished .ensures)
 
-pub mittenschist-polish-route-to-end-spec : {M : Type 1} → statement M
-mittenschist-polish-route-to-end-spec =
+pub polish-route-to-end-spec : {M : Type 1} → statement M
+polish-route-to-end-spec =
     tie.close
     (tie.spec
     polish-refusal-requires

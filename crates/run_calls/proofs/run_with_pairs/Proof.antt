@@ -1,11 +1,11 @@
--- `mittenschist::mittenschist_run_list_k_opt_with_pairs` meets its contract. Assumes nothing.
+-- `run_calls::run_with_pairs` meets its contract. Assumes nothing.
 use lib.ListN.{length}
 use Rattle.theory.specs.Tables.{Tables, tables, Fleet, fleet}
 use Rattle.refusal_rules.specs.Rules.{run-with-pairs-rules}
-use Rattle.mittenschist.proofs.RunReply.{run-refused, runnable-with-pairs, has-run}
+use Rattle.run_calls.proofs.RunReply.{run-refused, runnable-with-pairs, has-run}
 use borrow.Author.Needs.{needs}
-use Rattle.mittenschist.proofs.mittenschist_run_list_k_opt_with_pairs.Statement.{statement}
-use Rattle.mittenschist.proofs.mittenschist_run_list_k_opt_with_pairs.Tie as tie
+use Rattle.run_calls.proofs.run_with_pairs.Statement.{statement}
+use Rattle.run_calls.proofs.run_with_pairs.Tie as tie
 
 abbrev tables-at : tie.Start → Tables
 tables-at s = tables (s .args .locations) (s .args .legs .now) (s .args .latest .now) (s .args .service .now)
@@ -43,8 +43,8 @@ returns-2 c =
     let s = c .before .before .before .before .before .before .before .before .before .before .before .before .before .before .before .before .before .before .before .before in
     has-run (run-with-pairs-rules (s .args .k) (tables-at s) (fleet-at s) (s .args .pairs .now) (length (s .args .result .now))) (s .args .k) (s .args .allowance) (tables-at s) (fleet-at s) (s .args .pairs .now) (s .args .result .now) (r .result) (r .ensures) (c .before .before .before .before .before .before .before .if1 .left) _ _ (c .before .before .before .before .run-with-pairs .ensures)
 
-pub mittenschist-run-list-k-opt-with-pairs-spec : {M : Type 1} → statement M
-mittenschist-run-list-k-opt-with-pairs-spec =
+pub run-with-pairs-spec : {M : Type 1} → statement M
+run-with-pairs-spec =
     tie.close
     (tie.spec
     run-paired-refusal-requires

@@ -1,9 +1,9 @@
--- `mittenschist::mittenschist_polish_route_with_pairs` meets its contract. Assumes nothing.
+-- `polish_calls::polish_route_with_pairs` meets its contract. Assumes nothing.
 use Rattle.theory.specs.Question.{Question, question-with-pairs}
-use Rattle.mittenschist.proofs.PolishReply.{refused-paired, fine-paired, space-paired, polished-paired}
+use Rattle.polish_calls.proofs.PolishReply.{refused-paired, fine-paired, space-paired, polished-paired}
 use borrow.Author.Needs.{needs}
-use Rattle.mittenschist.proofs.mittenschist_polish_route_with_pairs.Statement.{statement}
-use Rattle.mittenschist.proofs.mittenschist_polish_route_with_pairs.Tie as tie
+use Rattle.polish_calls.proofs.polish_route_with_pairs.Statement.{statement}
+use Rattle.polish_calls.proofs.polish_route_with_pairs.Tie as tie
 
 abbrev question-at : tie.Start → Question
 question-at s = question-with-pairs (s .args .k) (s .args .allowance) (s .args .locations) (s .args .legs .now) (s .args .latest .now) (s .args .service .now) (s .args .depot) (s .args .end) (s .args .pairs .now) (s .args .route .now)
@@ -44,8 +44,8 @@ returns-2 c =
     let s = c .before .before .before .before .before .before .before .before .before .before .before .before .before .before .before .before .before in
     polished-paired (question-at s) (s .args .result .now) (r .result) (r .ensures) (c .before .before .before .before .before .before .before .before .if1 .left) _ _ _ (c .before .before .before .before .before .before .polish-with-pairs .ensures) (c .before .before .put-polished .ensures)
 
-pub mittenschist-polish-route-with-pairs-spec : {M : Type 1} → statement M
-mittenschist-polish-route-with-pairs-spec =
+pub polish-route-with-pairs-spec : {M : Type 1} → statement M
+polish-route-with-pairs-spec =
     tie.close
     (tie.spec
     polish-paired-refusal-requires

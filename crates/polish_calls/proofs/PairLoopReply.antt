@@ -16,7 +16,7 @@ use Rattle.theory.proofs.Judged.{clocked-fine}
 use Rattle.pair_loop.specs.PairLoop.{pair-loop, PairsTried}
 use Rattle.refusal_rules.specs.Rules.{pair-loop-rules}
 use Rattle.refusal_rules.proofs.Parts.{pass-with-room}
-use Rattle.mittenschist.specs.Promises.{closed-tour, PairLoopReply}
+use Rattle.polish_calls.specs.Polishing.{closed-tour, PairLoopReply}
 use Rattle.polish_numbers.proofs.Replied.{nothing-told, told, read-back}
 
 module _ (A : ℕ) (T : Tables) (depot : ℕ) (route result : List ℕ) (number : ℕ) (judged : number ≡ refusal (pair-loop-rules T depot route (length result))) where

@@ -1,9 +1,9 @@
--- `mittenschist::mittenschist_pair_loop` meets its contract. Assumes nothing.
+-- `polish_calls::try_pair_loop` meets its contract. Assumes nothing.
 use Rattle.theory.specs.Tables.{Tables, tables}
-use Rattle.mittenschist.proofs.PairLoopReply.{refused, fine, space, tried}
+use Rattle.polish_calls.proofs.PairLoopReply.{refused, fine, space, tried}
 use borrow.Author.Needs.{needs}
-use Rattle.mittenschist.proofs.mittenschist_pair_loop.Statement.{statement}
-use Rattle.mittenschist.proofs.mittenschist_pair_loop.Tie as tie
+use Rattle.polish_calls.proofs.try_pair_loop.Statement.{statement}
+use Rattle.polish_calls.proofs.try_pair_loop.Tie as tie
 
 abbrev tables-at : tie.Start → Tables
 tables-at s = tables (s .args .locations) (s .args .legs .now) (s .args .latest .now) (s .args .service .now)
@@ -44,8 +44,8 @@ returns-2 c =
     let s = c .before .before .before .before .before .before .before .before .before .before .before .before .before .before .before .before in
     tried (s .args .allowance) (tables-at s) (s .args .depot) (s .args .route .now) (s .args .result .now) (r .result) (r .ensures) (c .before .before .before .before .before .before .before .before .if1 .left) _ _ _ (c .before .before .before .before .before .before .pair-loop .ensures) (c .before .before .put-polished .ensures)
 
-pub mittenschist-pair-loop-spec : {M : Type 1} → statement M
-mittenschist-pair-loop-spec =
+pub try-pair-loop-spec : {M : Type 1} → statement M
+try-pair-loop-spec =
     tie.close
     (tie.spec
     pair-loop-refusal-requires

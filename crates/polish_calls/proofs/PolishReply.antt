@@ -19,7 +19,7 @@ use Rattle.refusal_rules.proofs.Closed.{polish-closed, polish-unpaired}
 use Rattle.pattern_list_polishing.specs.Polishing.{PolishWithPatternsReply}
 use Rattle.pattern_list_polishing.proofs.Replies.{refused-with, polished-with, alike}
 use Rattle.pattern_list_polishing.proofs.Judging.{full-rules}
-use Rattle.mittenschist.specs.Promises.{PolishReply, PolishToEndReply, PolishWithPairsReply}
+use Rattle.polish_calls.specs.Polishing.{PolishReply, PolishToEndReply, PolishWithPairsReply}
 
 module _ (q : Question) (result : List ℕ) (number : ℕ) (judged : number ≡ refusal (polish-to-end-rules q (length result))) where
   abbrev rules : List Rule

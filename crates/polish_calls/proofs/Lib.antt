@@ -1,3 +1,2 @@
 pub mod PolishReply
 pub mod PairLoopReply
-pub mod RunReply

@@ -14,7 +14,7 @@ use Rattle.run.proofs.Judged.{runnable-fine}
 use Rattle.refusal_rules.specs.Rules.{rounds-to-ends-rules, rounds-with-pairs-rules, run-rules, run-to-ends-rules, run-with-pairs-rules}
 use Rattle.refusal_rules.proofs.Parts.{both-pass, pass-with-room}
 use Rattle.refusal_rules.proofs.Closed.{run-closed, run-unpaired}
-use Rattle.mittenschist.specs.Promises.{RunBy, RunReply, RunToEndsReply, RunWithPairsReply}
+use Rattle.run_calls.specs.Runs.{RunBy, RunReply, RunToEndsReply, RunWithPairsReply}
 use Rattle.theory.proofs.Taken.{refused-kept, taken-done, taken-passes}
 
 -- Judged by some rules.
