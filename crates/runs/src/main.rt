@@ -229,14 +229,20 @@ fn show_again() {
     show_keeping(0, &[2, 1], &mut [1, 2, 1]);
 }
 
-// with 64 pairs, with 65, with a member alone, with one that is no location, with equal members, and behind 24,
-fn show_lists_of_pairs() {
+// with 64 pairs, and with 65,
+fn show_many_pairs() {
     let mut many = [1u32; 130];
-    for q in 0..65usize {
+    let mut q = 0;
+    while q < 65 {
         many[2 * q] = 2;
+        q += 1;
     }
     show_keeping(0, &many[..128], &mut [1, 2]);
     show_keeping(0, &many, &mut [1, 2]);
+}
+
+// with a member alone, with one that is no location, with equal members, and behind 24,
+fn show_bad_pairs() {
     show_keeping(0, &[2, 1, 2], &mut [1, 2]);
     show_keeping(0, &[2, 3], &mut [1, 2]);
     show_keeping(0, &[2, 1, 0, 0], &mut [1, 2]);
@@ -265,6 +271,7 @@ fn main() {
     show_ends();
     show_pairs();
     show_again();
-    show_lists_of_pairs();
+    show_many_pairs();
+    show_bad_pairs();
     show_bounds();
 }

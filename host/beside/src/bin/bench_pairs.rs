@@ -6,6 +6,7 @@
 
 use beside::cases::polish::Case;
 use beside::lists::rows::Rows;
+use beside::means::{highest, mean};
 use beside::oracle::polish::polish_marked;
 use beside::polish::measured::{self, KINDS};
 use beside::precedence::lists::{broken_for_good, kept_by};
@@ -47,18 +48,23 @@ fn with_pairs(case: &Case, pairs: Option<Vec<u32>>) -> Case {
     case
 }
 
+/// How many of these calls make a turn.
+fn calls(mut call: impl FnMut()) -> u32 {
+    let start = Instant::now();
+    call();
+    let calls = TURN.as_nanos() / start.elapsed().as_nanos().max(1);
+    calls.clamp(1, 5000) as u32
+}
+
 /// Best times of both, the same number of calls in each turn.
 fn both(one: &Case, other: &Case, rows: Option<&Rows>) -> [Duration; 2] {
     let (mut route, mut second) = (Vec::new(), Vec::new());
-    let start = Instant::now();
-    polished(one, rows, &mut route);
-    let calls = TURN.as_nanos() / start.elapsed().as_nanos().max(1);
     let [mut one, mut other] = [(one, &mut route), (other, &mut second)].map(|(case, route)| {
         move || {
             black_box(polished(black_box(case), rows, route));
         }
     });
-    let calls = calls.clamp(1, 5000) as u32;
+    let calls = calls(&mut one);
     timed(TURNS, calls, [&mut one, &mut other])
 }
 
@@ -118,24 +124,27 @@ fn lists(route: &[u32]) -> Vec<(String, Vec<u32>)> {
 
 fn pairs() -> Result<(), String> {
     println!("\nPairs beside an empty list, and beside the Rust with the same pairs\n\n| k | stops | table | pairs | accepted, with none | accepted | ns a candidate, with none | ns | pairs / none | Rust ns | library / Rust |\n|---|---|---|---|---|---|---|---|---|---|---|");
-    let mut highest = [(0.0_f64, 0.0_f64); 4];
+    let mut means = String::new();
     for k in 2..=5 {
+        let (mut to_none, mut to_rust) = (Vec::new(), Vec::new());
         for stops in LONG_SIZES {
             for kind in PAIRED_KINDS {
                 for (name, pairs) in lists(&measured::case(kind, k, stops).route) {
                     let row = format!("| {k} | {stops} | {kind} | {name} |");
                     let case = paired_case(kind, k, stops, &pairs);
-                    let (to_none, to_rust) = row_of(&row, &case)?;
-                    let so_far = &mut highest[k - 2];
-                    *so_far = (so_far.0.max(to_none), so_far.1.max(to_rust));
+                    let ratios = row_of(&row, &case)?;
+                    to_none.push(ratios.0);
+                    to_rust.extend(ratios.1);
                 }
             }
         }
+        let told = [to_none, to_rust].map(|ratios| {
+            let (mean, highest) = (mean(&ratios), highest(&ratios));
+            format!(" {mean:.3} | {highest:.3} |")
+        });
+        means += &format!("| {k} |{}\n", told.concat());
     }
-    println!("\n| k | highest pairs / none | highest library / Rust |\n|---|---|---|");
-    for (k, (to_none, to_rust)) in (2..).zip(highest) {
-        println!("| {k} | {to_none:.3} | {to_rust:.3} |");
-    }
+    println!("\n| k | pairs / none, geometric mean | highest | library / Rust, geometric mean | highest |\n|---|---|---|---|---|\n{means}");
     Ok(())
 }
 
@@ -154,8 +163,8 @@ fn paired_case(kind: &str, k: usize, stops: usize, pairs: &[u32]) -> Case {
     }
 }
 
-/// Prints a row; the time a candidate by that of an empty list, and by the Rust's, 0 where it was not timed.
-fn row_of(row: &str, case: &Case) -> Result<(f64, f64), String> {
+/// Prints a row; the time a candidate by that of an empty list, and by the Rust's where it was timed.
+fn row_of(row: &str, case: &Case) -> Result<(f64, Option<f64>), String> {
     let none = with_pairs(case, Some(Vec::new()));
     let numbers = |case: &Case| polished(case, None, &mut Vec::new());
     let (without, with) = (numbers(&none), numbers(case));
@@ -169,31 +178,34 @@ fn row_of(row: &str, case: &Case) -> Result<(f64, f64), String> {
     );
     if case.route.len() > MOST_STOPS_OF_RUST {
         println!("{told} | |");
-        return Ok((paired / free, 0.0));
+        return Ok((paired / free, None));
     }
     let rust = each(by_rust(row, case)?, with);
     println!("{told} {rust:.1} | {:.3} |", paired / rust);
-    Ok((paired / free, paired / rust))
+    Ok((paired / free, Some(paired / rust)))
 }
 
 /// The Rust's best time, if it answers the same.
 fn by_rust(row: &str, case: &Case) -> Result<Duration, String> {
     let mut route = Vec::new();
     let numbers = polished(case, None, &mut route);
-    let mut best = Duration::MAX;
-    for _ in 0..RUST_TURNS {
-        let mut order: Vec<usize> = case.route.iter().map(|&stop| stop as usize).collect();
-        let start = Instant::now();
-        let counts = polish_marked(black_box(case), case.allowance, &mut order);
-        best = start.elapsed().min(best);
-        let same = order
-            .iter()
-            .zip(&route)
-            .all(|(&one, &other)| one == other as usize);
-        let counted = [u64::from(counts.spent), counts.examined, counts.accepted];
-        if !same || counted != numbers[..3] {
-            return Err(String::from(row));
-        }
+    let handed_in: Vec<usize> = case.route.iter().map(|&stop| stop as usize).collect();
+    let mut order = Vec::new();
+    let mut call = || {
+        order.clone_from(&handed_in);
+        polish_marked(black_box(case), case.allowance, &mut order)
+    };
+    let counts = call();
+    let mut again = || {
+        black_box(call());
+    };
+    let calls = calls(&mut again);
+    let [best] = timed(RUST_TURNS, calls, [&mut again]);
+    let counted = [u64::from(counts.spent), counts.examined, counts.accepted];
+    let same = |(&one, &other): (&usize, &u32)| one == other as usize;
+    if counted == numbers[..3] && order.iter().zip(&route).all(same) {
+        Ok(best)
+    } else {
+        Err(String::from(row))
     }
-    Ok(best)
 }

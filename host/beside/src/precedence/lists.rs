@@ -105,9 +105,9 @@ fn two_in_order(random: &mut Random, route: &[u32]) -> Option<Pair> {
 fn another(random: &mut Random, tables: &Tables, depot: u32, pairs: &[Pair]) -> Option<Pair> {
     let place = random.index(tables.locations) as u32;
     let with_depot = random.pick([[depot, place], [place, depot]]);
-    match pairs.get(random.index(pairs.len())) {
-        Some(&[first, second]) => Some(random.pick([[first, second], [second, first], with_depot])),
-        None => Some(with_depot),
-    }
-    .filter(|pair| pair[0] != pair[1])
+    let pair = match pairs.get(random.index(pairs.len())) {
+        Some(&[first, second]) => random.pick([[first, second], [second, first], with_depot]),
+        None => with_depot,
+    };
+    Some(pair).filter(|pair| pair[0] != pair[1])
 }
