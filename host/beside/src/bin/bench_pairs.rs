@@ -23,8 +23,9 @@ const TURN: Duration = Duration::from_millis(2);
 /// Turns of the Rust, which takes long.
 const RUST_TURNS: usize = 3;
 
-/// *polished* is the route that polishing *busy* with the pairs has come to: nothing is left to take, and much is shorter that breaks a pair.
-const PAIRED_KINDS: [&str; 4] = ["quiet", "busy", "deadlines", "polished"];
+/// *good* is the route that polishing *busy* with none has come to, so that nothing is shorter; *polished* the one that polishing it with the pairs has come to, so
+/// that much may be shorter that breaks a pair.
+const PAIRED_KINDS: [&str; 5] = ["quiet", "busy", "deadlines", "good", "polished"];
 const LONG_SIZES: [usize; 3] = [64, 128, 512];
 
 /// The Rust fills a table of (stops + 1)² after each acceptance.
@@ -101,23 +102,23 @@ fn told_empty(case: &Case, rows: Option<&Rows>) -> String {
     format!(" {one:.2} | {other:.2} | {:.3} |", ratio(with, without))
 }
 
-/// Lists of pairs by their names: kept by the route; and as many of which two contradict each other, at the route's ends, its beginning or its middle.
+/// Lists of pairs by their names: 16 and 64 that the route keeps, and 64 of which two contradict each other, at the route's ends, its beginning or its middle.
 fn lists(route: &[u32]) -> Vec<(String, Vec<u32>)> {
     let mut random = Random::new(1958);
     let mut all = Vec::new();
-    let last = route.len() - 1;
     for count in [16, 64] {
         let kept = kept_by(&mut random, route, count);
         all.push((format!("{count} kept"), kept.concat()));
-        for (name, at) in [
-            ("across", [0, last]),
-            ("in front", [0, 1]),
-            ("in the middle", [last / 2, last / 2 + 1]),
-        ] {
-            let broken = broken_for_good(&mut random, route, count, at);
-            let name = format!("{count}, two against each other {name}");
-            all.push((name, broken.concat()));
-        }
+    }
+    let last = route.len() - 1;
+    for (name, at) in [
+        ("across", [0, last]),
+        ("in front", [0, 1]),
+        ("in the middle", [last / 2, last / 2 + 1]),
+    ] {
+        let broken = broken_for_good(&mut random, route, 64, at);
+        let name = format!("64, two against each other {name}");
+        all.push((name, broken.concat()));
     }
     all
 }
@@ -129,9 +130,13 @@ fn pairs() -> Result<(), String> {
         let (mut to_none, mut to_rust) = (Vec::new(), Vec::new());
         for stops in LONG_SIZES {
             for kind in PAIRED_KINDS {
-                for (name, pairs) in lists(&measured::case(kind, k, stops).route) {
+                let case = case_of(kind, k, stops);
+                for (name, pairs) in lists(&case.route) {
                     let row = format!("| {k} | {stops} | {kind} | {name} |");
-                    let case = paired_case(kind, k, stops, &pairs);
+                    let mut case = with_pairs(&case, Some(pairs));
+                    if kind == "polished" {
+                        case = polished_further(case);
+                    }
                     let ratios = row_of(&row, &case)?;
                     to_none.push(ratios.0);
                     to_rust.extend(ratios.1);
@@ -148,19 +153,20 @@ fn pairs() -> Result<(), String> {
     Ok(())
 }
 
-fn paired_case(kind: &str, k: usize, stops: usize, pairs: &[u32]) -> Case {
-    if kind != "polished" {
-        return with_pairs(&measured::case(kind, k, stops), Some(pairs.to_vec()));
+fn case_of(kind: &str, k: usize, stops: usize) -> Case {
+    match kind {
+        "good" => polished_further(measured::case("busy", k, stops)),
+        "polished" => measured::case("busy", k, stops),
+        _ => measured::case(kind, k, stops),
     }
-    let mut case = with_pairs(&measured::case("busy", k, stops), Some(pairs.to_vec()));
-    let mut route = Vec::new();
-    case.allowance *= 50;
-    polished(&case, None, &mut route);
-    Case {
-        route,
-        allowance: case.allowance / 50,
-        ..case
-    }
+}
+
+/// Polished until nothing is left to take, or for long.
+fn polished_further(case: Case) -> Case {
+    let (mut route, mut long) = (Vec::new(), case.clone());
+    long.allowance *= 50;
+    polished(&long, None, &mut route);
+    Case { route, ..case }
 }
 
 /// Prints a row; the time a candidate by that of an empty list, and by the Rust's where it was timed.
