@@ -16,9 +16,9 @@ use Rattle.polishing.proofs.Judged.{polishable-fine, polishable-with-pairs-fine
 use Rattle.refusal_rules.specs.Rules.{polish-to-end-rules, polish-with-pairs-rules}
 use Rattle.refusal_rules.proofs.Parts.{pass-with-room}
 use Rattle.refusal_rules.proofs.Closed.{polish-closed, polish-unpaired}
-use Rattle.pattern_list_polishing.specs.Polishing.{PolishWithPatternsReply}
+use Rattle.pattern_list_polishing.specs.Polishing.{PolishWithPatternsReply, PolishWithPatternsAndPairsReply}
 use Rattle.pattern_list_polishing.proofs.Replies.{refused-with, polished-with, alike}
-use Rattle.pattern_list_polishing.proofs.Judging.{full-rules}
+use Rattle.pattern_list_polishing.proofs.Judging.{list-unpaired, full-rules}
 use Rattle.polish_calls.specs.Polishing.{PolishReply, PolishToEndReply, PolishWithPairsReply}
 
 module _ (q : Question) (result : List ℕ) (number : ℕ) (judged : number ≡ refusal (polish-to-end-rules q (length result))) where
@@ -80,6 +80,10 @@ pub unpaired-polish : (k A : ℕ) (T : Tables) (depot end : ℕ) (route result :
     PolishToEndReply (question k A (T .locations) (T .legs) (T .latest) (T .service) depot end route) result answer route′ result′
 unpaired-polish k A T depot end route result =
     alike (question k A (T .locations) (T .legs) (T .latest) (T .service) depot end route) result (polish-unpaired k A T depot end route (length result)) refl
+
+pub unpaired-list : (q : Question) (orders masks result : List ℕ) → q .trip .pairs ≡ [] → {answer : ℕ} {route′ result′ : List ℕ} →
+    PolishWithPatternsAndPairsReply q orders masks result answer route′ result′ → PolishWithPatternsReply q orders masks result answer route′ result′
+unpaired-list q orders masks result none = alike q result (list-unpaired q orders masks (length result) none) refl
 
 -- "A list of all patterns in index order gives the built-in replies."
 pub full-list : (q : Question) (orders masks result : List ℕ) → pattern-rows (q .k) orders masks ≡ patterns (q .k) → length orders ≡ length masks * suc (q .k) →
