@@ -127,7 +127,7 @@ fn pairs() -> Result<(), String> {
     println!("\nPairs beside an empty list, and beside the Rust with the same pairs\n\n| k | stops | table | pairs | accepted, with none | accepted | ns a candidate, with none | ns | pairs / none | Rust ns | library / Rust |\n|---|---|---|---|---|---|---|---|---|---|---|");
     let mut means = String::new();
     for k in 2..=5 {
-        let (mut to_none, mut to_rust) = (Vec::new(), Vec::new());
+        let (mut alike, mut to_none, mut to_rust) = (Vec::new(), Vec::new(), Vec::new());
         for stops in LONG_SIZES {
             for kind in PAIRED_KINDS {
                 let case = case_of(kind, k, stops);
@@ -138,18 +138,19 @@ fn pairs() -> Result<(), String> {
                         case = polished_further(case);
                     }
                     let ratios = row_of(&row, &case)?;
-                    to_none.push(ratios.0);
-                    to_rust.extend(ratios.1);
+                    alike.extend(Some(ratios.to_none).filter(|_| ratios.alike));
+                    to_none.push(ratios.to_none);
+                    to_rust.extend(ratios.to_rust);
                 }
             }
         }
-        let told = [to_none, to_rust].map(|ratios| {
+        let told = [alike, to_none, to_rust].map(|ratios| {
             let (mean, highest) = (mean(&ratios), highest(&ratios));
             format!(" {mean:.3} | {highest:.3} |")
         });
         means += &format!("| {k} |{}\n", told.concat());
     }
-    println!("\n| k | pairs / none, geometric mean | highest | library / Rust, geometric mean | highest |\n|---|---|---|---|---|\n{means}");
+    println!("\nGeometric means and highest rows; where as many are accepted with pairs as with none, both sides scan alike\n\n| k | pairs / none, as many accepted | highest | pairs / none, all rows | highest | library / Rust | highest |\n|---|---|---|---|---|---|---|\n{means}");
     Ok(())
 }
 
@@ -169,26 +170,37 @@ fn polished_further(case: Case) -> Case {
     Case { route, ..case }
 }
 
-/// Prints a row; the time a candidate by that of an empty list, and by the Rust's where it was timed.
-fn row_of(row: &str, case: &Case) -> Result<(f64, Option<f64>), String> {
+/// The time a candidate by that of an empty list, and by the Rust's where it was timed.
+struct Ratios {
+    /// As many were accepted as with an empty list.
+    alike: bool,
+    to_none: f64,
+    to_rust: Option<f64>,
+}
+
+/// Prints a row.
+fn row_of(row: &str, case: &Case) -> Result<Ratios, String> {
     let none = with_pairs(case, Some(Vec::new()));
     let numbers = |case: &Case| polished(case, None, &mut Vec::new());
     let (without, with) = (numbers(&none), numbers(case));
     let times = both(&none, case, None);
     let each = |time: Duration, numbers: [u64; 6]| time.as_nanos() as f64 / numbers[1] as f64;
     let (free, paired) = (each(times[0], without), each(times[1], with));
-    let (accepted, of_none) = (with[2], without[2]);
-    let told = format!(
-        "{row} {of_none} | {accepted} | {free:.3} | {paired:.3} | {:.3} |",
-        paired / free
-    );
-    if case.route.len() > MOST_STOPS_OF_RUST {
-        println!("{told} | |");
-        return Ok((paired / free, None));
+    let (accepted, of_none, to_none) = (with[2], without[2], paired / free);
+    print!("{row} {of_none} | {accepted} | {free:.3} | {paired:.3} | {to_none:.3} |");
+    let mut to_rust = None;
+    if case.route.len() <= MOST_STOPS_OF_RUST {
+        let rust = each(by_rust(row, case)?, with);
+        to_rust = Some(paired / rust);
+        println!(" {rust:.1} | {:.3} |", paired / rust);
+    } else {
+        println!(" | |");
     }
-    let rust = each(by_rust(row, case)?, with);
-    println!("{told} {rust:.1} | {:.3} |", paired / rust);
-    Ok((paired / free, Some(paired / rust)))
+    Ok(Ratios {
+        alike: accepted == of_none,
+        to_none,
+        to_rust,
+    })
 }
 
 /// The Rust's best time, if it answers the same.
