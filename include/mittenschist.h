@@ -9,7 +9,7 @@
  * aligned for its type and has that many initialised elements; and slices that are written overlap no other slice of the call. These
  * two things cannot be seen from inside, and so cannot be refused.
  *
- * Words: a route or round has n stops, begins at a depot and ends there too, or, in the functions with `to_end` in their names, in an end
+ * Words: a route or round has n stops, begins at a depot and ends there too, or, in the functions that take an end, in an end
  * harbour. Cut p lies before position p, so that cuts are 0 to n. k cuts make k + 1 segments, numbered from 0; a pattern says in which order they are put together, and which are reversed. There are 1, 7, 47,
  * 383 patterns for k = 2, 3, 4, 5, with indices from 0.
  */
@@ -35,6 +35,7 @@ enum {
     MITTENSCHIST_SERVICE_LIST = 23,  /* service not as many as locations, or an entry above 1,000,000 seconds */
     MITTENSCHIST_UNKNOWN_STOP = 4,   /* a depot or stop not below the locations */
     MITTENSCHIST_UNKNOWN_END = 24,   /* an end harbour not below the locations */
+    MITTENSCHIST_PAIRS = 29,         /* more than 64 pairs, a member without its partner or not below the locations, or a pair of equal members */
     MITTENSCHIST_ROUND_SIZE = 5,     /* more than 512 stops; more than 64 rounds; lists of rounds whose sizes disagree */
     MITTENSCHIST_PATTERN_INDEX = 6,  /* a pattern index not below the number of patterns for k */
     MITTENSCHIST_CUTS = 7,           /* not k cuts, a cut above n, or cuts that do not rise strictly */
@@ -160,6 +161,41 @@ uint32_t mittenschist_polish_with_patterns(size_t k, const uint8_t *orders, size
     uint64_t allowance, size_t locations,
     const uint32_t *legs, size_t legs_len, const uint32_t *latest, size_t latest_len, const uint32_t *service, size_t service_len,
     uint32_t depot, uint32_t end, uint32_t *route, size_t route_len, uint64_t *result, size_t result_len);
+
+/* ---- With pairs: what comes before what ---- */
+
+/* mittenschist_polish_route_to_end, of a route that is to keep pairs of locations: in each pair every visit of the first comes before every visit of the
+ * second. A pair of which a member is not visited is kept; the depot at the start and the end harbour are no visits. A result is kept only if it is
+ * shorter and keeps every deadline and every pair, and finished means that no choice of k cuts and no pattern gives one. A route that does not keep its
+ * pairs as it is handed in is polished all the same; the late position speaks of deadlines alone. With no pairs the replies are those of
+ * mittenschist_polish_route_to_end.
+ *   pairs   read     the members end to end: first, second, first, second; at most 64 pairs, which may repeat or contradict each other
+ *   all others       as for it
+ * Refuses 1, 2, 3, 23, 4, 24, 29, 5, 21 (result under 6 places). */
+uint32_t mittenschist_polish_route_with_pairs(size_t k, uint64_t allowance, size_t locations,
+    const uint32_t *legs, size_t legs_len, const uint32_t *latest, size_t latest_len, const uint32_t *service, size_t service_len,
+    uint32_t depot, uint32_t end, const uint32_t *pairs, size_t pairs_len, uint32_t *route, size_t route_len,
+    uint64_t *result, size_t result_len);
+
+/* mittenschist_polish_with_patterns, with pairs as above.
+ *   pairs   read     as above
+ *   all others       as for it
+ * Refuses 1, 26, 27, 28, 2, 3, 23, 4, 24, 29, 5, 21 (result under 6 places). */
+uint32_t mittenschist_polish_with_patterns_and_pairs(size_t k, const uint8_t *orders, size_t orders_len, const uint8_t *masks, size_t masks_len,
+    uint64_t allowance, size_t locations,
+    const uint32_t *legs, size_t legs_len, const uint32_t *latest, size_t latest_len, const uint32_t *service, size_t service_len,
+    uint32_t depot, uint32_t end, const uint32_t *pairs, size_t pairs_len, uint32_t *route, size_t route_len,
+    uint64_t *result, size_t result_len);
+
+/* mittenschist_run_list_k_opt_to_ends, of rounds that are to keep pairs.
+ *   pairs   read     as above; one list for all rounds
+ *   all others       as for it
+ * Refuses 1, 2, 3, 23, 4, 24, 29, 5, 21 (result under 4 places a round). */
+uint32_t mittenschist_run_list_k_opt_with_pairs(size_t k, uint64_t allowance, size_t locations,
+    const uint32_t *legs, size_t legs_len, const uint32_t *latest, size_t latest_len, const uint32_t *service, size_t service_len,
+    uint32_t *stops, size_t stops_len, const size_t *lengths, size_t lengths_len,
+    const uint32_t *depots, size_t depots_len, const uint32_t *ends, size_t ends_len, const uint8_t *pins, size_t pins_len,
+    const uint32_t *pairs, size_t pairs_len, uint64_t *result, size_t result_len);
 
 /* ---- The others ---- */
 

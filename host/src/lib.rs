@@ -31,6 +31,7 @@ mod pairs;
 mod parts;
 mod patterns;
 mod polish;
+mod precedence;
 #[allow(unsafe_code)]
 pub mod raw;
 mod refusal;
@@ -47,8 +48,9 @@ pub use parts::{
     delta, next_cut_set, reconnect, reconnection_at, route_feasible, route_length, Deadline,
     Reconnection,
 };
-pub use patterns::{polish_with_patterns, PatternList, Patterns};
-pub use polish::{polish_route, Ending, Polished};
+pub use patterns::{polish_with_patterns, polish_with_patterns_and_pairs, PatternList, Patterns};
+pub use polish::{polish_route, polish_route_with_pairs, Ending, Polished};
+pub use precedence::Pair;
 pub use refusal::Refusal;
-pub use run::{run_list_k_opt, RoundReply, RoundState, Rounds};
+pub use run::{run_list_k_opt, run_list_k_opt_with_pairs, RoundReply, RoundState, Rounds};
 pub use tables::Tables;

@@ -56,17 +56,12 @@ pub fn pair_loop(
     depot: u32,
     route: &mut [u32],
 ) -> Result<PairLooped, Refusal> {
-    let mut result = Polished::UNWRITTEN;
-    Refusal::check(raw::pair_loop(
-        allowance,
-        tables.locations,
-        tables.legs,
-        tables.latest,
-        tables.service,
-        depot,
-        route,
-        &mut result,
-    ))?;
+    let (locations, legs, latest, service) = tables.parts();
+    let polished = Polished::by(route, |route, result| {
+        raw::pair_loop(
+            allowance, locations, legs, latest, service, depot, route, result,
+        )
+    });
     // The same six numbers, with pairs for candidates.
     let Polished {
         ending,
@@ -75,7 +70,7 @@ pub fn pair_loop(
         before,
         after,
         late,
-    } = Polished::of(result, route.len());
+    } = polished?;
     Ok(PairLooped {
         ending,
         examined,

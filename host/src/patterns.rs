@@ -1,6 +1,6 @@
 //! Own lists of patterns.
 
-use crate::{raw, Harbours, Polished, Refusal, Tables};
+use crate::{raw, Harbours, Pair, Polished, Refusal, Tables};
 
 /// Patterns for k cuts, lent, in the order in which they are tried.
 #[derive(Clone, Copy, Debug, PartialEq, Eq)]
@@ -91,21 +91,49 @@ pub fn polish_with_patterns(
     harbours: impl Into<Harbours>,
     route: &mut [u32],
 ) -> Result<Polished, Refusal> {
+    let Patterns { k, orders, masks } = patterns;
     let Harbours { depot, end } = harbours.into();
-    let mut result = Polished::UNWRITTEN;
-    Refusal::check(raw::polish_with_patterns(
-        patterns.k,
-        patterns.orders,
-        patterns.masks,
-        allowance,
-        tables.locations,
-        tables.legs,
-        tables.latest,
-        tables.service,
-        depot,
-        end,
-        route,
-        &mut result,
-    ))?;
-    Ok(Polished::of(result, route.len()))
+    let (locations, legs, latest, service) = tables.parts();
+    Polished::by(route, |route, result| {
+        raw::polish_with_patterns(
+            k, orders, masks, allowance, locations, legs, latest, service, depot, end, route,
+            result,
+        )
+    })
+}
+
+/// As [`polish_with_patterns`], where a candidate must keep every [`Pair`] too, as of
+/// [`polish_route_with_pairs`](crate::polish_route_with_pairs). Refuses 1, 26, 27, 28, 2, 3, 23, 4, 24, 29, 5.
+///
+/// ```
+/// use mittenschist::{polish_with_patterns_and_pairs, Patterns, Tables};
+///
+/// let legs = [0, 5, 1, 1, 0, 5, 5, 1, 0];
+/// let tables = Tables::without_service(3, &legs, &[u32::MAX; 3]);
+/// let exchange = Patterns { k: 3, orders: &[0, 2, 1, 3], masks: &[0] };
+/// let mut route = [1, 2];
+/// let kept = polish_with_patterns_and_pairs(exchange, 100, &tables, 0, &[[1, 2]], &mut route)?;
+/// assert_eq!((kept.examined, kept.saved()), (1, 0));
+/// let free = polish_with_patterns_and_pairs(exchange, 100, &tables, 0, &[], &mut route)?;
+/// assert_eq!((free.examined, free.saved()), (2, 12));
+/// # Ok::<(), mittenschist::Refusal>(())
+/// ```
+pub fn polish_with_patterns_and_pairs(
+    patterns: Patterns,
+    allowance: u64,
+    tables: &Tables,
+    harbours: impl Into<Harbours>,
+    pairs: &[Pair],
+    route: &mut [u32],
+) -> Result<Polished, Refusal> {
+    let Patterns { k, orders, masks } = patterns;
+    let Harbours { depot, end } = harbours.into();
+    let (locations, legs, latest, service) = tables.parts();
+    let members = pairs.as_flattened();
+    Polished::by(route, |route, result| {
+        raw::polish_with_patterns_and_pairs(
+            k, orders, masks, allowance, locations, legs, latest, service, depot, end, members,
+            route, result,
+        )
+    })
 }

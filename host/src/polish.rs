@@ -1,11 +1,11 @@
 use crate::unknown::{late_position, unknown};
-use crate::{raw, Harbours, Refusal, Tables};
+use crate::{raw, Harbours, Pair, Refusal, Tables};
 
 /// How a search ended.
 #[derive(Clone, Copy, Debug, PartialEq, Eq)]
 pub enum Ending {
-    /// Of polishing: no choice of k cuts and no pattern gives a shorter route that keeps every deadline. Of the pair loop: a whole pass
-    /// accepted nothing.
+    /// Of polishing: no choice of k cuts and no pattern gives a shorter route that keeps every deadline, and every pair where there are pairs.
+    /// Of the pair loop: a whole pass accepted nothing.
     Finished,
     /// The allowance was reached; the route keeps what was accepted.
     Spent,
@@ -41,10 +41,10 @@ pub struct Polished {
 
 impl Polished {
     /// No number of stops: an archive that writes five numbers is told by it.
-    pub(crate) const UNWRITTEN: [u64; 6] = [u64::MAX; 6];
+    const UNWRITTEN: [u64; 6] = [u64::MAX; 6];
 
     /// The six numbers of a route of so many stops.
-    pub(crate) fn of(result: [u64; 6], stops: usize) -> Self {
+    fn of(result: [u64; 6], stops: usize) -> Self {
         let [ending, examined, accepted, before, after, late] = result;
         Self {
             ending: Ending::of(ending),
@@ -54,6 +54,16 @@ impl Polished {
             after,
             late: late_position(late, stops),
         }
+    }
+
+    /// What a call answers of a route: it is lent the route and room for the six numbers.
+    pub(crate) fn by(
+        route: &mut [u32],
+        call: impl FnOnce(&mut [u32], &mut [u64]) -> u32,
+    ) -> Result<Self, Refusal> {
+        let mut result = Self::UNWRITTEN;
+        Refusal::check(call(route, &mut result))?;
+        Ok(Self::of(result, route.len()))
     }
 
     /// Seconds saved.
@@ -97,20 +107,51 @@ pub fn polish_route(
     route: &mut [u32],
 ) -> Result<Polished, Refusal> {
     let Harbours { depot, end } = harbours.into();
-    let mut result = Polished::UNWRITTEN;
-    Refusal::check(raw::polish_route_to_end(
-        k,
-        allowance,
-        tables.locations,
-        tables.legs,
-        tables.latest,
-        tables.service,
-        depot,
-        end,
-        route,
-        &mut result,
-    ))?;
-    Ok(Polished::of(result, route.len()))
+    let (locations, legs, latest, service) = tables.parts();
+    Polished::by(route, |route, result| {
+        raw::polish_route_to_end(
+            k, allowance, locations, legs, latest, service, depot, end, route, result,
+        )
+    })
+}
+
+/// As [`polish_route`], where a candidate must keep every [`Pair`] too. Finished, no choice of k cuts and no pattern gives a shorter route that
+/// keeps every deadline and every pair; with no pairs it is [`polish_route`]. Refuses 1, 2, 3, 23, 4, 24, 29, 5.
+///
+/// A route that does not keep its pairs when it is handed in is polished all the same: what is accepted keeps them. [`Polished::late`] speaks of
+/// deadlines alone.
+///
+/// ```
+/// use mittenschist::{polish_route_with_pairs, Harbours, Tables};
+///
+/// let legs = [0, 5, 1, 1, 0, 5, 5, 1, 0];
+/// let tables = Tables::without_service(3, &legs, &[u32::MAX; 3]);
+/// let mut route = [1, 2];
+/// let kept = polish_route_with_pairs(3, 100, &tables, 0, &[[1, 2]], &mut route)?;
+/// assert_eq!((kept.accepted, route), (0, [1, 2]));
+///
+/// // From location 0 to location 1, with a pair that is not kept as the route is handed in.
+/// let harbours = Harbours { depot: 0, end: 1 };
+/// let mended = polish_route_with_pairs(3, 100, &tables, harbours, &[[2, 1]], &mut route)?;
+/// assert_eq!((mended.before, mended.after, route), (11, 2, [2, 1]));
+/// # Ok::<(), mittenschist::Refusal>(())
+/// ```
+pub fn polish_route_with_pairs(
+    k: usize,
+    allowance: u64,
+    tables: &Tables,
+    harbours: impl Into<Harbours>,
+    pairs: &[Pair],
+    route: &mut [u32],
+) -> Result<Polished, Refusal> {
+    let Harbours { depot, end } = harbours.into();
+    let (locations, legs, latest, service) = tables.parts();
+    let members = pairs.as_flattened();
+    Polished::by(route, |route, result| {
+        raw::polish_route_with_pairs(
+            k, allowance, locations, legs, latest, service, depot, end, members, route, result,
+        )
+    })
 }
 
 #[cfg(test)]

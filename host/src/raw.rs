@@ -37,6 +37,25 @@ extern "C" {
         result: *mut u64,
         result_len: usize,
     ) -> u32;
+    fn mittenschist_polish_route_with_pairs(
+        k: usize,
+        allowance: u64,
+        locations: usize,
+        legs: *const u32,
+        legs_len: usize,
+        latest: *const u32,
+        latest_len: usize,
+        service: *const u32,
+        service_len: usize,
+        depot: u32,
+        end: u32,
+        pairs: *const u32,
+        pairs_len: usize,
+        route: *mut u32,
+        route_len: usize,
+        result: *mut u64,
+        result_len: usize,
+    ) -> u32;
     fn mittenschist_load_patterns(
         text: *const u8,
         text_len: usize,
@@ -63,6 +82,29 @@ extern "C" {
         service_len: usize,
         depot: u32,
         end: u32,
+        route: *mut u32,
+        route_len: usize,
+        result: *mut u64,
+        result_len: usize,
+    ) -> u32;
+    fn mittenschist_polish_with_patterns_and_pairs(
+        k: usize,
+        orders: *const u8,
+        orders_len: usize,
+        masks: *const u8,
+        masks_len: usize,
+        allowance: u64,
+        locations: usize,
+        legs: *const u32,
+        legs_len: usize,
+        latest: *const u32,
+        latest_len: usize,
+        service: *const u32,
+        service_len: usize,
+        depot: u32,
+        end: u32,
+        pairs: *const u32,
+        pairs_len: usize,
         route: *mut u32,
         route_len: usize,
         result: *mut u64,
@@ -124,6 +166,31 @@ extern "C" {
         ends_len: usize,
         pins: *const u8,
         pins_len: usize,
+        result: *mut u64,
+        result_len: usize,
+    ) -> u32;
+    fn mittenschist_run_list_k_opt_with_pairs(
+        k: usize,
+        allowance: u64,
+        locations: usize,
+        legs: *const u32,
+        legs_len: usize,
+        latest: *const u32,
+        latest_len: usize,
+        service: *const u32,
+        service_len: usize,
+        stops: *mut u32,
+        stops_len: usize,
+        lengths: *const usize,
+        lengths_len: usize,
+        depots: *const u32,
+        depots_len: usize,
+        ends: *const u32,
+        ends_len: usize,
+        pins: *const u8,
+        pins_len: usize,
+        pairs: *const u32,
+        pairs_len: usize,
         result: *mut u64,
         result_len: usize,
     ) -> u32;
@@ -354,6 +421,46 @@ pub fn polish_route_to_end(
     }
 }
 
+/// As [`polish_route_to_end`], with pairs that are kept: their members end to end.
+#[must_use]
+#[allow(clippy::too_many_arguments)]
+pub fn polish_route_with_pairs(
+    k: usize,
+    allowance: u64,
+    locations: usize,
+    legs: &[u32],
+    latest: &[u32],
+    service: &[u32],
+    depot: u32,
+    end: u32,
+    pairs: &[u32],
+    route: &mut [u32],
+    result: &mut [u64],
+) -> u32 {
+    // SAFETY: as said above.
+    unsafe {
+        mittenschist_polish_route_with_pairs(
+            k,
+            allowance,
+            locations,
+            legs.as_ptr(),
+            legs.len(),
+            latest.as_ptr(),
+            latest.len(),
+            service.as_ptr(),
+            service.len(),
+            depot,
+            end,
+            pairs.as_ptr(),
+            pairs.len(),
+            route.as_mut_ptr(),
+            route.len(),
+            result.as_mut_ptr(),
+            result.len(),
+        )
+    }
+}
+
 /// The orders and masks of the rows into the first places; the result begins with k and the number of rows.
 #[must_use]
 pub fn load_patterns(text: &[u8], orders: &mut [u8], masks: &mut [u8], result: &mut [u64]) -> u32 {
@@ -407,6 +514,52 @@ pub fn polish_with_patterns(
             service.len(),
             depot,
             end,
+            route.as_mut_ptr(),
+            route.len(),
+            result.as_mut_ptr(),
+            result.len(),
+        )
+    }
+}
+
+/// As [`polish_with_patterns`], with pairs that are kept.
+#[allow(clippy::too_many_arguments)]
+#[must_use]
+pub fn polish_with_patterns_and_pairs(
+    k: usize,
+    orders: &[u8],
+    masks: &[u8],
+    allowance: u64,
+    locations: usize,
+    legs: &[u32],
+    latest: &[u32],
+    service: &[u32],
+    depot: u32,
+    end: u32,
+    pairs: &[u32],
+    route: &mut [u32],
+    result: &mut [u64],
+) -> u32 {
+    // SAFETY: as said above.
+    unsafe {
+        mittenschist_polish_with_patterns_and_pairs(
+            k,
+            orders.as_ptr(),
+            orders.len(),
+            masks.as_ptr(),
+            masks.len(),
+            allowance,
+            locations,
+            legs.as_ptr(),
+            legs.len(),
+            latest.as_ptr(),
+            latest.len(),
+            service.as_ptr(),
+            service.len(),
+            depot,
+            end,
+            pairs.as_ptr(),
+            pairs.len(),
             route.as_mut_ptr(),
             route.len(),
             result.as_mut_ptr(),
@@ -530,6 +683,54 @@ pub fn run_list_k_opt_to_ends(
             ends.len(),
             pins.as_ptr(),
             pins.len(),
+            result.as_mut_ptr(),
+            result.len(),
+        )
+    }
+}
+
+/// As [`run_list_k_opt_to_ends`], with pairs that every round keeps.
+#[must_use]
+#[allow(clippy::too_many_arguments)]
+pub fn run_list_k_opt_with_pairs(
+    k: usize,
+    allowance: u64,
+    locations: usize,
+    legs: &[u32],
+    latest: &[u32],
+    service: &[u32],
+    stops: &mut [u32],
+    lengths: &[usize],
+    depots: &[u32],
+    ends: &[u32],
+    pins: &[u8],
+    pairs: &[u32],
+    result: &mut [u64],
+) -> u32 {
+    // SAFETY: as said above.
+    unsafe {
+        mittenschist_run_list_k_opt_with_pairs(
+            k,
+            allowance,
+            locations,
+            legs.as_ptr(),
+            legs.len(),
+            latest.as_ptr(),
+            latest.len(),
+            service.as_ptr(),
+            service.len(),
+            stops.as_mut_ptr(),
+            stops.len(),
+            lengths.as_ptr(),
+            lengths.len(),
+            depots.as_ptr(),
+            depots.len(),
+            ends.as_ptr(),
+            ends.len(),
+            pins.as_ptr(),
+            pins.len(),
+            pairs.as_ptr(),
+            pairs.len(),
             result.as_mut_ptr(),
             result.len(),
         )

@@ -34,6 +34,8 @@ pub enum Refusal {
     UnknownStop,
     /// 24: an end harbour not below the locations.
     UnknownEnd,
+    /// 29: more than 64 pairs, a member without its partner or not below the locations, or a pair of equal members.
+    Pairs,
     /// 5: more than 512 stops, more than 64 rounds, or lists of rounds whose sizes disagree.
     RoundSize,
     /// 6: a pattern index not below the number of patterns for k.
@@ -68,6 +70,7 @@ impl Refusal {
             Self::ServiceList => 23,
             Self::UnknownStop => 4,
             Self::UnknownEnd => 24,
+            Self::Pairs => 29,
             Self::RoundSize => 5,
             Self::PatternIndex => 6,
             Self::Cuts => 7,
@@ -92,6 +95,7 @@ impl Refusal {
             23 => Self::ServiceList,
             4 => Self::UnknownStop,
             24 => Self::UnknownEnd,
+            29 => Self::Pairs,
             5 => Self::RoundSize,
             6 => Self::PatternIndex,
             7 => Self::Cuts,
@@ -134,6 +138,9 @@ impl Display for Refusal {
             }
             Self::UnknownStop => "a depot or stop is not below the number of locations",
             Self::UnknownEnd => "an end harbour is not below the number of locations",
+            Self::Pairs => {
+                "more than 64 pairs, or a member of one has no partner, is not below the number of locations or equals its partner"
+            }
             Self::RoundSize => {
                 "more than 512 stops or 64 rounds, or lists of rounds whose sizes disagree"
             }

@@ -1,5 +1,5 @@
 use crate::unknown::unknown;
-use crate::{raw, Refusal, Tables};
+use crate::{raw, Pair, Refusal, Tables};
 
 /// More rounds than this are refused.
 const MOST_ROUNDS: usize = 64;
@@ -93,22 +93,62 @@ pub fn run_list_k_opt(
     tables: &Tables,
     rounds: Rounds,
 ) -> Result<Vec<RoundReply>, Refusal> {
-    let mut result = [[0; 4]; MOST_ROUNDS];
-    Refusal::check(raw::run_list_k_opt_to_ends(
-        k,
-        allowance,
-        tables.locations,
-        tables.legs,
-        tables.latest,
-        tables.service,
-        rounds.stops,
-        rounds.lengths,
-        rounds.depots,
-        rounds.ends,
-        rounds.pins,
-        result.as_flattened_mut(),
-    ))?;
-    let replies = result.iter().take(rounds.lengths.len());
+    run(k, allowance, tables, rounds, None)
+}
+
+/// As [`run_list_k_opt`], where every round keeps the same pairs: of a round it is what
+/// [`polish_route_with_pairs`](crate::polish_route_with_pairs) says. Refuses 1, 2, 3, 23, 4, 24, 29, 5.
+///
+/// ```
+/// use mittenschist::{run_list_k_opt_with_pairs, RoundState, Rounds, Tables};
+///
+/// let legs = [0, 5, 1, 1, 0, 5, 5, 1, 0];
+/// let tables = Tables::without_service(3, &legs, &[u32::MAX; 3]);
+/// let mut stops = [1, 1, 2, 2, 2, 2, 1, 1];
+/// let rounds = Rounds { stops: &mut stops, lengths: &[4, 4], depots: &[0, 0], ends: &[0, 0], pins: &[0, 0] };
+/// let replies = run_list_k_opt_with_pairs(3, 1000, &tables, rounds, &[[1, 2]])?;
+/// assert_eq!(replies[0].state, RoundState::Unchanged);
+/// # Ok::<(), mittenschist::Refusal>(())
+/// ```
+pub fn run_list_k_opt_with_pairs(
+    k: usize,
+    allowance: u64,
+    tables: &Tables,
+    rounds: Rounds,
+    pairs: &[Pair],
+) -> Result<Vec<RoundReply>, Refusal> {
+    run(k, allowance, tables, rounds, Some(pairs.as_flattened()))
+}
+
+/// With the members of pairs, or by the function that takes none.
+fn run(
+    k: usize,
+    allowance: u64,
+    tables: &Tables,
+    rounds: Rounds,
+    members: Option<&[u32]>,
+) -> Result<Vec<RoundReply>, Refusal> {
+    let (locations, legs, latest, service) = tables.parts();
+    let Rounds {
+        stops,
+        lengths,
+        depots,
+        ends,
+        pins,
+    } = rounds;
+    let mut replies = [[0; 4]; MOST_ROUNDS];
+    let result = replies.as_flattened_mut();
+    Refusal::check(match members {
+        None => raw::run_list_k_opt_to_ends(
+            k, allowance, locations, legs, latest, service, stops, lengths, depots, ends, pins,
+            result,
+        ),
+        Some(pairs) => raw::run_list_k_opt_with_pairs(
+            k, allowance, locations, legs, latest, service, stops, lengths, depots, ends, pins,
+            pairs, result,
+        ),
+    })?;
+    let replies = replies.iter().take(lengths.len());
     Ok(replies.map(RoundReply::of).collect())
 }
 

@@ -32,4 +32,9 @@ impl<'t> Tables<'t> {
             service: &NO_SERVICE[..locations.min(NO_SERVICE.len())],
         }
     }
+
+    /// As the C functions take them.
+    pub(crate) fn parts(&self) -> (usize, &'t [u32], &'t [u32], &'t [u32]) {
+        (self.locations, self.legs, self.latest, self.service)
+    }
 }

@@ -7,8 +7,9 @@ mod support;
 
 use mittenschist::{
     every_nearby_cuts, find_move, k_opt_do_move, k_opt_is_doable, k_opt_undo_move, nearby_cuts,
-    next_cut_set, pair_loop, polish_route, polish_with_patterns, reconnection_at, route_feasible,
-    route_length, run_list_k_opt, Deadline, Ending, Harbours, Move, PairLooped, PatternList,
+    next_cut_set, pair_loop, polish_route, polish_route_with_pairs, polish_with_patterns,
+    polish_with_patterns_and_pairs, reconnection_at, route_feasible, route_length, run_list_k_opt,
+    run_list_k_opt_with_pairs, Deadline, Ending, Harbours, Move, Pair, PairLooped, PatternList,
     Patterns, Polished, Refusal, RoundReply, RoundState, Rounds, Tables,
 };
 use support::lent::Lent;
@@ -546,4 +547,99 @@ fn the_text_case_with_own_patterns() {
     };
     assert_eq!(polish(7), Ok((11, [2, 1])));
     assert_eq!(polish(3), Ok((10, [2, 1])));
+}
+
+/// The text case with these pairs, and another round: what is answered, and the route.
+fn paired(pairs: &[Pair], round: &[u32]) -> (Polished, Vec<u64>) {
+    let tables = Tables::without_service(3, &TEXT_LEGS, &[NO_DEADLINE; 3]);
+    let mut route = Lent::new("route", round);
+    let polished = polish_route_with_pairs(3, 100, &tables, 0, pairs, route.slice());
+    (polished.unwrap(), written(&route))
+}
+
+/// The cases of ruling B59.
+#[test]
+fn the_text_case_with_pairs() {
+    let kept = (polished(Ending::Finished, 7, 0, 15), vec![1, 2]);
+    let changed = (polished(Ending::Finished, 11, 1, 3), vec![2, 1]);
+    assert_eq!(paired(&[[1, 2]], &[1, 2]), kept);
+    assert_eq!(paired(&[[2, 1]], &[1, 2]), changed);
+    assert_eq!(paired(&[], &[1, 2]), changed);
+    // Twice the same; and two that contradict each other.
+    assert_eq!(paired(&[[2, 1], [2, 1]], &[1, 2]), changed);
+    assert_eq!(paired(&[[2, 1], [1, 2]], &[1, 2]), kept);
+    // The depot at the start and at the end is no visit.
+    assert_eq!(paired(&[[0, 1], [2, 0]], &[1, 2]), changed);
+}
+
+/// 1, 2, 1 breaks (1, 2), and so does every order of 0, 1, 1 with 2 in front of a 1: so polishing goes where the visits of 1 come first, or nowhere.
+#[test]
+fn every_visit_counts() {
+    let after = |pairs: &[Pair], round: &[u32]| {
+        let (polished, route) = paired(pairs, round);
+        (polished.accepted, route)
+    };
+    assert_eq!(after(&[], &[1, 2, 1]), (1, vec![2, 1, 1]));
+    assert_eq!(after(&[[2, 1]], &[1, 2, 1]), (1, vec![2, 1, 1]));
+    // 1, 1, 2 is the only order that keeps it, and is not shorter.
+    assert_eq!(after(&[[1, 2]], &[1, 2, 1]), (0, vec![1, 2, 1]));
+    // 1 alone keeps every pair.
+    assert_eq!(after(&[[0, 1]], &[1]), (0, vec![1]));
+    assert_eq!(after(&[[2, 1], [1, 2]], &[1]), (0, vec![1]));
+}
+
+/// 29, behind 24 and before 5.
+#[test]
+fn pairs_that_are_refused() {
+    let tables = Tables::without_service(3, &TEXT_LEGS, &[NO_DEADLINE; 3]);
+    let polish = |end, pairs: &[Pair], stops| {
+        let harbours = Harbours { depot: 0, end };
+        let answer = polish_route_with_pairs(2, 9, &tables, harbours, pairs, &mut vec![0; stops]);
+        answer.err()
+    };
+    let most = [[1, 2]; 64];
+    let more = [[1, 2]; 65];
+    assert_eq!(polish(0, &most, 512), None);
+    assert_eq!(polish(0, &more, 512), Some(Refusal::Pairs));
+    assert_eq!(polish(0, &more, 513), Some(Refusal::Pairs));
+    assert_eq!(polish(3, &more, 513), Some(Refusal::UnknownEnd));
+    assert_eq!(polish(0, &most, 513), Some(Refusal::RoundSize));
+    for wrong in [[1, 1], [0, 3], [u32::MAX, 0]] {
+        assert_eq!(polish(0, &[[1, 2], wrong], 2), Some(Refusal::Pairs));
+    }
+}
+
+/// With a list of patterns, and in a run: one list of pairs for all rounds.
+#[test]
+fn lists_and_runs_with_pairs() {
+    let tables = Tables::without_service(3, &TEXT_LEGS, &[NO_DEADLINE; 3]);
+    let exchange = Patterns {
+        k: 3,
+        orders: &[0, 2, 1, 3],
+        masks: &[0],
+    };
+    for (pairs, examined, after) in [([1, 2], 1, [1, 2]), ([2, 1], 2, [2, 1])] {
+        let mut route = [1, 2];
+        let answer =
+            polish_with_patterns_and_pairs(exchange, 100, &tables, 0, &[pairs], &mut route);
+        assert_eq!((answer.unwrap().examined, route), (examined, after));
+    }
+    let run = |pairs: &[Pair]| {
+        let mut stops = [1, 1, 2, 2, 1, 1, 2, 2];
+        let rounds = Rounds {
+            stops: &mut stops,
+            lengths: &[4, 4],
+            depots: &[0, 0],
+            ends: &[0, 1],
+            pins: &[0, 0],
+        };
+        let replies = run_list_k_opt_with_pairs(2, 1000, &tables, rounds, pairs).unwrap();
+        (replies.iter().map(|reply| reply.state).collect(), stops)
+    };
+    let states = |state| vec![state, state];
+    let kept = (states(RoundState::Unchanged), [1, 1, 2, 2, 1, 1, 2, 2]);
+    let changed = (states(RoundState::Changed), [2, 2, 1, 1, 2, 2, 1, 1]);
+    assert_eq!(run(&[[1, 2]]), kept);
+    assert_eq!(run(&[[2, 1]]), changed);
+    assert_eq!(run(&[]), changed);
 }

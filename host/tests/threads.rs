@@ -32,6 +32,7 @@ fn calls(tables: &Tables, number: u32) -> Vec<Vec<u64>> {
         paired(tables, number),
         ran(tables, number),
         ended(tables, number),
+        in_order(tables, number),
         ran_to_ends(tables, number),
         listed(tables, number),
         all_listed(tables, number),
@@ -113,6 +114,27 @@ fn ended(tables: &Tables, number: u32) -> Vec<u64> {
         tables.service,
         0,
         number % LOCATIONS as u32,
+        route.slice(),
+        result.slice(),
+    );
+    [vec![u64::from(code)], written(&route), written(&result)].concat()
+}
+
+/// The first stop before the second, the fourth before the fifth and so on, as they are handed in.
+fn in_order(tables: &Tables, number: u32) -> Vec<u64> {
+    let (before, room) = (stops(number, 12), filled(7));
+    let pairs: Vec<u32> = before.windows(2).step_by(3).flatten().copied().collect();
+    let (mut route, mut result) = (Lent::new("route", &before), Lent::new("result", &room));
+    let code = raw::polish_route_with_pairs(
+        cuts(number),
+        20_000 + u64::from(number),
+        LOCATIONS,
+        tables.legs,
+        tables.latest,
+        tables.service,
+        0,
+        number % LOCATIONS as u32,
+        &pairs,
         route.slice(),
         result.slice(),
     );

@@ -73,7 +73,7 @@ module _ (k : ℕ) (order rows : List ℕ) (mask i : ℕ) (two : 2 ≤ k) (most 
   long : k ≤ length order
   long = pattern-middle k order mask two f .long
 
-  row-states : slice (4 * i) (4 * i + (k - 1)) rows ≡ map (state-of mask) (slice 1 k order)
+  pub row-states : slice (4 * i) (4 * i + (k - 1)) rows ≡ map (state-of mask) (slice 1 k order)
   unfolding states
   row-states =
       first-states rows i (k - 1) (omega arith)

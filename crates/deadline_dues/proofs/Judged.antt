@@ -11,7 +11,7 @@ use lib.ListN.{length, getD, take, drop, length-append, length-drop}
 use lib.Seq.{slice, take-at, drop-at, getD-at, split-at, take-take, getD-take, length-take-le}
 use borrow.Author.Tests.{le-leb}
 use Rattle.theory.specs.Moves.{Pattern, total, upfrom}
-use Rattle.theory.specs.Route.{Problem, Timetable, Clock, timetable-of, clock, segments, reconnected, path, tour-length, left, timely, on-time, feasible}
+use Rattle.theory.specs.Route.{Problem, Timetable, Clock, timetable-of, clock, segments, reconnected, path, tour-length, left, timely, on-time}
 use Rattle.theory.specs.Costs.{last-of, first-of}
 use Rattle.theory.specs.Tables.{CutSet, ForK}
 use Rattle.theory.proofs.Clock.{path-step, timely-on-time}
@@ -118,22 +118,22 @@ module _ (cs r : List ℕ) (cut-set : CutSet (length cs) (length r) cs) where
   standing-for-k = record { middle = upfrom 1 (length cs - 1); bits = 0; order-is = refl; once = λ g. refl; mask-is = refl; few = some-bits (length cs - 1) }
 
   -- The standing route as its parts.
-  abbrev stays : List ℕ
+  abbrev pub stays : List ℕ
   stays = middle r cs (standing (length cs) .order) 0
 
-  as-parts : r ≡ head r cs ++ (stays ++ tail r cs)
+  pub as-parts : r ≡ head r cs ++ (stays ++ tail r cs)
   as-parts =
       sym (stands (length cs) (length cs - 1) (omega (arith, cut-set .least)) refl)
       ∙ candidate-parts r cs (standing (length cs)) (cut-set .least) standing-for-k
 
-  tail-begins : length (head r cs) + length stays ≡ getD cs (length cs - 1) 0
+  pub tail-begins : length (head r cs) + length stays ≡ getD cs (length cs - 1) 0
   tail-begins =
       let whole : length r ≡ length (head r cs) + (length stays + length (tail r cs)) = ap length as-parts ∙ simp length-append in
       let left : length (tail r cs) ≡ length r - getD cs (length cs - 1) 0 = ap length (tail-at 0 cs r (omega (arith, cut-set .least))) ∙ simp length-drop in
       omega (arith, whole, left, last-cut cs r cut-set)
 
   -- Every sum over the middle is the same, whichever the pattern.
-  middle-total : (g : ℕ → ℕ) (p : Pattern) → ForK (length cs) (p .order) (p .mask) → total g (middle r cs (p .order) (p .mask)) ≡ total g stays
+  pub middle-total : (g : ℕ → ℕ) (p : Pattern) → ForK (length cs) (p .order) (p .mask) → total g (middle r cs (p .order) (p .mask)) ≡ total g stays
   middle-total g p f = of p f ∙ sym (of (standing (length cs)) standing-for-k)
     where
       of : (p : Pattern) → ForK (length cs) (p .order) (p .mask) → total g (middle r cs (p .order) (p .mask)) ≡ total (λ i. total g (getD (segments 0 cs r) i [])) (upfrom 1 (length cs - 1))
@@ -145,7 +145,7 @@ module _ (cs r : List ℕ) (cut-set : CutSet (length cs) (length r) cs) where
   -- With a head that is on time, a candidate that gains g keeps every deadline exactly if its middle segments do and g is at least the lateness behind the last cut.
   pub candidate-judged : (P : Problem) (p : Pattern) (g : ℕ) → ForK (length cs) (p .order) (p .mask) → on-time (clock (timetable-of P)) (P .depot) 0 (head r cs) ≡ true →
       tour-length P (reconnected (record { cuts = cs; pattern = p }) r) + g ≡ tour-length P r →
-      feasible P (reconnected (record { cuts = cs; pattern = p }) r)
+      timely (timetable-of P) (P .depot) (reconnected (record { cuts = cs; pattern = p }) r)
       ≡ (on-time (clock (timetable-of P)) (last-of (P .depot) (head r cs)) (path (clock (timetable-of P) .step) (P .depot) (head r cs)) (middle r cs (p .order) (p .mask))
       && leb (lateness (clock (timetable-of P)) (P .depot) r (getD cs (length cs - 1) 0)) g)
   candidate-judged P p g f early e =
@@ -155,7 +155,7 @@ module _ (cs r : List ℕ) (cut-set : CutSet (length cs) (length r) cs) where
       let gained : tour-length P (head r cs ++ (n ++ tail r cs)) + g ≡ tour-length P (head r cs ++ (stays ++ tail r cs)) = omega (arith, e, ap (tour-length P) parts, ap (tour-length P) as-parts) in
       let late : lateness C (P .depot) (head r cs ++ (stays ++ tail r cs)) (length (head r cs) + length stays) ≡ lateness C (P .depot) r (getD cs (length cs - 1) 0) =
       ap (lateness C (P .depot) (head r cs ++ (stays ++ tail r cs))) tail-begins ∙ ap (λ l. lateness C (P .depot) l (getD cs (length cs - 1) 0)) (sym as-parts) in
-      ap (feasible P) parts ∙ judged P (head r cs) stays n (middle-total (P .service) p f) g (tail r cs) gained ∙ rw (early, late)
+      ap (timely (timetable-of P) (P .depot)) parts ∙ judged P (head r cs) stays n (middle-total (P .service) p f) g (tail r cs) gained ∙ rw (early, late)
 
   -- With a head beyond the longest, none does.
   pub candidate-too-late : (B : Timetable) (depot : ℕ) (longest : ℕ) → LongestHead (clock B) depot r longest → longest < getD cs 0 0 → (p : Pattern) → ForK (length cs) (p .order) (p .mask) →

@@ -1,20 +1,24 @@
-// The entries. Each takes whatever it is handed, judges it, and refuses it or calls the crate below that does the work.
+// The entries. Each takes whatever it is handed and hands it on to the crate below that judges it, refuses it or does the work.
 ghost use mathlib.Core.List.{[], _∷_};
 ghost use Prim.Native.Nat.{_+_};
 ghost use Rattle.theory.specs.Route.{tour-length};
 ghost use Rattle.theory.specs.Polish.{move-at};
 ghost use Rattle.theory.specs.Moves.{patterns};
 ghost use Rattle.theory.specs.Tables.{tables, fleet, legs-only};
-ghost use Rattle.theory.specs.Question.{question};
+ghost use Rattle.theory.specs.Question.{question, question-with-pairs};
 ghost use Rattle.theory.specs.Refusals.{problem-rules};
-ghost use Rattle.move_calls.specs.Entries.{DoMoveReply, UndoReply, doable-rules};
+ghost use Rattle.entry_results.specs.Written.{Written};
+ghost use Rattle.listing_calls.specs.Listings.{NearbyReply, NearbyWritten, EveryReply, EveryWritten};
+ghost use Rattle.move_calls.specs.Entries.{DoMoveReply, UndoReply, doable-rules, doable-values};
 ghost use Rattle.moves.specs.Moves.{length-change, pattern-values};
 ghost use Rattle.pattern_list_loading.specs.Loading.{LoadReply};
-ghost use Rattle.pattern_list_polishing.specs.Polishing.{PolishWithPatternsReply};
+ghost use Rattle.pattern_list_polishing.specs.Polishing.{PolishWithPatternsReply, PolishWithPatternsAndPairsReply};
 ghost use Rattle.refusal_rules.specs.Rules.{route-length-rules, route-length-to-end-rules, pattern-rules, delta-rules, delta-to-end-rules};
-ghost use Rattle.mittenschist.specs.Promises.{NextCutSetReply, RouteLengthReply, RouteLengthToEndReply, ReconnectionReply, ReconnectReply, DeltaReply, DeltaToEndReply, FeasibleReply, PolishReply, PolishToEndReply, PairLoopReply, Written, NextCutSetWritten, late-values, doable-values, RunReply, RunToEndsReply, NearbyReply, NearbyWritten, EveryReply, EveryWritten, FindMoveReply, FindMoveWritten};
+ghost use Rattle.measure_calls.specs.Measures.{RouteLengthReply, RouteLengthToEndReply, DeltaReply, DeltaToEndReply, FeasibleReply, late-values};
+ghost use Rattle.cut_calls.specs.Cuts.{ReconnectionReply, NextCutSetReply, NextCutSetWritten, ReconnectReply, FindMoveReply, FindMoveWritten};
+ghost use Rattle.polish_calls.specs.Polishing.{PolishReply, PolishToEndReply, PolishWithPairsReply, PairLoopReply};
+ghost use Rattle.run_calls.specs.Runs.{RunReply, RunToEndsReply, RunWithPairsReply};
 use first_move::SoughtMove;
-use polishing::polish_route;
 use theory::CutStep;
 use theory::Feasibility;
 use theory::LengthDelta;
@@ -26,39 +30,21 @@ use theory::RouteLength;
 pub fn reconnection_at(k: usize, pattern: usize) -> ReconnectionAt
     ensures { λ r. ⌜ ReconnectionReply k pattern r ⌝ }
 {
-    let refused = refusal_rules::pattern_refusal(k, pattern);
-    if refused != 0 {
-        return entry_results::no_pattern(refused);
-    }
-    let found = patterns::pattern_at(k, pattern);
-    ReconnectionAt {
-        refusal: 0,
-        reconnection: found,
-    }
+    cut_calls::reconnection_at(k, pattern)
 }
 
 // Moves k cuts of a route of n stops on to the next set, or answers that there is none. Refuses 1, 5, 7.
 pub fn next_cut_set(k: usize, n: usize, cuts: &mut [usize]) -> CutStep
     ensures { λ r. ⌜ NextCutSetReply k n (now (cuts .entry)) r (now (cuts .exit)) ⌝ }
 {
-    let refused = refusal_rules::next_cut_set_refusal(k, n, &cuts[..]);
-    if refused != 0 {
-        return CutStep::Refused(refused);
-    }
-    entry_results::step_of(cut_step::next_cut_set(cuts, n))
+    cut_calls::next_cut_set(k, n, cuts)
 }
 
 // The route after the pattern is applied at the cuts, into the first places of out. Refuses 1, 5, 6, 7, 21.
 pub fn reconnect(k: usize, pattern: usize, cuts: &[usize], route: &[u32], out: &mut [u32]) -> u32
     ensures { λ r. ⌜ ReconnectReply k pattern (now (cuts .entry)) (now (route .entry)) (now (out .entry)) r (now (out .exit)) ⌝ }
 {
-    let n = route.len();
-    let refused = refusal_rules::reconnect_refusal(k, pattern, cuts, n, out.len());
-    if refused != 0 {
-        return refused;
-    }
-    moves::reconnect_pattern(k, pattern, cuts, route, out);
-    0
+    cut_calls::reconnect(k, pattern, cuts, route, out)
 }
 
 // The length of a route from the depot to an end harbour. Refuses 2 (of locations and legs), 3, 4, 24, 5.
@@ -71,18 +57,14 @@ pub fn route_length_to_end(
 ) -> RouteLength
     ensures { λ r. ⌜ RouteLengthToEndReply locations (now (legs .entry)) depot end (now (route .entry)) r ⌝ }
 {
-    let refused = refusal_rules::route_length_refusal(locations, legs, depot, end, route);
-    if refused != 0 {
-        return RouteLength::Refused(refused);
-    }
-    RouteLength::Seconds(costs::route_length(locations, legs, depot, end, route))
+    measure_calls::route_length_to_end(locations, legs, depot, end, route)
 }
 
 // The length of a closed tour. Refuses 2 (of locations and legs), 3, 4, 5.
 pub fn route_length(locations: usize, legs: &[u32], depot: u32, route: &[u32]) -> RouteLength
     ensures { λ r. ⌜ RouteLengthReply locations (now (legs .entry)) depot (now (route .entry)) r ⌝ }
 {
-    route_length_to_end(locations, legs, depot, depot, route)
+    measure_calls::route_length(locations, legs, depot, route)
 }
 
 // The length after a move minus the length before, to an end harbour. Refuses 1, 2 (of locations and legs), 3, 4, 24, 5, 6, 7.
@@ -98,20 +80,7 @@ pub fn delta_to_end(
 ) -> LengthDelta
     ensures { λ r. ⌜ DeltaToEndReply k pattern (now (cuts .entry)) locations (now (legs .entry)) depot end (now (route .entry)) r ⌝ }
 {
-    let refused = refusal_rules::delta_refusal(
-        k,
-        pattern,
-        cuts,
-        locations,
-        legs,
-        depot,
-        end,
-        route,
-    );
-    if refused != 0 {
-        return LengthDelta::Refused(refused);
-    }
-    LengthDelta::Seconds(moves::delta_pattern(k, pattern, cuts, locations, legs, depot, end, route))
+    measure_calls::delta_to_end(k, pattern, cuts, locations, legs, depot, end, route)
 }
 
 // The same of closed tours. Refuses 1, 2 (of locations and legs), 3 to 7.
@@ -126,7 +95,7 @@ pub fn delta(
 ) -> LengthDelta
     ensures { λ r. ⌜ DeltaReply k pattern (now (cuts .entry)) locations (now (legs .entry)) depot (now (route .entry)) r ⌝ }
 {
-    delta_to_end(k, pattern, cuts, locations, legs, depot, depot, route)
+    measure_calls::delta(k, pattern, cuts, locations, legs, depot, route)
 }
 
 // The deadline check. Refuses 2, 3, 23, 4, 5.
@@ -140,12 +109,7 @@ pub fn route_feasible(
 ) -> Feasibility
     ensures { λ r. ⌜ FeasibleReply (tables locations (now (legs .entry)) (now (latest .entry)) (now (service .entry))) depot (now (route .entry)) r ⌝ }
 {
-    let refused = refusals::check_problem(locations, legs, latest, service, depot, route);
-    if refused != 0 {
-        return Feasibility::Refused(refused);
-    }
-    let answer = deadlines::check_deadlines(locations, legs, latest, service, depot, route);
-    Feasibility::Checked(answer)
+    measure_calls::route_feasible(locations, legs, latest, service, depot, route)
 }
 
 // Polishes a route from the depot to an end harbour. Refuses 1, 2, 3, 23, 4, 24, 5, 21. The result receives 0 finished or 1 spent, examined, accepted, length
@@ -165,21 +129,7 @@ pub extern "C" fn mittenschist_polish_route_to_end(
 ) -> u32
     ensures { λ r. ⌜ PolishToEndReply (question k allowance locations (now (legs .entry)) (now (latest .entry)) (now (service .entry)) depot end (now (route .entry))) (now (result .entry)) r (now (route .exit)) (now (result .exit)) ⌝ }
 {
-    let refused = refusal_rules::polish_refusal(
-        k,
-        locations,
-        legs,
-        latest,
-        service,
-        depot,
-        end,
-        &route[..],
-        result.len(),
-    );
-    if refused != 0 {
-        return refused;
-    }
-    let answer = polish_route(
+    polish_calls::polish_route_to_end(
         k,
         allowance,
         locations,
@@ -189,9 +139,8 @@ pub extern "C" fn mittenschist_polish_route_to_end(
         depot,
         end,
         route,
-    );
-    polish_numbers::put_polished(answer, result);
-    0
+        result,
+    )
 }
 
 // Polishes a closed tour. Refuses 1, 2, 3, 23, 4, 5, 21.
@@ -209,7 +158,7 @@ pub extern "C" fn mittenschist_polish_route(
 ) -> u32
     ensures { λ r. ⌜ PolishReply (question k allowance locations (now (legs .entry)) (now (latest .entry)) (now (service .entry)) depot depot (now (route .entry))) (now (result .entry)) r (now (route .exit)) (now (result .exit)) ⌝ }
 {
-    mittenschist_polish_route_to_end(
+    polish_calls::polish_closed_tour(
         k,
         allowance,
         locations,
@@ -217,7 +166,38 @@ pub extern "C" fn mittenschist_polish_route(
         latest,
         service,
         depot,
+        route,
+        result,
+    )
+}
+
+// Polishes a route that keeps pairs of locations, the first before the second: their members end to end. Refuses 1, 2, 3, 23, 4, 24, 29, 5, 21.
+#[no_mangle]
+pub extern "C" fn mittenschist_polish_route_with_pairs(
+    k: usize,
+    allowance: u64,
+    locations: usize,
+    legs: &[u32],
+    latest: &[u32],
+    service: &[u32],
+    depot: u32,
+    end: u32,
+    pairs: &[u32],
+    route: &mut [u32],
+    result: &mut [u64],
+) -> u32
+    ensures { λ r. ⌜ PolishWithPairsReply (question-with-pairs k allowance locations (now (legs .entry)) (now (latest .entry)) (now (service .entry)) depot end (now (pairs .entry)) (now (route .entry))) (now (result .entry)) r (now (route .exit)) (now (result .exit)) ⌝ }
+{
+    polish_calls::polish_route_with_pairs(
+        k,
+        allowance,
+        locations,
+        legs,
+        latest,
+        service,
         depot,
+        end,
+        pairs,
         route,
         result,
     )
@@ -237,21 +217,16 @@ pub extern "C" fn mittenschist_pair_loop(
 ) -> u32
     ensures { λ r. ⌜ PairLoopReply allowance (tables locations (now (legs .entry)) (now (latest .entry)) (now (service .entry))) depot (now (route .entry)) (now (result .entry)) r (now (route .exit)) (now (result .exit)) ⌝ }
 {
-    let refused = refusal_rules::pair_loop_refusal(
+    polish_calls::try_pair_loop(
+        allowance,
         locations,
         legs,
         latest,
         service,
         depot,
-        &route[..],
-        result.len(),
-    );
-    if refused != 0 {
-        return refused;
-    }
-    let answer = pair_loop::pair_loop(allowance, locations, legs, latest, service, depot, route);
-    polish_numbers::put_polished(answer, result);
-    0
+        route,
+        result,
+    )
 }
 
 // The C functions of the other entries: the same refusals, then 21, and the values into the first places of the lent result.
@@ -261,12 +236,7 @@ pub extern "C" fn mittenschist_pair_loop(
 pub extern "C" fn mittenschist_reconnection_at(k: usize, pattern: usize, result: &mut [u64]) -> u32
     ensures { λ r. ⌜ Written (pattern-rules k pattern) (k + 2) (pattern-values k pattern) (now (result .entry)) r (now (result .exit)) ⌝ }
 {
-    let refused = refusal_rules::pattern_refusal_with_room(k, pattern, result.len());
-    if refused != 0 {
-        return refused;
-    }
-    moves::put_pattern(k, pattern, result);
-    0
+    cut_calls::write_reconnection(k, pattern, result)
 }
 
 // 1 and the next cuts, or 0 and the cuts kept. Refuses 1, 5, 7, 21.
@@ -279,12 +249,7 @@ pub extern "C" fn mittenschist_next_cut_set(
 ) -> u32
     ensures { λ r. ⌜ NextCutSetWritten k n (now (cuts .entry)) (now (result .entry)) r (now (cuts .exit)) (now (result .exit)) ⌝ }
 {
-    let refused = refusal_rules::next_cut_set_refusal_with_room(k, n, &cuts[..], result.len());
-    if refused != 0 {
-        return refused;
-    }
-    let moved = cut_step::next_cut_set(cuts, n);
-    entry_results::put_flag(moved, result)
+    cut_calls::write_next_cut_set(k, n, cuts, result)
 }
 
 // Refuses 1, 5, 6, 7, 21.
@@ -298,7 +263,7 @@ pub extern "C" fn mittenschist_reconnect(
 ) -> u32
     ensures { λ r. ⌜ ReconnectReply k pattern (now (cuts .entry)) (now (route .entry)) (now (out .entry)) r (now (out .exit)) ⌝ }
 {
-    reconnect(k, pattern, cuts, route, out)
+    cut_calls::reconnect(k, pattern, cuts, route, out)
 }
 
 // Refuses 2, 3, 4, 24, 5, 21.
@@ -313,8 +278,7 @@ pub extern "C" fn mittenschist_route_length_to_end(
 ) -> u32
     ensures { λ r. ⌜ Written (route-length-to-end-rules locations (now (legs .entry)) depot end (now (route .entry))) 1 (tour-length (legs-only locations (now (legs .entry)) depot end) (now (route .entry)) ∷ []) (now (result .entry)) r (now (result .exit)) ⌝ }
 {
-    let answer = route_length_to_end(locations, legs, depot, end, route);
-    entry_results::put_length(answer, result)
+    measure_calls::write_route_length_to_end(locations, legs, depot, end, route, result)
 }
 
 // Refuses 2, 3, 4, 5, 21.
@@ -328,8 +292,7 @@ pub extern "C" fn mittenschist_route_length(
 ) -> u32
     ensures { λ r. ⌜ Written (route-length-rules locations (now (legs .entry)) depot (now (route .entry))) 1 (tour-length (legs-only locations (now (legs .entry)) depot depot) (now (route .entry)) ∷ []) (now (result .entry)) r (now (result .exit)) ⌝ }
 {
-    let answer = route_length(locations, legs, depot, route);
-    entry_results::put_length(answer, result)
+    measure_calls::write_route_length(locations, legs, depot, route, result)
 }
 
 // Refuses 1 to 4, 24, 5 to 7, 21.
@@ -347,8 +310,7 @@ pub extern "C" fn mittenschist_delta_to_end(
 ) -> u32
     ensures { λ r. ⌜ Written (delta-to-end-rules k pattern (now (cuts .entry)) locations (now (legs .entry)) depot end (now (route .entry))) 1 (length-change (legs-only locations (now (legs .entry)) depot end) (move-at (patterns k) (now (cuts .entry)) pattern) (now (route .entry)) ∷ []) (now (result .entry)) r (now (result .exit)) ⌝ }
 {
-    let answer = delta_to_end(k, pattern, cuts, locations, legs, depot, end, route);
-    entry_results::put_delta(answer, result)
+    measure_calls::write_delta_to_end(k, pattern, cuts, locations, legs, depot, end, route, result)
 }
 
 // Refuses 1 to 7, 21.
@@ -365,8 +327,7 @@ pub extern "C" fn mittenschist_delta(
 ) -> u32
     ensures { λ r. ⌜ Written (delta-rules k pattern (now (cuts .entry)) locations (now (legs .entry)) depot (now (route .entry))) 1 (length-change (legs-only locations (now (legs .entry)) depot depot) (move-at (patterns k) (now (cuts .entry)) pattern) (now (route .entry)) ∷ []) (now (result .entry)) r (now (result .exit)) ⌝ }
 {
-    let answer = delta(k, pattern, cuts, locations, legs, depot, route);
-    entry_results::put_delta(answer, result)
+    measure_calls::write_delta(k, pattern, cuts, locations, legs, depot, route, result)
 }
 
 // The lowest late position, or the number of stops where every deadline is kept. Refuses 2, 3, 23, 4, 5, 21.
@@ -382,8 +343,7 @@ pub extern "C" fn mittenschist_route_feasible(
 ) -> u32
     ensures { λ r. ⌜ Written (problem-rules (tables locations (now (legs .entry)) (now (latest .entry)) (now (service .entry))) depot (now (route .entry))) 1 (late-values (tables locations (now (legs .entry)) (now (latest .entry)) (now (service .entry))) depot (now (route .entry))) (now (result .entry)) r (now (result .exit)) ⌝ }
 {
-    let answer = route_feasible(locations, legs, latest, service, depot, route);
-    entry_results::put_feasibility(answer, route.len(), result)
+    measure_calls::write_route_feasible(locations, legs, latest, service, depot, route, result)
 }
 
 // Applies a pattern at the cuts: the old stops go into the first n journal places. Refuses 1, 5, 6, 7, 8, 21.
@@ -445,24 +405,7 @@ pub extern "C" fn mittenschist_run_list_k_opt_to_ends(
 ) -> u32
     ensures { λ r. ⌜ RunToEndsReply k allowance (tables locations (now (legs .entry)) (now (latest .entry)) (now (service .entry))) (fleet (now (stops .entry)) (now (lengths .entry)) (now (depots .entry)) (now (ends .entry)) (now (pins .entry))) (now (result .entry)) r (now (stops .exit)) (now (result .exit)) ⌝ }
 {
-    let lent = result.len();
-    let refused = refusal_rules::run_refusal(
-        k,
-        locations,
-        legs,
-        latest,
-        service,
-        &stops[..],
-        lengths,
-        depots,
-        ends,
-        pins,
-        lent,
-    );
-    if refused != 0 {
-        return refused;
-    }
-    run::run_list_k_opt_in_phase(
+    run_calls::run_to_ends(
         k,
         allowance,
         locations,
@@ -475,8 +418,7 @@ pub extern "C" fn mittenschist_run_list_k_opt_to_ends(
         ends,
         pins,
         result,
-    );
-    0
+    )
 }
 
 // The run over closed tours. Refuses 1, 2, 3, 23, 4, 5, 21.
@@ -496,7 +438,7 @@ pub extern "C" fn mittenschist_run_list_k_opt(
 ) -> u32
     ensures { λ r. ⌜ RunReply k allowance (tables locations (now (legs .entry)) (now (latest .entry)) (now (service .entry))) (fleet (now (stops .entry)) (now (lengths .entry)) (now (depots .entry)) (now (depots .entry)) (now (pins .entry))) (now (result .entry)) r (now (stops .exit)) (now (result .exit)) ⌝ }
 {
-    mittenschist_run_list_k_opt_to_ends(
+    run_calls::run_closed_tours(
         k,
         allowance,
         locations,
@@ -506,8 +448,43 @@ pub extern "C" fn mittenschist_run_list_k_opt(
         stops,
         lengths,
         depots,
-        depots,
         pins,
+        result,
+    )
+}
+
+// The run with pairs, one list for all rounds. Refuses 1, 2, 3, 23, 4, 24, 29, 5, 21.
+#[no_mangle]
+pub extern "C" fn mittenschist_run_list_k_opt_with_pairs(
+    k: usize,
+    allowance: u64,
+    locations: usize,
+    legs: &[u32],
+    latest: &[u32],
+    service: &[u32],
+    stops: &mut [u32],
+    lengths: &[usize],
+    depots: &[u32],
+    ends: &[u32],
+    pins: &[u8],
+    pairs: &[u32],
+    result: &mut [u64],
+) -> u32
+    ensures { λ r. ⌜ RunWithPairsReply k allowance (tables locations (now (legs .entry)) (now (latest .entry)) (now (service .entry))) (fleet (now (stops .entry)) (now (lengths .entry)) (now (depots .entry)) (now (ends .entry)) (now (pins .entry))) (now (pairs .entry)) (now (result .entry)) r (now (stops .exit)) (now (result .exit)) ⌝ }
+{
+    run_calls::run_with_pairs(
+        k,
+        allowance,
+        locations,
+        legs,
+        latest,
+        service,
+        stops,
+        lengths,
+        depots,
+        ends,
+        pins,
+        pairs,
         result,
     )
 }
@@ -523,18 +500,7 @@ pub fn nearby_cuts(
 ) -> Listing
     ensures { λ r. ⌜ NearbyReply n (now (distances .entry)) k «min_segment_len» «max_nearby» (now (sets .entry)) r (now (sets .exit)) ⌝ }
 {
-    let refused = refusal_rules::nearby_refusal(
-        n,
-        distances,
-        k,
-        min_segment_len,
-        max_nearby,
-        sets.len(),
-    );
-    if refused != 0 {
-        return Listing::Refused(refused);
-    }
-    nearby::nearby_cuts(n, distances, k, min_segment_len, max_nearby, sets)
+    listing_calls::nearby_cuts(n, distances, k, min_segment_len, max_nearby, sets)
 }
 
 // The same; the result receives the number of sets written, then 0 ended or 1 more. Refuses 1, 5, 9, 21.
@@ -550,20 +516,7 @@ pub extern "C" fn mittenschist_nearby_cuts(
 ) -> u32
     ensures { λ r. ⌜ NearbyWritten n (now (distances .entry)) k «min_segment_len» «max_nearby» (now (sets .entry)) (now (result .entry)) r (now (sets .exit)) (now (result .exit)) ⌝ }
 {
-    let refused = refusal_rules::nearby_refusal_with_room(
-        n,
-        distances,
-        k,
-        min_segment_len,
-        max_nearby,
-        sets.len(),
-        result.len(),
-    );
-    if refused != 0 {
-        return refused;
-    }
-    let answer = nearby::nearby_cuts(n, distances, k, min_segment_len, max_nearby, sets);
-    entry_results::put_listing(answer, result)
+    listing_calls::write_nearby_cuts(n, distances, k, min_segment_len, max_nearby, sets, result)
 }
 
 // Lists every nearby cut set, k places each, until no whole set fits any more. Refuses 1, 5, 9, 21.
@@ -577,18 +530,7 @@ pub fn every_nearby_cuts(
 ) -> Listing
     ensures { λ r. ⌜ EveryReply n (now (distances .entry)) k «min_segment_len» «max_nearby» (now (sets .entry)) r (now (sets .exit)) ⌝ }
 {
-    let refused = refusal_rules::nearby_refusal(
-        n,
-        distances,
-        k,
-        min_segment_len,
-        max_nearby,
-        sets.len(),
-    );
-    if refused != 0 {
-        return Listing::Refused(refused);
-    }
-    every_nearby::every_nearby_cuts(n, distances, k, min_segment_len, max_nearby, sets)
+    listing_calls::every_nearby_cuts(n, distances, k, min_segment_len, max_nearby, sets)
 }
 
 // The same; the result receives the number of sets written, then 0 ended or 1 more. Refuses 1, 5, 9, 21.
@@ -604,42 +546,22 @@ pub extern "C" fn mittenschist_every_nearby_cuts(
 ) -> u32
     ensures { λ r. ⌜ EveryWritten n (now (distances .entry)) k «min_segment_len» «max_nearby» (now (sets .entry)) (now (result .entry)) r (now (sets .exit)) (now (result .exit)) ⌝ }
 {
-    let refused = refusal_rules::nearby_refusal_with_room(
-        n,
-        distances,
-        k,
-        min_segment_len,
-        max_nearby,
-        sets.len(),
-        result.len(),
-    );
-    if refused != 0 {
-        return refused;
-    }
-    let answer = every_nearby::every_nearby_cuts(
+    listing_calls::write_every_nearby_cuts(
         n,
         distances,
         k,
         min_segment_len,
         max_nearby,
         sets,
-    );
-    entry_results::put_listing(answer, result)
+        result,
+    )
 }
 
 // The first cuts and pattern in scan order that turn one route into another, or none. Refuses 1, 5, 25.
 pub fn find_move(k: usize, old: &[u32], wanted: &[u32]) -> SoughtMove
     ensures { λ r. ⌜ FindMoveReply k (now (old .entry)) (now (wanted .entry)) r ⌝ }
 {
-    let refused = refusal_rules::find_move_refusal(k, old.len(), wanted.len());
-    if refused != 0 {
-        return entry_results::no_search(refused);
-    }
-    let found = find_move::find_move(k, old, wanted);
-    SoughtMove {
-        refusal: 0,
-        answer: found,
-    }
+    cut_calls::find_move(k, old, wanted)
 }
 
 // The same; the result receives 1, the index and the k cuts, or 0 in its first place. Refuses 1, 5, 25, 21.
@@ -652,14 +574,7 @@ pub extern "C" fn mittenschist_find_move(
 ) -> u32
     ensures { λ r. ⌜ FindMoveWritten k (now (old .entry)) (now (wanted .entry)) (now (result .entry)) r (now (result .exit)) ⌝ }
 {
-    let lent = result.len();
-    let refused = refusal_rules::find_move_refusal_with_room(k, old.len(), wanted.len(), lent);
-    if refused != 0 {
-        return refused;
-    }
-    let answer = find_move::find_move(k, old, wanted);
-    moves::put_move(k, answer, result);
-    0
+    cut_calls::write_find_move(k, old, wanted, result)
 }
 
 // ---- lists of patterns
@@ -707,6 +622,42 @@ pub extern "C" fn mittenschist_polish_with_patterns(
         service,
         depot,
         end,
+        route,
+        result,
+    )
+}
+
+// The same with pairs. Refuses 1, 26, 27, 28, 2, 3, 23, 4, 24, 29, 5, 21.
+#[no_mangle]
+pub extern "C" fn mittenschist_polish_with_patterns_and_pairs(
+    k: usize,
+    orders: &[u8],
+    masks: &[u8],
+    allowance: u64,
+    locations: usize,
+    legs: &[u32],
+    latest: &[u32],
+    service: &[u32],
+    depot: u32,
+    end: u32,
+    pairs: &[u32],
+    route: &mut [u32],
+    result: &mut [u64],
+) -> u32
+    ensures { λ r. ⌜ PolishWithPatternsAndPairsReply (question-with-pairs k allowance locations (now (legs .entry)) (now (latest .entry)) (now (service .entry)) depot end (now (pairs .entry)) (now (route .entry))) (now (orders .entry)) (now (masks .entry)) (now (result .entry)) r (now (route .exit)) (now (result .exit)) ⌝ }
+{
+    pattern_list_polishing::polish_with_patterns_and_pairs(
+        k,
+        orders,
+        masks,
+        allowance,
+        locations,
+        legs,
+        latest,
+        service,
+        depot,
+        end,
+        pairs,
         route,
         result,
     )

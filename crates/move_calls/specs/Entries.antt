@@ -43,3 +43,7 @@ doable-rules k pattern n = cut-count k ∷ stop-count n ∷ pattern-index k patt
 
 pub record DoableReply (k pattern round n : ℕ) (rounds positions : List ℕ) (answer : Doable) : Type 0 where
   pub reply-is : doable-answer answer ≡ reply (refusal (doable-rules k pattern n)) (cond (doable k round n rounds positions) 1 0 ∷ [])
+
+-- 1 yes or 0 no.
+abbrev pub doable-values : ℕ → ℕ → ℕ → List ℕ → List ℕ → List ℕ
+doable-values k round n rounds positions = cond (doable k round n rounds positions) 1 0 ∷ []

@@ -5,7 +5,7 @@ use mathlib.Core.List.{List}
 use Prim.Native.Nat.{ℕ, _<_}
 use native.Mathlib.Omega.{arith}
 use Rattle.theory.specs.Moves.{total}
-use Rattle.theory.specs.Route.{tour-length, late-position, feasible}
+use Rattle.theory.specs.Route.{tour-length, late-position, timetable-of, timely}
 use Rattle.theory.specs.Tables.{problem, timetable-by, legs-only, Timed, Trip}
 use Rattle.theory.specs.declared.Counts.{Counts}
 use Rattle.theory.specs.declared.Polished.{Polished}
@@ -27,7 +27,7 @@ module _ (T : Trip) (A : ℕ) (route : List ℕ) {counted : PairLoop} {route′ 
   late-asked timed some =
       record {
         clocked = clocked (timed-after timed);
-        known = λ k. ap (λ q. feasible (problem T) (q .route)) e ∙ loop-onward (problem T) A route .changed (omega (arith, some k, ap (λ q. q .accepted) e));
+        known = λ k. ap (λ q. timely (timetable-of (problem T)) (T .depot) (q .route)) e ∙ loop-onward (problem T) A route .changed (omega (arith, some k, ap (λ q. q .accepted) e));
       }
 
   module _ {before after late : ℕ} (b : before ≡ tour-length (legs-only (T .tables .locations) (T .tables .legs) (T .depot) (T .end)) route)

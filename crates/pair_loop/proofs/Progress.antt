@@ -11,9 +11,9 @@ use lib.Dec.{ltb, eqb}
 use lib.ListN.{length}
 use Rattle.theory.specs.Tables.{Trip}
 use Rattle.theory.specs.Moves.{total, upfrom}
-use Rattle.theory.specs.Route.{Problem, count, feasible}
+use Rattle.theory.specs.Route.{Problem, count, timetable-of, timely}
 use Rattle.theory.specs.Scan.{Reply}
-use Rattle.theory.proofs.Route.{feasible-iff}
+use Rattle.theory.proofs.Route.{timely-iff}
 use Rattle.pair_loop.specs.declared.PairLoop.{PairLoop}
 use Rattle.pair_loop.specs.Parts.{Going}
 use Rattle.pair_loop.specs.PairLoop.{PairPromise, reply-so-far, so-far, spent, examine, pair, sweep, pass, goes-on, passes, pair-loop}
@@ -32,7 +32,7 @@ pub record Onward (P : Problem) (allowance : ℕ) (s t : Reply (List ℕ)) : Typ
   pub same : (g : ℕ → ℕ) → total g (t .route) ≡ total g (s .route)
   pub more : s .accepted ≤ t .accepted
   pub unchanged : t .accepted ≡ s .accepted → t .route ≡ s .route
-  pub changed : s .accepted < t .accepted → feasible P (t .route) ≡ true
+  pub changed : s .accepted < t .accepted → timely (timetable-of P) (P .depot) (t .route) ≡ true
   pub each : s .examined + t .accepted ≤ t .examined + s .accepted
   pub bounded : Bounded allowance s → Bounded allowance t
 
@@ -50,7 +50,7 @@ onward-on {P} {s = s} {t = t} {u = u} a b =
       bounded = λ h. b .bounded (a .bounded h);
     }
   where
-    last : s .accepted < u .accepted → Dec (t .accepted < u .accepted) → feasible P (u .route) ≡ true
+    last : s .accepted < u .accepted → Dec (t .accepted < u .accepted) → timely (timetable-of P) (P .depot) (u .route) ≡ true
     last h (yes l) = b .changed l
     last h (no n) = rw (b .unchanged (omega (arith, b .more))) (a .changed (omega (arith, h, b .more)))
 
@@ -178,7 +178,7 @@ module _ (P : Problem) (allowance : ℕ) where
       record {
         same-stops = λ x. o .same (λ y. cond (eqb x y) 1 0);
         unchanged = o .unchanged;
-        changed = λ h. feasible-iff P (pair-loop P allowance r .route) .0 (o .changed h);
+        changed = λ h. timely-iff (timetable-of P) (P .depot) (pair-loop P allowance r .route) .0 (o .changed h);
         within = b .within;
         spent = b .spent;
       }

@@ -15,7 +15,7 @@ pub record Ask : Type 0 where
   pub route : List ℕ
 
 abbrev pub problem-of : Ask → Problem
-problem-of q = record { leg = λ a b. getD (getD (q .legs) a []) b 0; latest = λ a. getD (q .latest) a 4294967295; service = λ a. 0; depot = 0; end = 0 }
+problem-of q = record { leg = λ a b. getD (getD (q .legs) a []) b 0; latest = λ a. getD (q .latest) a 4294967295; service = λ a. 0; depot = 0; end = 0; pairs = [] }
 
 -- 0 finished or 1 spent, examined, accepted, length before, length after, the lowest late position or the number of stops; and the route.
 unfoldable pub answer : Ask → List ℕ

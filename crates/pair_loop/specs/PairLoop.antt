@@ -7,7 +7,7 @@ use Prim.Native.Nat.{ℕ, zero, suc, _-_, _≤_, _<_}
 use lib.Dec.{ltb, eqb}
 use lib.ListN.{length, getD}
 use Rattle.theory.specs.Moves.{upfrom}
-use Rattle.theory.specs.Route.{Problem, count, tour-length, timetable-of, late-position, Feasible}
+use Rattle.theory.specs.Route.{Problem, count, tour-length, timetable-of, late-position, Timely}
 use Rattle.theory.specs.Scan.{Reply}
 use Rattle.theory.specs.Answers.{reply-of, counts-of}
 use Rattle.theory.specs.declared.Polished.{Polished}
@@ -76,7 +76,7 @@ reply-so-far answer route = record { finished = answer .finished; examined = ans
 pub record PairPromise (P : Problem) (allowance : ℕ) (r : List ℕ) (q : Reply (List ℕ)) : Type 0 where
   pub same-stops : (x : ℕ) → count x (q .route) ≡ count x r
   pub unchanged : q .accepted ≡ 0 → q .route ≡ r
-  pub changed : 0 < q .accepted → Feasible P (q .route)
+  pub changed : 0 < q .accepted → Timely (timetable-of P) (P .depot) (q .route)
   pub within : q .examined ≤ allowance
   pub spent : q .finished ≡ false → q .examined ≡ allowance
 

@@ -2,6 +2,7 @@
 use theory::Counts;
 use theory::Polished;
 ghost use mathlib.Core.Path.{_≡_};
+ghost use mathlib.Core.List.{[]};
 ghost use Prim.Native.Nat.{_<_};
 ghost use lib.ListN.{length};
 ghost use Rattle.theory.specs.Tables.{problem, Timed, trip};
@@ -37,8 +38,8 @@ fn try_sweep(
     so_far: PairLoop,
     route: &mut [u32],
 ) -> PairLoop
-    requires { ⌜ Sweep allowance (trip locations (now legs) (now latest) (now service) depot depot) i «so_far» (now route) ⌝ }
-    ensures { λ r. ⌜ reply-so-far r (now (route .exit)) ≡ sweep (problem (trip locations (now (legs .entry)) (now (latest .entry)) (now (service .entry)) depot depot)) allowance (length (now (route .entry))) (reply-so-far «so_far» (now (route .entry))) i ⌝ }
+    requires { ⌜ Sweep allowance (trip locations (now legs) (now latest) (now service) depot depot []) i «so_far» (now route) ⌝ }
+    ensures { λ r. ⌜ reply-so-far r (now (route .exit)) ≡ sweep (problem (trip locations (now (legs .entry)) (now (latest .entry)) (now (service .entry)) depot depot [])) allowance (length (now (route .entry))) (reply-so-far «so_far» (now (route .entry))) i ⌝ }
 {
     let mut examined = so_far.examined;
     let mut accepted = so_far.accepted;
@@ -77,8 +78,8 @@ fn try_pass(
     so_far: PairLoop,
     route: &mut [u32],
 ) -> PairLoop
-    requires { ⌜ Going allowance (trip locations (now legs) (now latest) (now service) depot depot) «so_far» (now route) ⌝ }
-    ensures { λ r. ⌜ reply-so-far r (now (route .exit)) ≡ pass (problem (trip locations (now (legs .entry)) (now (latest .entry)) (now (service .entry)) depot depot)) allowance (length (now (route .entry))) (reply-so-far «so_far» (now (route .entry))) ⌝ }
+    requires { ⌜ Going allowance (trip locations (now legs) (now latest) (now service) depot depot []) «so_far» (now route) ⌝ }
+    ensures { λ r. ⌜ reply-so-far r (now (route .exit)) ≡ pass (problem (trip locations (now (legs .entry)) (now (latest .entry)) (now (service .entry)) depot depot [])) allowance (length (now (route .entry))) (reply-so-far «so_far» (now (route .entry))) ⌝ }
 {
     let mut passed = so_far;
     let mut i = 0;
@@ -112,8 +113,8 @@ fn try_passes(
     depot: u32,
     route: &mut [u32],
 ) -> PairLoop
-    requires { ⌜ Timed (trip locations (now legs) (now latest) (now service) depot depot) (now route) ⌝ }
-    ensures { λ r. ⌜ reply-so-far r (now (route .exit)) ≡ pair-loop (problem (trip locations (now (legs .entry)) (now (latest .entry)) (now (service .entry)) depot depot)) allowance (now (route .entry)) ⌝ }
+    requires { ⌜ Timed (trip locations (now legs) (now latest) (now service) depot depot []) (now route) ⌝ }
+    ensures { λ r. ⌜ reply-so-far r (now (route .exit)) ≡ pair-loop (problem (trip locations (now (legs .entry)) (now (latest .entry)) (now (service .entry)) depot depot [])) allowance (now (route .entry)) ⌝ }
 {
     let mut so_far = PairLoop {
         finished: true,
@@ -151,8 +152,8 @@ pub fn pair_loop(
     depot: u32,
     route: &mut [u32],
 ) -> Polished
-    requires { ⌜ Timed (trip locations (now legs) (now latest) (now service) depot depot) (now route) ⌝ }
-    ensures { λ r. ⌜ PairsTried (problem (trip locations (now (legs .entry)) (now (latest .entry)) (now (service .entry)) depot depot)) allowance (now (route .entry)) r (now (route .exit)) ⌝ }
+    requires { ⌜ Timed (trip locations (now legs) (now latest) (now service) depot depot []) (now route) ⌝ }
+    ensures { λ r. ⌜ PairsTried (problem (trip locations (now (legs .entry)) (now (latest .entry)) (now (service .entry)) depot depot [])) allowance (now (route .entry)) r (now (route .exit)) ⌝ }
 {
     let before = costs::route_length(locations, legs, depot, depot, &route[..]);
     let tried = try_passes(allowance, locations, legs, latest, service, depot, route);

@@ -5,7 +5,7 @@ use mathlib.Core.List.{List}
 use Prim.Native.Nat.{ℕ, _≤_}
 use lib.ListN.{length, getD}
 use Rattle.theory.specs.Moves.{total}
-use Rattle.theory.specs.Route.{Problem, timetable-of, timely, feasible}
+use Rattle.theory.specs.Route.{Problem, timetable-of, timely}
 use Rattle.theory.specs.Tables.{Timed, Trip}
 use Rattle.theory.proofs.Stops.{as-many, stops-rearranged}
 use Rattle.pair_reversal.specs.Reversal.{stop-after, turned, shortens, accepts, Tried}
@@ -29,7 +29,7 @@ module _ (P : Problem) (a b i j : ℕ) (r : List ℕ) where
   of x y s f = rw (s, f)
 
   -- What is accepted keeps every deadline.
-  pub accepted-kept : accepts P a b i r j ≡ true → feasible P (turned i j r) ≡ true
+  pub accepted-kept : accepts P a b i r j ≡ true → timely (timetable-of P) (P .depot) (turned i j r) ≡ true
   unfolding accepts
   accepted-kept e = and-eq-true-iff (shortens (P .leg) a b (getD r j 0) (stop-after (P .depot) r j)) (timely (timetable-of P) (P .depot) (turned i j r)) .0 e .1
 

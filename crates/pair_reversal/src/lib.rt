@@ -1,7 +1,7 @@
 // A reversal of a part of a route, judged: what the pair loop asks of a pair. No entry: crate pair_loop calls it.
 use theory::Deadline;
 ghost use mathlib.Core.Path.{_≡_};
-ghost use mathlib.Core.List.{reverse};
+ghost use mathlib.Core.List.{[], reverse};
 ghost use Prim.Native.Nat.{_<_};
 ghost use lib.ListN.{length};
 ghost use Rattle.theory.specs.Tables.{problem, trip};
@@ -59,8 +59,8 @@ pub fn try_pair(
     j: usize,
     route: &mut [u32],
 ) -> bool
-    requires { ⌜ Pair (trip locations (now legs) (now latest) (now service) depot depot) a b i j (now route) ⌝ }
-    ensures { λ r. ⌜ Tried (problem (trip locations (now (legs .entry)) (now (latest .entry)) (now (service .entry)) depot depot)) a b i j (now (route .entry)) r (now (route .exit)) ⌝ }
+    requires { ⌜ Pair (trip locations (now legs) (now latest) (now service) depot depot []) a b i j (now route) ⌝ }
+    ensures { λ r. ⌜ Tried (problem (trip locations (now (legs .entry)) (now (latest .entry)) (now (service .entry)) depot depot [])) a b i j (now (route .entry)) r (now (route .exit)) ⌝ }
 {
     let c = route[j];
     let e = stop_after(depot, &route[..], j);

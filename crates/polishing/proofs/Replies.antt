@@ -25,12 +25,12 @@ use Rattle.scan_loop.specs.declared.Scanned.{Scanned}
 use Rattle.polishing.specs.Loop.{PolishableRows, ScannedWith}
 use Rattle.scan_joints.specs.States.{StateRows}
 
-module _ (k : ℕ) (T : Trip) (orders masks route : List ℕ) (A : ℕ) (ok : PolishableRows k T orders masks route) where
+module _ (k : ℕ) (T : Trip) (orders masks members route : List ℕ) (A : ℕ) (ok : PolishableRows k T orders masks members route) where
   for-cuts : ForCuts k (pattern-rows k orders masks)
   for-cuts = rows-for-cuts k orders masks (omega (arith, ok .least)) (ok .patterns)
 
-  pub scannable : (rows : List ℕ) → k ≤ length route + 1 → StateRows k orders masks (length masks) rows → Scannable k T orders masks rows route
-  scannable rows h s = record { least = ok .least; most = ok .most; enough = h; timed = ok .timed; patterns = ok .patterns; not-empty = ok .not-empty; state-rows = s }
+  pub scannable : (rows : List ℕ) → k ≤ length route + 1 → StateRows k orders masks (length masks) rows → Scannable k T orders masks rows members route
+  scannable rows h s = record { least = ok .least; most = ok .most; enough = h; timed = ok .timed; patterns = ok .patterns; not-empty = ok .not-empty; state-rows = s; lent = ok .lent }
 
   abbrev P : Problem
   P = problem T

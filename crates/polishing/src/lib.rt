@@ -1,4 +1,6 @@
-// Polishing a route by the scan of document 01, with every pattern for k or with lent rows of patterns. No entry: crates mittenschist, run and text call it.
+// Polishing a route by the scan of document 01, with every pattern for k or with lent rows of patterns; with pairs, whose words are lent beside them, or without. No
+// entry: crates mittenschist, run and text call it.
+use precedence::MEMBERS;
 use scan_joints::ROW_BYTES;
 use scan_loop::Scanned;
 use theory::Counts;
@@ -6,7 +8,7 @@ use theory::Polished;
 ghost use Rattle.theory.specs.Moves.{patterns};
 ghost use Rattle.theory.specs.Tables.{problem, pattern-rows, trip};
 ghost use Rattle.theory.specs.Answers.{Polishes};
-ghost use Rattle.polishing.specs.Loop.{PolishableRows, Polishable, ScannedWith};
+ghost use Rattle.polishing.specs.Loop.{PolishableRows, Polishable, PolishableWithPairs, ScannedWith};
 
 // The scan with lent rows of patterns for k cuts; where the route has no cut set it is over at once.
 fn scanned_with(
@@ -18,12 +20,14 @@ fn scanned_with(
     service: &[u32],
     depot: u32,
     end: u32,
+    pairs: &[u32],
+    members: &[u64],
     orders: &[u8],
     masks: &[u8],
     route: &mut [u32],
 ) -> Scanned
-    requires { ⌜ PolishableRows k (trip locations (now legs) (now latest) (now service) depot end) (now orders) (now masks) (now route) ⌝ }
-    ensures { λ r. ⌜ ScannedWith (problem (trip locations (now (legs .entry)) (now (latest .entry)) (now (service .entry)) depot end)) (pattern-rows k (now (orders .entry)) (now (masks .entry))) k allowance (now (route .entry)) r (now (route .exit)) ⌝ }
+    requires { ⌜ PolishableRows k (trip locations (now legs) (now latest) (now service) depot end (now pairs)) (now orders) (now masks) (now members) (now route) ⌝ }
+    ensures { λ r. ⌜ ScannedWith (problem (trip locations (now (legs .entry)) (now (latest .entry)) (now (service .entry)) depot end (now (pairs .entry)))) (pattern-rows k (now (orders .entry)) (now (masks .entry))) k allowance (now (route .entry)) r (now (route .exit)) ⌝ }
 {
     if route.len() + 1 < k {
         return Scanned {
@@ -44,6 +48,8 @@ fn scanned_with(
         service,
         depot,
         end,
+        pairs,
+        members,
         orders,
         masks,
         &rows,
@@ -61,12 +67,14 @@ pub fn polish_rows(
     service: &[u32],
     depot: u32,
     end: u32,
+    pairs: &[u32],
+    members: &[u64],
     orders: &[u8],
     masks: &[u8],
     route: &mut [u32],
 ) -> Polished
-    requires { ⌜ PolishableRows k (trip locations (now legs) (now latest) (now service) depot end) (now orders) (now masks) (now route) ⌝ }
-    ensures { λ r. ⌜ Polishes (problem (trip locations (now (legs .entry)) (now (latest .entry)) (now (service .entry)) depot end)) (pattern-rows k (now (orders .entry)) (now (masks .entry))) k allowance (now (route .entry)) r (now (route .exit)) ⌝ }
+    requires { ⌜ PolishableRows k (trip locations (now legs) (now latest) (now service) depot end (now pairs)) (now orders) (now masks) (now members) (now route) ⌝ }
+    ensures { λ r. ⌜ Polishes (problem (trip locations (now (legs .entry)) (now (latest .entry)) (now (service .entry)) depot end (now (pairs .entry)))) (pattern-rows k (now (orders .entry)) (now (masks .entry))) k allowance (now (route .entry)) r (now (route .exit)) ⌝ }
 {
     let before = costs::route_length(locations, legs, depot, end, &route[..]);
     let scanned = scanned_with(
@@ -78,6 +86,8 @@ pub fn polish_rows(
         service,
         depot,
         end,
+        pairs,
+        members,
         orders,
         masks,
         route,
@@ -114,10 +124,12 @@ pub fn polish_route(
     service: &[u32],
     depot: u32,
     end: u32,
+    pairs: &[u32],
+    members: &[u64],
     route: &mut [u32],
 ) -> Polished
-    requires { ⌜ Polishable k (trip locations (now legs) (now latest) (now service) depot end) (now route) ⌝ }
-    ensures { λ r. ⌜ Polishes (problem (trip locations (now (legs .entry)) (now (latest .entry)) (now (service .entry)) depot end)) (patterns k) k allowance (now (route .entry)) r (now (route .exit)) ⌝ }
+    requires { ⌜ Polishable k (trip locations (now legs) (now latest) (now service) depot end (now pairs)) (now members) (now route) ⌝ }
+    ensures { λ r. ⌜ Polishes (problem (trip locations (now (legs .entry)) (now (latest .entry)) (now (service .entry)) depot end (now (pairs .entry)))) (patterns k) k allowance (now (route .entry)) r (now (route .exit)) ⌝ }
 {
     let part = pattern_table::part_of(k);
     let first_order = part.orders;
@@ -135,8 +147,43 @@ pub fn polish_route(
         service,
         depot,
         end,
+        pairs,
+        members,
         &orders[first_order..end_order],
         &masks[first_mask..end_mask],
+        route,
+    )
+}
+
+// The same with pairs: their words stand here alone, so that polishing without pairs fills none.
+pub fn polish_with_pairs(
+    k: usize,
+    allowance: u64,
+    locations: usize,
+    legs: &[u32],
+    latest: &[u32],
+    service: &[u32],
+    depot: u32,
+    end: u32,
+    pairs: &[u32],
+    route: &mut [u32],
+) -> Polished
+    requires { ⌜ PolishableWithPairs k (trip locations (now legs) (now latest) (now service) depot end (now pairs)) (now route) ⌝ }
+    ensures { λ r. ⌜ Polishes (problem (trip locations (now (legs .entry)) (now (latest .entry)) (now (service .entry)) depot end (now (pairs .entry)))) (patterns k) k allowance (now (route .entry)) r (now (route .exit)) ⌝ }
+{
+    let mut members = [0u64; MEMBERS];
+    precedence::fill_members(pairs, &mut members);
+    polish_route(
+        k,
+        allowance,
+        locations,
+        legs,
+        latest,
+        service,
+        depot,
+        end,
+        pairs,
+        &members[..],
         route,
     )
 }

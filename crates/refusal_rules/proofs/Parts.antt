@@ -8,13 +8,13 @@ use lib.Dec.{ltb, eqb}
 use lib.Ieee.{Float}
 use lib.ListN.{length}
 use borrow.Author.Tests.{ltb-false, eqb-true}
-use Rattle.theory.specs.Tables.{Tables, Fleet}
-use Rattle.theory.specs.Refusals.{Rule, number, either, refusal, cut-count, leg-table, leg-sizes, known-stops, known-end, stop-count, nearby-input, room, table-rules}
+use Rattle.theory.specs.Tables.{Tables, Trip, Fleet}
+use Rattle.theory.specs.Refusals.{Rule, number, either, refusal, cut-count, leg-table, leg-sizes, known-stops, known-end, pair-list, stop-count, nearby-input, room, table-rules, paired-rules}
 use Rattle.theory.proofs.Refusals.{Passes, passed, either-zero, either-assoc, four-then, applies-first, passed-over}
 use Rattle.theory.proofs.LastRule.{early, room-last}
 use Rattle.theory.proofs.Judged.{cut-count-fine, room-fine}
 use Rattle.refusals.proofs.Either.{tables-then}
-use Rattle.refusal_rules.specs.Rules.{route-length-to-end-rules, rounds-to-ends-rules, run-to-ends-rules, nearby-rules, short-pair, with-room}
+use Rattle.refusal_rules.specs.Rules.{route-length-to-end-rules, rounds-to-ends-rules, rounds-with-pairs-rules, run-to-ends-rules, run-with-pairs-rules, nearby-rules, short-pair, with-room}
 
 -- The rules of the route, and then the others.
 pub route-then : (locations : ℕ) (legs : List ℕ) (depot end : ℕ) (route : List ℕ) (rest : ℕ) →
@@ -22,6 +22,14 @@ pub route-then : (locations : ℕ) (legs : List ℕ) (depot end : ℕ) (route : 
     ≡ either (number (leg-table locations legs)) (either (number (leg-sizes legs)) (either (number (known-stops locations depot route)) (either (number (known-end locations end)) (either (number (stop-count (length route))) rest))))
 unfolding refusal
 route-then locations legs depot end route rest = simp (either-assoc, either-zero)
+
+-- The tables, the depot and the route with its end, its pairs and its number of stops.
+pub paired-parts : (T : Trip) (route : List ℕ) (a b c d e : ℕ) → a ≡ refusal (table-rules (T .tables)) → b ≡ number (known-stops (T .tables .locations) (T .depot) route) →
+    c ≡ number (known-end (T .tables .locations) (T .end)) → d ≡ number (pair-list (T .tables .locations) (T .pairs)) → e ≡ number (stop-count (length route)) →
+    either a (either b (either c (either d e))) ≡ refusal (paired-rules T route)
+unfolding refusal
+paired-parts T route a b c d e p q r s t =
+    ap₂ either p (ap₂ either q (ap₂ either r (ap₂ either s (t ∙ sym (either-zero _))))) ∙ tables-then (T .tables) _
 
 by-5 : (b : Bool) → _≡_ {A = ℕ} (cond b 5 0) 0 → b ≡ false
 by-5 true z = absurd (omega arith)
@@ -75,6 +83,11 @@ pub run-parts : (k : ℕ) (T : Tables) (F : Fleet) (lent a b c : ℕ) → a ≡ 
     c ≡ refusal (with-room (rounds-to-ends-rules (T .locations) F) (4 * length (F .lengths)) lent) → either a (either b c) ≡ refusal (run-to-ends-rules k T F lent)
 unfolding refusal
 run-parts k T F lent a b c p q r = ap₂ either p (ap₂ either q r ∙ tables-then T _)
+
+pub run-paired-parts : (k : ℕ) (T : Tables) (F : Fleet) (pairs : List ℕ) (lent a b c : ℕ) → a ≡ number (cut-count k) → b ≡ refusal (table-rules T) →
+    c ≡ refusal (with-room (rounds-with-pairs-rules (T .locations) F pairs) (4 * length (F .lengths)) lent) → either a (either b c) ≡ refusal (run-with-pairs-rules k T F pairs lent)
+unfolding refusal
+run-paired-parts k T F pairs lent a b c p q r = ap₂ either p (ap₂ either q r ∙ tables-then T _)
 
 -- k and n, and then the input and the room for the sets.
 module _ (n : ℕ) (distances : List Float) (k m neighbours lent a : ℕ) (sized : a ≡ either (number (cut-count k)) (number (stop-count n))) where

@@ -2,12 +2,12 @@
 // move_calls, the deadline check in crate refusals. A call without an end harbour is judged as one that ends at its depot. No entry: crates mittenschist and text
 // call it.
 ghost use mathlib.Core.Path.{_≡_};
-ghost use mathlib.Core.List.{_∷_};
+ghost use mathlib.Core.List.{[], _∷_};
 ghost use Prim.Native.Nat.{_+_, _*_};
 ghost use lib.ListN.{length};
 ghost use Rattle.theory.specs.Tables.{tables, trip, fleet};
-ghost use Rattle.theory.specs.Refusals.{refusal, number, cut-count, trip-rules};
-ghost use Rattle.refusal_rules.specs.Rules.{pattern-rules, next-cut-set-rules, reconnect-rules, route-length-to-end-rules, delta-to-end-rules, pair-loop-rules, rounds-to-ends-rules, run-to-ends-rules, nearby-rules, short-pair, find-move-rules, with-room};
+ghost use Rattle.theory.specs.Refusals.{refusal, number, cut-count, round-lists, end-list, trip-rules, paired-rules};
+ghost use Rattle.refusal_rules.specs.Rules.{pattern-rules, next-cut-set-rules, reconnect-rules, route-length-to-end-rules, delta-to-end-rules, pair-loop-rules, rounds-to-ends-rules, rounds-with-pairs-rules, run-to-ends-rules, run-with-pairs-rules, nearby-rules, short-pair, find-move-rules, with-room};
 
 pub fn pattern_refusal(k: usize, pattern: usize) -> u32
     ensures { λ r. ⌜ r ≡ refusal (pattern-rules k pattern) ⌝ }
@@ -96,7 +96,7 @@ pub fn question_refusal(
     end: u32,
     route: &[u32],
 ) -> u32
-    ensures { λ r. ⌜ r ≡ refusal (cut-count k ∷ trip-rules (trip locations (now (legs .entry)) (now (latest .entry)) (now (service .entry)) depot end) (now (route .entry))) ⌝ }
+    ensures { λ r. ⌜ r ≡ refusal (cut-count k ∷ trip-rules (trip locations (now (legs .entry)) (now (latest .entry)) (now (service .entry)) depot end []) (now (route .entry))) ⌝ }
 {
     let bad_k = refusals::check_cut_count(k);
     let bad_trip = refusals::check_trip(locations, legs, latest, service, depot, end, route);
@@ -114,11 +114,54 @@ pub fn polish_refusal(
     route: &[u32],
     lent: usize,
 ) -> u32
-    ensures { λ r. ⌜ r ≡ refusal (with-room (cut-count k ∷ trip-rules (trip locations (now (legs .entry)) (now (latest .entry)) (now (service .entry)) depot end) (now (route .entry))) 6 lent) ⌝ }
+    ensures { λ r. ⌜ r ≡ refusal (with-room (cut-count k ∷ trip-rules (trip locations (now (legs .entry)) (now (latest .entry)) (now (service .entry)) depot end []) (now (route .entry))) 6 lent) ⌝ }
 {
     let bad_question = question_refusal(k, locations, legs, latest, service, depot, end, route);
     let bad_room = refusals::check_room(6, lent);
     refusals::first(bad_question, bad_room)
+}
+
+// The tables, the depot and a route, its end harbour and its pairs.
+pub fn paired_refusal(
+    locations: usize,
+    legs: &[u32],
+    latest: &[u32],
+    service: &[u32],
+    depot: u32,
+    end: u32,
+    pairs: &[u32],
+    route: &[u32],
+) -> u32
+    ensures { λ r. ⌜ r ≡ refusal (paired-rules (trip locations (now (legs .entry)) (now (latest .entry)) (now (service .entry)) depot end (now (pairs .entry))) (now (route .entry))) ⌝ }
+{
+    let bad_tables = refusals::check_tables(locations, legs, latest, service);
+    let bad_stops = refusals::check_known_stops(locations, depot, route);
+    let bad_end = refusals::check_known_end(locations, end);
+    let bad_pairs = precedence::check_pair_list(locations, pairs);
+    let bad_n = refusals::check_stop_count(route.len());
+    let bad_lists = refusals::first(bad_pairs, bad_n);
+    let bad_trip = refusals::first(bad_stops, refusals::first(bad_end, bad_lists));
+    refusals::first(bad_tables, bad_trip)
+}
+
+pub fn polish_paired_refusal(
+    k: usize,
+    locations: usize,
+    legs: &[u32],
+    latest: &[u32],
+    service: &[u32],
+    depot: u32,
+    end: u32,
+    pairs: &[u32],
+    route: &[u32],
+    lent: usize,
+) -> u32
+    ensures { λ r. ⌜ r ≡ refusal (with-room (cut-count k ∷ paired-rules (trip locations (now (legs .entry)) (now (latest .entry)) (now (service .entry)) depot end (now (pairs .entry))) (now (route .entry))) 6 lent) ⌝ }
+{
+    let bad_k = refusals::check_cut_count(k);
+    let bad_paired = paired_refusal(locations, legs, latest, service, depot, end, pairs, route);
+    let no_room = refusals::check_room(6, lent);
+    refusals::first(refusals::first(bad_k, bad_paired), no_room)
 }
 
 pub fn pair_loop_refusal(
@@ -137,6 +180,23 @@ pub fn pair_loop_refusal(
     refusals::first(bad_round, bad_result)
 }
 
+// The sizes of a run's lists, and of its result.
+fn sizes_refusal(
+    stops: usize,
+    lengths: &[usize],
+    depots: &[u32],
+    ends: &[u32],
+    pins: &[u8],
+    lent: usize,
+) -> u32
+    ensures { λ r. ⌜ r ≡ refusal (with-room (round-lists (now (lengths .entry)) (now (depots .entry)) (now (pins .entry)) stops ∷ end-list (now (lengths .entry)) (now (ends .entry)) ∷ []) (4 * length (now (lengths .entry))) lent) ⌝ }
+{
+    let bad_rounds = refusals::check_round_lists(lengths, depots, pins, stops);
+    let bad_list = refusals::check_end_list(lengths, ends);
+    let bad_room = refusals::check_room(4 * lengths.len(), lent);
+    refusals::first(bad_rounds, refusals::first(bad_list, bad_room))
+}
+
 fn rounds_refusal(
     locations: usize,
     stops: &[u32],
@@ -150,11 +210,28 @@ fn rounds_refusal(
 {
     let bad_stops = refusals::check_known_rounds(locations, depots, stops);
     let bad_ends = refusals::check_known_ends(locations, ends);
-    let bad_rounds = refusals::check_round_lists(lengths, depots, pins, stops.len());
-    let bad_list = refusals::check_end_list(lengths, ends);
-    let bad_room = refusals::check_room(4 * lengths.len(), lent);
-    let bad_sizes = refusals::first(bad_rounds, refusals::first(bad_list, bad_room));
+    let bad_sizes = sizes_refusal(stops.len(), lengths, depots, ends, pins, lent);
     refusals::first(bad_stops, refusals::first(bad_ends, bad_sizes))
+}
+
+fn rounds_paired_refusal(
+    locations: usize,
+    stops: &[u32],
+    lengths: &[usize],
+    depots: &[u32],
+    ends: &[u32],
+    pins: &[u8],
+    pairs: &[u32],
+    lent: usize,
+) -> u32
+    ensures { λ r. ⌜ r ≡ refusal (with-room (rounds-with-pairs-rules locations (fleet (now (stops .entry)) (now (lengths .entry)) (now (depots .entry)) (now (ends .entry)) (now (pins .entry))) (now (pairs .entry))) (4 * length (now (lengths .entry))) lent) ⌝ }
+{
+    let bad_stops = refusals::check_known_rounds(locations, depots, stops);
+    let bad_ends = refusals::check_known_ends(locations, ends);
+    let bad_pairs = precedence::check_pair_list(locations, pairs);
+    let bad_sizes = sizes_refusal(stops.len(), lengths, depots, ends, pins, lent);
+    let bad_lists = refusals::first(bad_pairs, bad_sizes);
+    refusals::first(bad_stops, refusals::first(bad_ends, bad_lists))
 }
 
 pub fn run_refusal(
@@ -175,6 +252,37 @@ pub fn run_refusal(
     let bad_k = refusals::check_cut_count(k);
     let bad_tables = refusals::check_tables(locations, legs, latest, service);
     let bad_rounds = rounds_refusal(locations, stops, lengths, depots, ends, pins, lent);
+    refusals::first(bad_k, refusals::first(bad_tables, bad_rounds))
+}
+
+pub fn run_paired_refusal(
+    k: usize,
+    locations: usize,
+    legs: &[u32],
+    latest: &[u32],
+    service: &[u32],
+    stops: &[u32],
+    lengths: &[usize],
+    depots: &[u32],
+    ends: &[u32],
+    pins: &[u8],
+    pairs: &[u32],
+    lent: usize,
+) -> u32
+    ensures { λ r. ⌜ r ≡ refusal (run-with-pairs-rules k (tables locations (now (legs .entry)) (now (latest .entry)) (now (service .entry))) (fleet (now (stops .entry)) (now (lengths .entry)) (now (depots .entry)) (now (ends .entry)) (now (pins .entry))) (now (pairs .entry)) lent) ⌝ }
+{
+    let bad_k = refusals::check_cut_count(k);
+    let bad_tables = refusals::check_tables(locations, legs, latest, service);
+    let bad_rounds = rounds_paired_refusal(
+        locations,
+        stops,
+        lengths,
+        depots,
+        ends,
+        pins,
+        pairs,
+        lent,
+    );
     refusals::first(bad_k, refusals::first(bad_tables, bad_rounds))
 }
 

@@ -1,5 +1,6 @@
 // One small check for each refusal number: the number where its rule applies to the raw input, else 0. No entry: the crates above call them.
 ghost use mathlib.Core.Path.{_≡_};
+ghost use mathlib.Core.List.{[]};
 ghost use Prim.Native.Nat.{_≤_};
 ghost use Rattle.theory.specs.Refusals.{either, number, cut-count, leg-table, deadline-list, leg-sizes, service-list, known-stops, known-end, stop-count, pattern-index, cut-positions, room, refusal, table-rules, problem-rules, trip-rules, cut-lists, own-round, journal-length, known-rounds, known-ends, round-lists, end-list, nearby-input};
 ghost use Rattle.theory.specs.Tables.{tables, trip};
@@ -202,7 +203,7 @@ pub fn check_trip(
     end: u32,
     route: &[u32],
 ) -> u32
-    ensures { λ r. ⌜ r ≡ refusal (trip-rules (trip locations (now (legs .entry)) (now (latest .entry)) (now (service .entry)) depot end) (now (route .entry))) ⌝ }
+    ensures { λ r. ⌜ r ≡ refusal (trip-rules (trip locations (now (legs .entry)) (now (latest .entry)) (now (service .entry)) depot end []) (now (route .entry))) ⌝ }
 {
     let bad_tables = check_tables(locations, legs, latest, service);
     let bad_stops = check_known_stops(locations, depot, route);

@@ -162,6 +162,71 @@ fn show_run_to_ends(seed: u16, ends: &[u32]) {
     show_line(b"ran ", refused, &result, b" stops", &stops);
 }
 
+// Seven stops to an end harbour, with pairs.
+fn show_kept(seed: u16, end: u32, pairs: &[u32]) {
+    let mut legs = [0u32; 100];
+    let mut latest = [0u32; 10];
+    let mut service = [0u32; 10];
+    let mut route = [0u32; 7];
+    let mut result = [9u64; 7];
+    replay_drawing::fill(seed, 99, &mut legs);
+    replay_drawing::fill(seed, 799, &mut latest);
+    replay_drawing::fill(seed, service_of(seed), &mut service);
+    replay_drawing::fill(seed, 9, &mut route);
+    let refused = mittenschist::mittenschist_polish_route_with_pairs(
+        replay_drawing::cuts_of(seed),
+        replay_drawing::allowance_of(seed),
+        10,
+        &legs,
+        &latest,
+        &service,
+        0,
+        end,
+        pairs,
+        &mut route,
+        &mut result,
+    );
+    show_line(b"kept ", refused, &result, b" route", &route);
+}
+
+// Two rounds to their ends, with pairs for both.
+fn show_run_kept(seed: u16, ends: &[u32], pairs: &[u32]) {
+    let mut legs = [0u32; 100];
+    let mut latest = [0u32; 10];
+    let mut service = [0u32; 10];
+    let mut stops = [0u32; 11];
+    let mut result = [9u64; 9];
+    replay_drawing::fill(seed, 99, &mut legs);
+    replay_drawing::fill(seed, 799, &mut latest);
+    replay_drawing::fill(seed, service_of(seed), &mut service);
+    replay_drawing::fill(seed, 9, &mut stops);
+    let refused = mittenschist::mittenschist_run_list_k_opt_with_pairs(
+        replay_drawing::cuts_of(seed),
+        replay_drawing::allowance_of(seed),
+        10,
+        &legs,
+        &latest,
+        &service,
+        &mut stops,
+        &[6, 5],
+        &[0, 1],
+        ends,
+        &[0, 0],
+        pairs,
+        &mut result,
+    );
+    show_line(b"run kept ", refused, &result, b" stops", &stops);
+}
+
+// Two pairs, drawn from elsewhere than the stops.
+fn show_keeping(seed: u16) {
+    let mut pairs = [0u32; 4];
+    replay_drawing::fill(65535 - seed, 9, &mut pairs);
+    let end = (seed % 10) as u32;
+    show_kept(seed, end, &pairs);
+    show_run_kept(seed, &[end, 9 - end], &pairs);
+}
+
 fn show_to_ends(seed: u16) {
     let end = (seed % 10) as u32;
     show_ended(seed, end);
@@ -222,6 +287,7 @@ fn show(seed: u16) {
     show_pairs(seed, &mut [9u64; 7]);
     show_run(seed, 7);
     show_to_ends(seed);
+    show_keeping(seed);
     show_nearby(seed);
 }
 
@@ -238,6 +304,10 @@ fn show_refused() {
     show_run(1, 8);
     show_ended(1, 10);
     show_run_to_ends(1, &[0]);
+    // Behind 24, before 5.
+    show_kept(1, 10, &[3, 3]);
+    show_kept(1, 9, &[3, 3]);
+    show_run_kept(1, &[0], &[3, 4, 5]);
     show_nearby(29);
 }
 

@@ -1,4 +1,5 @@
-// Replays lists of patterns over their two entries, a line each: texts that are loaded or refused, and document 01's text case polished with the rows.
+// Replays lists of patterns over their entries, a line each: texts that are loaded or refused, and document 01's text case polished with the rows, also with
+// pairs.
 
 fn write(line: &[u8]) {
     let _ = io::write_all(1, line);
@@ -31,6 +32,28 @@ fn show_polished(k: usize, orders: &[u8], masks: &[u8]) {
         &[0; 3],
         0,
         0,
+        &mut route,
+        &mut result,
+    );
+    show(b"polish ", refused, &result, &route);
+}
+
+// The text case with a row that swaps the stops, and pairs.
+fn show_keeping(masks: &[u8], pairs: &[u32]) {
+    let mut route = [1u32, 2];
+    let mut result = [9u64; 7];
+    let refused = mittenschist::mittenschist_polish_with_patterns_and_pairs(
+        3,
+        &[0, 2, 1, 3],
+        masks,
+        100,
+        3,
+        &[0, 5, 1, 1, 0, 5, 5, 1, 0],
+        &[4294967295; 3],
+        &[0; 3],
+        0,
+        0,
+        pairs,
         &mut route,
         &mut result,
     );
@@ -85,8 +108,18 @@ fn show_lent() {
     show_polished(3, &[0, 2, 1, 3, 0, 2, 1, 3], &[0, 0]);
 }
 
+// No pair, 1 before 2, 2 before 1, equal members, and a row that is refused before them.
+fn show_pairs() {
+    show_keeping(&[0], &[]);
+    show_keeping(&[0], &[1, 2]);
+    show_keeping(&[0], &[2, 1]);
+    show_keeping(&[0], &[1, 1]);
+    show_keeping(&[1], &[1, 1]);
+}
+
 fn main() {
     show_loaded();
     show_refused();
     show_lent();
+    show_pairs();
 }

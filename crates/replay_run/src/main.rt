@@ -108,6 +108,30 @@ fn show_ends(k: usize, ends: &[u32]) {
     show(b"run ", refused, &result, &stops);
 }
 
+// The pair case twice with pairs, one list for both.
+fn show_keeping(k: usize, pairs: &[u32]) {
+    let legs = LEGS;
+    let latest = [4294967295u32; 5];
+    let mut stops = [1u32, 2, 3, 4, 1, 2, 3, 4];
+    let mut result = [9u64; 9];
+    let refused = mittenschist::mittenschist_run_list_k_opt_with_pairs(
+        k,
+        1000,
+        5,
+        &legs,
+        &latest,
+        &[0u32; 5],
+        &mut stops,
+        &[4, 4],
+        &[0, 0],
+        &[0, 3],
+        &[0, 0],
+        pairs,
+        &mut result,
+    );
+    show(b"run ", refused, &result, &stops);
+}
+
 // Three rounds of one location: the first takes 70 candidates with k = 3, the second is short, the third pinned.
 fn show_rounds(allowance: u64) {
     let mut stops = [0u32; 10];
@@ -176,10 +200,20 @@ fn show_to_ends() {
     show_ends(2, &[5]);
 }
 
+// No pair; A before B; B and C before A, which the rounds break as handed in; equal members.
+fn show_run_keeping() {
+    show_keeping(2, &[]);
+    show_keeping(2, &[1, 2]);
+    show_keeping(3, &[1, 2]);
+    show_keeping(2, &[2, 1, 3, 1]);
+    show_keeping(2, &[3, 3]);
+}
+
 fn main() {
     show_way();
     show_bounds();
     show_cases();
     show_round_allowances();
     show_to_ends();
+    show_run_keeping();
 }

@@ -20,7 +20,7 @@ use Rattle.run.proofs.Numbers.{none, number-at, taken, taken-is}
 
 -- What stands for no round.
 abbrev unasked : Given
-unasked = record { trip = trip 0 [] [] [] 0 0; pin = 0; route = [] }
+unasked = record { trip = trip 0 [] [] [] 0 0 []; pin = 0; route = [] }
 
 module _ (k : ℕ) where
   as-many : (gs : List Given) (left : ℕ) → length (run k left gs) ≡ length gs
@@ -95,12 +95,12 @@ within [] i h = absurd (omega arith)
 within (l ∷ ls) zero h = omega arith
 within (l ∷ ls) (suc i) h = omega (arith, within ls i (omega arith))
 
-module _ (T : Tables) (F : Fleet) where
-  given-at : (i : ℕ) → i < length (F .lengths) → getD (rounds T F) i unasked ≡ given T F i
+module _ (T : Tables) (F : Fleet) (pairs : List ℕ) where
+  given-at : (i : ℕ) → i < length (F .lengths) → getD (rounds T F pairs) i unasked ≡ given T F pairs i
   unfolding rounds upfrom
   given-at i h = let e : 0 + i ≡ i = omega arith in rw e at (by 0 (length (F .lengths)) i h)
     where
-      by : (f n i : ℕ) → i < n → getD (map (given T F) (upfrom f n)) i unasked ≡ given T F (f + i)
+      by : (f n i : ℕ) → i < n → getD (map (given T F pairs) (upfrom f n)) i unasked ≡ given T F pairs (f + i)
       by f zero i h = absurd (omega arith)
       by f (suc n) zero h =
           let e : f ≡ f + 0 = omega arith in
@@ -109,13 +109,13 @@ module _ (T : Tables) (F : Fleet) where
           let e : suc f + i ≡ f + suc i = omega arith in
           rw (← e) (by (suc f) n i (omega arith))
 
-  how-many : length (rounds T F) ≡ length (F .lengths)
+  how-many : length (rounds T F pairs) ≡ length (F .lengths)
   unfolding rounds
-  how-many = length-map (upfrom 0 (length (F .lengths))) (given T F) ∙ length-upfrom 0 (length (F .lengths))
+  how-many = length-map (upfrom 0 (length (F .lengths))) (given T F pairs) ∙ length-upfrom 0 (length (F .lengths))
 
-  lengths-are : total (λ n. n) (F .lengths) ≡ length (F .stops) → map (λ (g : Given). length (g .route)) (rounds T F) ≡ F .lengths
+  lengths-are : total (λ n. n) (F .lengths) ≡ length (F .stops) → map (λ (g : Given). length (g .route)) (rounds T F pairs) ≡ F .lengths
   lengths-are e =
-      let gs = rounds T F in
+      let gs = rounds T F pairs in
       let l : length (map (λ (g : Given). length (g .route)) gs) ≡ length (F .lengths) = length-map gs (λ (g : Given). length (g .route)) ∙ how-many in
       ext-getD 0 _ (F .lengths) l
       (λ i h.
@@ -126,9 +126,9 @@ module _ (T : Tables) (F : Fleet) where
       size i h = simp (length-take, length-drop) (omega (arith, within (F .lengths) i h, e))
 
 -- Where stops and result are the definition's, the rest of the promise follows.
-module _ (k A : ℕ) (T : Tables) (F : Fleet) (result : List ℕ) (ok : Runnable k T F result) where
+module _ (k A : ℕ) (T : Tables) (F : Fleet) (pairs result : List ℕ) (ok : Runnable k T F result) where
   abbrev gs : List Given
-  gs = rounds T F
+  gs = rounds T F pairs
 
   abbrev os : List Outcome
   os = run k A gs
@@ -136,25 +136,25 @@ module _ (k A : ℕ) (T : Tables) (F : Fleet) (result : List ℕ) (ok : Runnable
   -- The outcome of round i.
   module _ (i : ℕ) (h : i < length (F .lengths)) where
     abbrev P : Problem
-    P = problem (trip-of T F i)
+    P = problem (trip-of T F pairs i)
 
     mine : (a : ℕ) × (getD os i none ≡ run-round P k a (getD (F .pins) i 0) (round-at (F .lengths) (F .stops) i))
-    mine = rw (given-at T F i h) at (turn-of k gs A i (omega (arith, how-many T F, h)))
+    mine = rw (given-at T F pairs i h) at (turn-of k gs A i (omega (arith, how-many T F pairs, h)))
 
     listed : i < length os
-    listed = omega (arith, as-many k gs A, how-many T F, h)
+    listed = omega (arith, as-many k gs A, how-many T F pairs, h)
 
     fine : Fine P k (mine .0) (round-at (F .lengths) (F .stops) i) (getD os i none)
     fine = rw (mine .1) (round-fine P k (mine .0) (getD (F .pins) i 0) (round-at (F .lengths) (F .stops) i) (ok .least))
 
     route-is : round-at (F .lengths) (routes os) i ≡ getD os i none .route
     route-is =
-        rw (same-lengths k (ok .least) gs A ∙ lengths-are T F (ok .end-to-end))
+        rw (same-lengths k (ok .least) gs A ∙ lengths-are T F pairs (ok .end-to-end))
         at (route-at os i listed)
 
-  pub ran : (stops′ result′ : List ℕ) → stops′ ≡ routes (run k A (rounds T F)) →
-      result′ ≡ numbers (run k A (rounds T F)) ++ drop (4 * length (F .lengths)) result →
-      Ran k A T F result stops′ result′
+  pub ran : (stops′ result′ : List ℕ) → stops′ ≡ routes (run k A (rounds T F pairs)) →
+      result′ ≡ numbers (run k A (rounds T F pairs)) ++ drop (4 * length (F .lengths)) result →
+      Ran k A T F pairs result stops′ result′
   unfolding count
   ran stops′ result′ s n =
       let rest = drop (4 * length (F .lengths)) result in
@@ -162,7 +162,7 @@ module _ (k A : ℕ) (T : Tables) (F : Fleet) (result : List ℕ) (ok : Runnable
       λ i h. ap (λ (l : List ℕ). getD l (4 * i) 0) n ∙ number-at os rest i (listed i h) in
       let route : (i : ℕ) → i < length (F .lengths) → round-at (F .lengths) stops′ i ≡ getD os i none .route =
       λ i h. ap (λ (l : List ℕ). round-at (F .lengths) l i) s ∙ route-is i h in
-      let many : length (F .lengths) ≡ length os = sym (as-many k gs A ∙ how-many T F) in
+      let many : length (F .lengths) ≡ length os = sym (as-many k gs A ∙ how-many T F pairs) in
       let examined : examined-in result′ (length (F .lengths)) ≡ taken os = rw (many, n) (taken-is os rest) in
       record {
         stops-are = s;
@@ -172,11 +172,11 @@ module _ (k A : ℕ) (T : Tables) (F : Fleet) (result : List ℕ) (ok : Runnable
         within = rw examined (taken-within k (ok .least) gs A);
         spent = λ i h e.
             examined
-            ∙ all-taken k (ok .least) gs A i (omega (arith, how-many T F, h))
+            ∙ all-taken k (ok .least) gs A i (omega (arith, how-many T F pairs, h))
             (sym (number i h) ∙ e);
         stopped = λ i j l h e.
             number j h
-            ∙ after-spent k (ok .least) gs A i j l (omega (arith, how-many T F, h))
+            ∙ after-spent k (ok .least) gs A i j l (omega (arith, how-many T F pairs, h))
             (sym (number i (omega (arith, l, h))) ∙ e);
         optimal = λ i h f. rw (route i h) (fine i h .optimal (rw (number i h) at f));
       }

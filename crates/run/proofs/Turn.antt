@@ -7,9 +7,11 @@ use native.Mathlib.Omega.{arith}
 use lib.ListN.{length, getD, take, drop, length-append, length-take, length-drop, take-append-drop, drop-of-length-le}
 use lib.Seq.{take-at, drop-at, drop-drop, take-all, getD-take, getD-drop}
 use Rattle.theory.specs.Moves.{total, upfrom}
+use Rattle.theory.specs.Pairs.{pairs-of}
 use Rattle.theory.specs.Tables.{Tables, Fleet, problem}
 use Rattle.theory.specs.Answers.{round-values}
 use Rattle.theory.specs.declared.RoundState.{RoundState}
+use Rattle.precedence.specs.Words.{PairsLent}
 use Rattle.polishing.specs.Loop.{Polishable}
 use Rattle.run_numbers.specs.States.{examined-of}
 use Rattle.run_numbers.proofs.Values.{four-values}
@@ -50,13 +52,13 @@ total-more ls i h = rw (add-one i) (by ls i h)
     by (l ∷ ls) zero h = omega arith
     by (l ∷ ls) (suc i) h = omega (arith, by ls i (omega arith))
 
-module _ (k A : ℕ) (T : Tables) (F : Fleet) (result₀ : List ℕ) where
+module _ (k A : ℕ) (T : Tables) (F : Fleet) (pairs result₀ : List ℕ) where
   -- The rounds from i on.
   abbrev pub rest-from : ℕ → List Given
-  rest-from i = map (given T F) (upfrom i (length (F .lengths) - i))
+  rest-from i = map (given T F pairs) (upfrom i (length (F .lengths) - i))
 
   abbrev pub whole : List Outcome
-  whole = run k A (rounds T F)
+  whole = run k A (rounds T F pairs)
 
   -- Before round i, whose stops begin at `at`: what is done, and then what is left done with the allowance left, is the whole.
   pub record Running (stops result : List ℕ) (left at i : ℕ) : Type 0 where
@@ -84,7 +86,7 @@ module _ (k A : ℕ) (T : Tables) (F : Fleet) (result₀ : List ℕ) where
         result-done = rw z;
       }
 
-  rest-cons : (i : ℕ) → i < length (F .lengths) → rest-from i ≡ given T F i ∷ rest-from (i + 1)
+  rest-cons : (i : ℕ) → i < length (F .lengths) → rest-from i ≡ given T F pairs i ∷ rest-from (i + 1)
   unfolding upfrom
   rest-cons i h =
       let e : length (F .lengths) - i ≡ suc (length (F .lengths) - (i + 1)) = omega arith in
@@ -104,8 +106,8 @@ module _ (k A : ℕ) (T : Tables) (F : Fleet) (result₀ : List ℕ) where
       size : length (round-at (F .lengths) (F .stops) i) ≡ getD (F .lengths) i 0
       size = simp (length-take, length-drop) (omega (arith, within (F .lengths) i more, ok .end-to-end))
 
-      pub polishable : Polishable k (trip-of T F i) (take (getD (F .lengths) i 0) (drop at stops))
-      polishable =
+      pub polishable : {members : List ℕ} → PairsLent (pairs-of pairs) members → Polishable k (trip-of T F pairs i) members (take (getD (F .lengths) i 0) (drop at stops))
+      polishable lent =
           record {
             least = ok .least;
             most = ok .most;
@@ -125,28 +127,29 @@ module _ (k A : ℕ) (T : Tables) (F : Fleet) (result₀ : List ℕ) where
               };
               times = ok .times;
             };
+            lent = lent;
           }
 
       -- The first of the rounds that are left, and the others.
-      routes-next : (state : RoundState) (y : List ℕ) → RoundRan (problem (trip-of T F i)) k left (getD (F .pins) i 0) (round-at (F .lengths) (F .stops) i) state y →
+      routes-next : (state : RoundState) (y : List ℕ) → RoundRan (problem (trip-of T F pairs i)) k left (getD (F .pins) i 0) (round-at (F .lengths) (F .stops) i) state y →
           y ++ routes (run k (left - examined-of state) (rest-from (i + 1))) ≡ routes (run k left (rest-from i))
       unfolding run routes flatMap
       routes-next state y r = rw (rest-cons i more, r .route-is, r .state-is)
 
-      numbers-next : (state : RoundState) (y : List ℕ) → RoundRan (problem (trip-of T F i)) k left (getD (F .pins) i 0) (round-at (F .lengths) (F .stops) i) state y →
+      numbers-next : (state : RoundState) (y : List ℕ) → RoundRan (problem (trip-of T F pairs i)) k left (getD (F .pins) i 0) (round-at (F .lengths) (F .stops) i) state y →
           round-values state ++ numbers (run k (left - examined-of state) (rest-from (i + 1))) ≡ numbers (run k left (rest-from i))
       unfolding run numbers flatMap
       numbers-next state y r = rw (rest-cons i more, r .state-is)
 
       pub turn : (state : RoundState) (y z : List ℕ) →
-          RoundRan (problem (trip-of T F i)) k left (getD (F .pins) i 0) (take (getD (F .lengths) i 0) (drop at stops)) state y →
+          RoundRan (problem (trip-of T F pairs i)) k left (getD (F .pins) i 0) (take (getD (F .lengths) i 0) (drop at stops)) state y →
           z ≡ round-values state ++ drop 4 (take 4 (drop (4 * i) result)) →
           Running (back stops at (getD (F .lengths) i 0) y) (back result (4 * i) 4 z) (left - examined-of state) (at + getD (F .lengths) i 0) (i + 1)
       turn state y z r p =
           let r′ = rw part at r in
           let m = getD (F .lengths) i 0 in
           let l : length y ≡ getD (F .lengths) i 0 =
-          ap length (r′ .route-is) ∙ round-length (problem (trip-of T F i)) k left (getD (F .pins) i 0) (round-at (F .lengths) (F .stops) i) (ok .least) ∙ size in
+          ap length (r′ .route-is) ∙ round-length (problem (trip-of T F pairs i)) k left (getD (F .pins) i 0) (round-at (F .lengths) (F .stops) i) (ok .least) ∙ size in
           let w : length (take 4 (drop (4 * i) result)) ≤ 4 = simp length-take (omega arith) in
           let e : z ≡ round-values state = p ∙ rw (drop-of-length-le (take 4 (drop (4 * i) result)) w) (append-nil (round-values state)) in
           let n : length z ≡ 4 = ap length e ∙ four-values state in
@@ -168,7 +171,7 @@ module _ (k A : ℕ) (T : Tables) (F : Fleet) (result₀ : List ℕ) where
           }
 
     pub ends : (stops result : List ℕ) (left at i : ℕ) → Running stops result left at i → length (F .lengths) ≤ i →
-        Ran k A T F result₀ stops result
+        Ran k A T F pairs result₀ stops result
     unfolding upfrom run routes numbers flatMap
     ends stops result left at i now h =
         let e : i ≡ length (F .lengths) = omega (arith, h, now .in-time) in
@@ -177,6 +180,6 @@ module _ (k A : ℕ) (T : Tables) (F : Fleet) (result₀ : List ℕ) where
         let full : length stops ≤ at = omega (arith, now .at-is ∙ ap (total (λ n. n)) t, now .stops-size, ok .end-to-end) in
         let s : take at stops ++ [] ≡ routes whole = rw z at (now .stops-done) in
         let n : take (4 * i) result ++ [] ≡ numbers whole = rw z at (now .result-done) in
-        ran k A T F result₀ ok stops result
+        ran k A T F pairs result₀ ok stops result
         (sym (take-all at stops full) ∙ sym (append-nil (take at stops)) ∙ s)
         (sym (take-append-drop (4 * i) result) ∙ rw (sym (append-nil (take (4 * i) result)) ∙ n, now .result-rest, e))

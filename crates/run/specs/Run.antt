@@ -4,10 +4,12 @@ use mathlib.Core.List.{List, [], _∷_, _++_, map, flatMap}
 use Prim.Native.Nat.{ℕ, _+_, _-_, _*_, _≤_, _<_}
 use lib.ListN.{length, getD, take, drop}
 use Rattle.theory.specs.Moves.{patterns, total, upfrom}
+use Rattle.theory.specs.Pairs.{pairs-of}
 use Rattle.theory.specs.Route.{count}
 use Rattle.theory.specs.Polish.{KOptimal}
 use Rattle.theory.specs.Tables.{Tables, Trip, Fleet, problem, LegTable, Times}
 use Rattle.theory.specs.Answers.{round-values}
+use Rattle.precedence.specs.Words.{PairsLent, PairsFillable}
 use Rattle.run_numbers.specs.States.{examined-of, Finished}
 use Rattle.run.specs.Round.{Outcome, run-round}
 
@@ -21,15 +23,16 @@ pub record Given : Type 0 where
   pub pin : ℕ
   pub route : List ℕ
 
-abbrev pub trip-of : Tables → Fleet → ℕ → Trip
-trip-of T F i = record { tables = T; depot = getD (F .depots) i 0; end = getD (F .ends) i 0 }
+-- "One list for all rounds."
+abbrev pub trip-of : Tables → Fleet → (pairs : List ℕ) → ℕ → Trip
+trip-of T F pairs i = record { tables = T; depot = getD (F .depots) i 0; end = getD (F .ends) i 0; pairs = pairs }
 
-abbrev pub given : Tables → Fleet → ℕ → Given
-given T F i = record { trip = trip-of T F i; pin = getD (F .pins) i 0; route = round-at (F .lengths) (F .stops) i }
+abbrev pub given : Tables → Fleet → (pairs : List ℕ) → ℕ → Given
+given T F pairs i = record { trip = trip-of T F pairs i; pin = getD (F .pins) i 0; route = round-at (F .lengths) (F .stops) i }
 
-unfoldable pub rounds : Tables → Fleet → List Given
+unfoldable pub rounds : Tables → Fleet → (pairs : List ℕ) → List Given
 unfolding upfrom
-rounds T F = map (given T F) (upfrom 0 (length (F .lengths)))
+rounds T F pairs = map (given T F pairs) (upfrom 0 (length (F .lengths)))
 
 -- Each round in turn, with the allowance that the rounds before it left. "And the run stops": a spent round leaves nothing (`Ran .stopped`).
 unfoldable pub run : (k left : ℕ) → List Given → List Outcome
@@ -68,16 +71,25 @@ pub record Runnable (k : ℕ) (T : Tables) (F : Fleet) (result : List ℕ) : Typ
   pub end-to-end : total (λ n. n) (F .lengths) ≡ length (F .stops)
   pub room : 4 * length (F .lengths) ≤ length result
 
+-- With the words of the pairs, none where there are none; and where they are still to be made, of a list that 29 does not refuse.
+pub record RunnableLent (k : ℕ) (T : Tables) (F : Fleet) (pairs members result : List ℕ) : Type 0 where
+  pub runnable : Runnable k T F result
+  pub lent : PairsLent (pairs-of pairs) members
+
+pub record RunnableWithPairs (k : ℕ) (T : Tables) (F : Fleet) (pairs result : List ℕ) : Type 0 where
+  pub runnable : Runnable k T F result
+  pub fillable : PairsFillable pairs
+
 -- What a run promises: stops and result by the definition, the places of the result beyond those written kept; each round holds the same stops, each as
 -- often, and in the order handed in unless its state is 4; all rounds together examine no more than the allowance, and a round is spent only when they
 -- have examined all of it, after which none is reached; and "every finished round in a run then satisfies the rival's condition, whichever k".
-pub record Ran (k allowance : ℕ) (T : Tables) (F : Fleet) (result stops′ result′ : List ℕ) : Type 0 where
-  pub stops-are : stops′ ≡ routes (run k allowance (rounds T F))
-  pub result-is : result′ ≡ numbers (run k allowance (rounds T F)) ++ drop (4 * length (F .lengths)) result
+pub record Ran (k allowance : ℕ) (T : Tables) (F : Fleet) (pairs result stops′ result′ : List ℕ) : Type 0 where
+  pub stops-are : stops′ ≡ routes (run k allowance (rounds T F pairs))
+  pub result-is : result′ ≡ numbers (run k allowance (rounds T F pairs)) ++ drop (4 * length (F .lengths)) result
   pub same-stops : (i : ℕ) → i < length (F .lengths) → (x : ℕ) → count x (round-at (F .lengths) stops′ i) ≡ count x (round-at (F .lengths) (F .stops) i)
   pub unchanged : (i : ℕ) → i < length (F .lengths) → ¬ (getD result′ (4 * i) 0 ≡ 4) → round-at (F .lengths) stops′ i ≡ round-at (F .lengths) (F .stops) i
   pub within : examined-in result′ (length (F .lengths)) ≤ allowance
   pub spent : (i : ℕ) → i < length (F .lengths) → getD result′ (4 * i) 0 ≡ 5 → examined-in result′ (length (F .lengths)) ≡ allowance
   pub stopped : (i j : ℕ) → i < j → j < length (F .lengths) → getD result′ (4 * i) 0 ≡ 5 → getD result′ (4 * j) 0 ≡ 0
   pub optimal : (i : ℕ) → i < length (F .lengths) → Finished (getD result′ (4 * i) 0) →
-      KOptimal (problem (trip-of T F i)) (patterns k) k (round-at (F .lengths) stops′ i)
+      KOptimal (problem (trip-of T F pairs i)) (patterns k) k (round-at (F .lengths) stops′ i)

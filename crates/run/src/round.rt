@@ -27,12 +27,26 @@ fn polish_round(
     service: &[u32],
     depot: u32,
     end: u32,
+    pairs: &[u32],
+    members: &[u64],
     route: &mut [u32],
 ) -> Replied
-    requires { ⌜ Polishable k (trip locations (now legs) (now latest) (now service) depot end) (now route) ⌝ }
-    ensures { λ r. ⌜ Replies (problem (trip locations (now (legs .entry)) (now (latest .entry)) (now (service .entry)) depot end)) k left (now (route .entry)) r (now (route .exit)) ⌝ }
+    requires { ⌜ Polishable k (trip locations (now legs) (now latest) (now service) depot end (now pairs)) (now members) (now route) ⌝ }
+    ensures { λ r. ⌜ Replies (problem (trip locations (now (legs .entry)) (now (latest .entry)) (now (service .entry)) depot end (now (pairs .entry)))) k left (now (route .entry)) r (now (route .exit)) ⌝ }
 {
-    match polishing::polish_route(k, left, locations, legs, latest, service, depot, end, route) {
+    match polishing::polish_route(
+        k,
+        left,
+        locations,
+        legs,
+        latest,
+        service,
+        depot,
+        end,
+        pairs,
+        members,
+        route,
+    ) {
         Polished::Finished(counts) => Replied {
             finished: true,
             examined: counts.examined,
@@ -66,15 +80,29 @@ fn polish_or_put_back(
     service: &[u32],
     depot: u32,
     end: u32,
+    pairs: &[u32],
+    members: &[u64],
     route: &mut [u32],
 ) -> RoundState
-    requires { ⌜ Polishable k (trip locations (now legs) (now latest) (now service) depot end) (now route) ⌝ }
-    ensures { λ r. ⌜ Ends (outcome (now (route .entry)) (polish (problem (trip locations (now (legs .entry)) (now (latest .entry)) (now (service .entry)) depot end)) k left (now (route .entry)))) r (now (route .exit)) ⌝ }
+    requires { ⌜ Polishable k (trip locations (now legs) (now latest) (now service) depot end (now pairs)) (now members) (now route) ⌝ }
+    ensures { λ r. ⌜ Ends (outcome (now (route .entry)) (polish (problem (trip locations (now (legs .entry)) (now (latest .entry)) (now (service .entry)) depot end (now (pairs .entry)))) k left (now (route .entry)))) r (now (route .exit)) ⌝ }
 {
     let n = route.len();
     let mut old = [0u32; STOPS];
     reconnection::copy_in(&route[..], &mut old, 0);
-    let reply = polish_round(k, left, locations, legs, latest, service, depot, end, route);
+    let reply = polish_round(
+        k,
+        left,
+        locations,
+        legs,
+        latest,
+        service,
+        depot,
+        end,
+        pairs,
+        members,
+        route,
+    );
     keep_or_put_back(reply.finished, &old[..n], route);
     run_numbers::state_after(reply.finished, reply.examined, reply.accepted)
 }
@@ -89,11 +117,13 @@ pub fn run_round(
     service: &[u32],
     depot: u32,
     end: u32,
+    pairs: &[u32],
+    members: &[u64],
     pin: u8,
     route: &mut [u32],
 ) -> RoundState
-    requires { ⌜ Polishable k (trip locations (now legs) (now latest) (now service) depot end) (now route) ⌝ }
-    ensures { λ r. ⌜ RoundRan (problem (trip locations (now (legs .entry)) (now (latest .entry)) (now (service .entry)) depot end)) k left pin (now (route .entry)) r (now (route .exit)) ⌝ }
+    requires { ⌜ Polishable k (trip locations (now legs) (now latest) (now service) depot end (now pairs)) (now members) (now route) ⌝ }
+    ensures { λ r. ⌜ RoundRan (problem (trip locations (now (legs .entry)) (now (latest .entry)) (now (service .entry)) depot end (now (pairs .entry)))) k left pin (now (route .entry)) r (now (route .exit)) ⌝ }
 {
     if left == 0 {
         return RoundState::NotReached;
@@ -104,5 +134,17 @@ pub fn run_round(
     if route.len() < 4 {
         return RoundState::Short;
     }
-    polish_or_put_back(k, left, locations, legs, latest, service, depot, end, route)
+    polish_or_put_back(
+        k,
+        left,
+        locations,
+        legs,
+        latest,
+        service,
+        depot,
+        end,
+        pairs,
+        members,
+        route,
+    )
 }

@@ -113,6 +113,28 @@ fn show_to(end: u32, route: &mut [u32]) {
     show_polished(refused, &result, &route[..]);
 }
 
+// T, or its legs with another route, with pairs.
+fn show_keeping(end: u32, pairs: &[u32], route: &mut [u32]) {
+    let legs = [0u32, 5, 1, 1, 0, 5, 5, 1, 0];
+    let deadlines = [4294967295u32; 3];
+    let services = [0u32; 3];
+    let mut result = [9u64; 7];
+    let refused = mittenschist::mittenschist_polish_route_with_pairs(
+        3,
+        100,
+        3,
+        &legs,
+        &deadlines,
+        &services,
+        0,
+        end,
+        pairs,
+        route,
+        &mut result,
+    );
+    show_polished(refused, &result, &route[..]);
+}
+
 // A route of one location, as long as the slice.
 fn show_long(route: &mut [u32]) {
     let legs = [1u32];
@@ -191,6 +213,42 @@ fn show_ends() {
     show_to(1, &mut [0u32; 0]);
 }
 
+// with no pair, 1 before 2, 2 before 1, both, and the depot as a member, which is no visit,
+fn show_pairs() {
+    show_keeping(0, &[], &mut [1, 2]);
+    show_keeping(0, &[1, 2], &mut [1, 2]);
+    show_keeping(0, &[2, 1], &mut [1, 2]);
+    show_keeping(0, &[1, 2, 2, 1], &mut [1, 2]);
+    show_keeping(0, &[0, 1, 1, 0], &mut [1, 2]);
+}
+
+// with a stop visited again: of 1, 2, 1, which breaks the pair, the shorter order 2, 1, 1 breaks it too,
+fn show_again() {
+    show_keeping(0, &[], &mut [1, 2, 1]);
+    show_keeping(0, &[1, 2], &mut [1, 2, 1]);
+    show_keeping(0, &[2, 1], &mut [1, 2, 1]);
+}
+
+// with 64 pairs, and with 65,
+fn show_many_pairs() {
+    let mut many = [1u32; 130];
+    let mut q = 0;
+    while q < 65 {
+        many[2 * q] = 2;
+        q += 1;
+    }
+    show_keeping(0, &many[..128], &mut [1, 2]);
+    show_keeping(0, &many, &mut [1, 2]);
+}
+
+// with a member alone, with one that is no location, with equal members, and behind 24,
+fn show_bad_pairs() {
+    show_keeping(0, &[2, 1, 2], &mut [1, 2]);
+    show_keeping(0, &[2, 3], &mut [1, 2]);
+    show_keeping(0, &[2, 1, 0, 0], &mut [1, 2]);
+    show_keeping(3, &[0, 0], &mut [1, 2]);
+}
+
 // and at other bounds.
 fn show_bounds() {
     show_t(4, 0, 5, 4294967295, 0);
@@ -211,5 +269,9 @@ fn main() {
     show_service();
     show_late_stops();
     show_ends();
+    show_pairs();
+    show_again();
+    show_many_pairs();
+    show_bad_pairs();
     show_bounds();
 }

@@ -1,4 +1,4 @@
--- The steps of the loop over the rows that are left in time. Assumes nothing.
+-- The steps of the loop over the rows that are left in time and keep their pairs. Assumes nothing.
 use mathlib.Core.Path.{_≡_, refl, sym, ap, _∙_}
 use mathlib.Core.Bool.{Bool, true, false, _&&_, and-false}
 use mathlib.Core.List.{List}
@@ -12,30 +12,38 @@ use lib.Seq.{slice}
 use Rattle.scan_joints.specs.States.{row}
 use Rattle.scan_joints.specs.JointTable.{chain}
 use Rattle.deadline_dues.specs.Dues.{in-time, RowTimed}
-use Rattle.scan_cut_set.specs.Gain.{due-gain, Chains, NextShorter, DueRows, FirstDue}
+use Rattle.precedence_marks.specs.Held.{in-order, RowOrdered}
+use Rattle.scan_cut_set.specs.Gain.{due-gain, Chains, NextShorter, RowJudged, DueRows, FirstDue}
 
-module _ {J rows S D : List ℕ} {m clock below shorter limit : ℕ} (given : DueRows J rows S D m clock below shorter limit) where
-  abbrev timed : ℕ → Bool
-  timed x = in-time J S D 9 clock (slice (4 * x) (4 * x + m) rows)
+-- The row's words are read as its dues are.
+pub row-ordered : {J rows S D H : List ℕ} {i m clock : ℕ} → RowJudged J rows S D H i m clock → RowOrdered rows H i m
+row-ordered w = let t = w .timed in record { places = t .places; word-places = w .word-places; within = t .within; few = t .few; known = t .known }
+
+module _ {J rows S D H : List ℕ} {m clock below shorter limit : ℕ} (given : DueRows J rows S D H m clock below shorter limit) where
+  abbrev kept : ℕ → Bool
+  kept x = in-order H 0 (slice (4 * x) (4 * x + m) rows) && in-time J S D 9 clock (slice (4 * x) (4 * x + m) rows)
 
   abbrev gain : ℕ → Bool
-  gain x = due-gain J rows S D m clock below x
+  gain x = due-gain J rows S D H m clock below x
 
   pub chains-from : (from : ℕ) → from ≤ limit → Chains J rows from limit
   chains-from from h = let c = given .chains in record { padded = c .padded; places = c .places; few = c .few; within = h; known = c .known }
 
-  pub row-timed : (i : ℕ) → i < limit → RowTimed J rows S D i m clock
-  row-timed i h =
+  pub row-judged : (i : ℕ) → i < limit → RowJudged J rows S D H i m clock
+  row-judged i h =
       record {
-        padded = given .chains .padded;
-        places = given .chains .places;
-        due-places = given .due-places;
-        stay-places = given .stay-places;
-        brief = given .brief;
-        within = omega (arith, given .chains .few);
-        few = given .most;
-        known = given .states i h;
-        early = given .early;
+        timed = record {
+          padded = given .chains .padded;
+          places = given .chains .places;
+          due-places = given .due-places;
+          stay-places = given .stay-places;
+          brief = given .brief;
+          within = omega (arith, given .chains .few);
+          few = given .most;
+          known = given .states i h;
+          early = given .early;
+        };
+        word-places = given .word-places;
       }
 
   -- No row before the next one that is shorter.
@@ -44,22 +52,22 @@ module _ {J rows S D : List ℕ} {m clock below shorter limit : ℕ} (given : Du
     where
       by : Dec (x < from) → gain x ≡ false
       by (yes l) = before x l
-      by (no n) = ap (λ b. timed x && b) (le-ltb (chain J 9 (row rows x)) below (next .passed x (omega arith) h)) ∙ and-false (timed x)
+      by (no n) = ap (λ b. kept x && b) (le-ltb (chain J 9 (row rows x)) below (next .passed x (omega arith) h)) ∙ and-false (kept x)
 
   pub due-first : (x : ℕ) → x < shorter → gain x ≡ false
   due-first = due-passed 0 (λ x h. absurd (omega arith)) (given .first)
 
-  -- A shorter one that is late is passed.
-  pub due-late : (i : ℕ) → false ≡ timed i → ((x : ℕ) → x < i → gain x ≡ false) → (x : ℕ) → x < i + 1 → gain x ≡ false
-  due-late i e before = below-more (λ x. gain x ≡ false) i before (ap (λ b. b && ltb (chain J 9 (row rows i)) below) (sym e))
+  -- A shorter one that is late, or breaks a pair, is passed.
+  pub due-broken : (i : ℕ) → kept i ≡ false → ((x : ℕ) → x < i → gain x ≡ false) → (x : ℕ) → x < i + 1 → gain x ≡ false
+  due-broken i e before = below-more (λ x. gain x ≡ false) i before (ap (λ b. b && ltb (chain J 9 (row rows i)) below) e)
 
-  pub due-found : (i : ℕ) → i < limit → chain J 9 (row rows i) < below → ((x : ℕ) → x < i → gain x ≡ false) → true ≡ timed i → FirstDue J rows S D m clock below limit i
+  pub due-found : (i : ℕ) → i < limit → chain J 9 (row rows i) < below → ((x : ℕ) → x < i → gain x ≡ false) → kept i ≡ true → FirstDue J rows S D H m clock below limit i
   due-found i h l before t =
       record {
         within = omega arith;
         passed = before;
-        gains = λ n. ap (λ b. b && ltb (chain J 9 (row rows i)) below) (sym t) ∙ lt-ltb (chain J 9 (row rows i)) below l;
+        gains = λ n. ap (λ b. b && ltb (chain J 9 (row rows i)) below) t ∙ lt-ltb (chain J 9 (row rows i)) below l;
       }
 
-  pub due-not-found : (i : ℕ) → limit ≤ i → i ≤ limit → ((x : ℕ) → x < i → gain x ≡ false) → FirstDue J rows S D m clock below limit i
+  pub due-not-found : (i : ℕ) → limit ≤ i → i ≤ limit → ((x : ℕ) → x < i → gain x ≡ false) → FirstDue J rows S D H m clock below limit i
   due-not-found i h l before = record { within = l; passed = before; gains = λ n. absurd (omega arith) }

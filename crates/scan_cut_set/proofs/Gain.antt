@@ -1,22 +1,24 @@
--- The scan's test of a candidate, from its chain in the joint table and from the dues of its states. Assumes nothing.
+-- The scan's test of a candidate, from its chain in the joint table and from the dues and the words of its states. Assumes nothing.
 use mathlib.Core.Path.{_≡_, refl, sym, ap, _∙_}
 use mathlib.Core.Bool.{Bool, true, false, _&&_, and-true, and-false}
+use mathlib.Core.Logic.{_⊎_, inl, inr, ⊎-elim}
 use mathlib.Core.List.{List}
 use Prim.Native.Nat.{ℕ, _+_, _-_, _*_, _^_, _≤_, _<_}
 use native.Mathlib.Decide.{decLt}
 use native.Mathlib.Omega.{arith}
 use lib.Dec.{ltb, leb}
-use lib.ListN.{length, getD}
-use lib.Seq.{slice}
+use lib.ListN.{length, getD, take, drop}
+use lib.Seq.{slice, getD-take}
 use borrow.Author.Tests.{lt-ltb, le-ltb, le-leb, lt-leb}
 use Rattle.theory.specs.Moves.{Pattern, total}
-use Rattle.theory.specs.Route.{Problem, Clock, path, tour-length, reconnected, feasible, on-time}
+use Rattle.theory.specs.Pairs.{pairs-of, pairs-kept, front-kept}
+use Rattle.theory.specs.Route.{Problem, Clock, path, tour-length, reconnected, timely, on-time}
 use Rattle.theory.specs.Costs.{last-of}
 use Rattle.theory.specs.Scan.{improves}
 use Rattle.theory.specs.Polish.{search-of, move-at}
-use Rattle.theory.specs.Tables.{problem, clock-by, Trip}
+use Rattle.theory.specs.Tables.{problem, timetable-by, clock-by, CutSet, Trip}
 use Rattle.theory.proofs.Judged.{followed}
-use Rattle.costs.proofs.Segments.{last-cut}
+use Rattle.costs.proofs.Segments.{last-cut, first-many}
 use Rattle.deadlines.specs.Lateness.{lateness}
 use Rattle.scan_joints.specs.States.{row, standing-row, Patterned}
 use Rattle.scan_joints.specs.JointTable.{chain, JointOf}
@@ -27,6 +29,9 @@ use Rattle.deadline_dues.specs.Dues.{in-time, StaysOf, DuesOf}
 use Rattle.deadline_dues.proofs.Head.{head-left}
 use Rattle.deadline_dues.proofs.InTime.{row-kept, row-known}
 use Rattle.deadline_dues.proofs.Judged.{candidate-judged}
+use Rattle.precedence.specs.Words.{BackSince}
+use Rattle.precedence_marks.specs.Held.{in-order, SegmentsMarked, MarksReach, MarksTellable}
+use Rattle.scan_cut_set.proofs.Kept.{candidate-kept, row-in-order, no-tail}
 use Rattle.scan_cut_set.specs.Gain.{below, due-gain, Searchable, Findable, Chains, NextShorter, Tabled, FirstGain, DueRows, FirstDue}
 
 -- Below the threshold: so much shorter that the tail is on time.
@@ -36,6 +41,10 @@ enough cost standing late h = by (decLt (standing - cost) late)
     by : Dec (standing - cost < late) → leb late (standing - cost) ≡ ltb cost (below standing late)
     by (yes l) = lt-leb late (standing - cost) l ∙ sym (le-ltb cost (below standing late) (omega arith))
     by (no n) = le-leb late (standing - cost) (omega arith) ∙ sym (lt-ltb cost (below standing late) (omega arith))
+
+and-assoc : (a b c : Bool) → ((a && b) && c) ≡ (a && (b && c))
+and-assoc true b c = refl
+and-assoc false b c = refl
 
 module _ {T : Trip} {r cs rows J : List ℕ} {ps : List Pattern} {limit : ℕ}
     (given : Tabled T r cs ps rows J limit) where
@@ -74,32 +83,51 @@ module _ {T : Trip} {r cs rows J : List ℕ} {ps : List Pattern} {limit : ℕ}
         known = λ c l. given .patterned .small c (omega (arith, given .allowed));
       }
 
-  module _ {late : ℕ} (late-is : late ≡ lateness C (T .depot) r (getD cs (length cs - 1) 0)) (early : on-time C (T .depot) 0 (head r cs) ≡ true) where
-    gain-is : (i : ℕ) → i < length ps → gain i ≡ (middle-on-time i && ltb (cost i) (below standing late))
+  abbrev middle-kept : ℕ → Bool
+  middle-kept i = pairs-kept (P .pairs) (middle r cs (pattern i .order) (pattern i .mask))
+
+  -- The head is on time and keeps its pairs, and the tail keeps its own.
+  module _ {late since : ℕ} (late-is : late ≡ lateness C (T .depot) r (getD cs (length cs - 1) 0)) (early : on-time C (T .depot) 0 (head r cs) ≡ true)
+      (front : front-kept (P .pairs) (take (getD cs 0 0) r) (drop (getD cs 0 0) r) ≡ true) (back : BackSince (P .pairs) r since) (fits : since ≤ getD cs (length cs - 1) 0) where
+    abbrev short : ℕ → Bool
+    short i = ltb (cost i) (below standing late)
+
+    gain-is : (i : ℕ) → i < length ps → gain i ≡ ((middle-kept i && middle-on-time i) && short i)
     gain-is i h = by (decLt (cost i) standing)
       where
-        after : ℕ
-        after = tour-length P (reconnected (record { cuts = cs; pattern = pattern i }) r)
+        moved : List ℕ
+        moved = reconnected (record { cuts = cs; pattern = pattern i }) r
 
-        moved : after + standing ≡ tour-length P r + cost i
-        moved =
+        shifted : tour-length P moved + standing ≡ tour-length P r + cost i
+        shifted =
             chain-delta P cs r J (pattern i .order) (pattern i .mask) (given .cut-set) (given .patterned .for-k i h) (given .joined)
             ∙ ap (λ s. tour-length P r + chain J 9 s) (sym (given .patterned .each i h))
 
-        kept : Bool
-        kept = feasible P (reconnected (record { cuts = cs; pattern = pattern i }) r)
+        in-pairs : Bool
+        in-pairs = pairs-kept (P .pairs) moved
 
-        by : Dec (cost i < standing) → gain i ≡ (middle-on-time i && ltb (cost i) (below standing late))
+        in-time-all : Bool
+        in-time-all = timely (timetable-by (T .tables)) (T .depot) moved
+
+        paired : in-pairs ≡ middle-kept i
+        paired =
+            candidate-kept (P .pairs) cs r (given .cut-set) back (pattern i) (given .patterned .for-k i h)
+            ∙ rw (front, le-leb since (getD cs (length cs - 1) 0) fits)
+
+        by : Dec (cost i < standing) → gain i ≡ ((middle-kept i && middle-on-time i) && short i)
         by (yes l) =
-            ap (λ b. kept && b) (lt-ltb after (tour-length P r) (omega (arith, moved)))
-            ∙ and-true kept
-            ∙ candidate-judged cs r (given .cut-set) P (pattern i) (standing - cost i) (given .patterned .for-k i h) early (omega (arith, moved))
+            ap (λ b. (in-pairs && in-time-all) && b) (lt-ltb (tour-length P moved) (tour-length P r) (omega (arith, shifted)))
+            ∙ and-true (in-pairs && in-time-all)
+            ∙ ap (λ b. b && in-time-all) paired
+            ∙ ap (λ b. middle-kept i && b) (
+            candidate-judged cs r (given .cut-set) P (pattern i) (standing - cost i) (given .patterned .for-k i h) early (omega (arith, shifted))
             ∙ ap (λ n. middle-on-time i && leb n (standing - cost i)) (sym late-is)
-            ∙ ap (λ b. middle-on-time i && b) (enough (cost i) standing late l)
+            ∙ ap (λ b. middle-on-time i && b) (enough (cost i) standing late l))
+            ∙ sym (and-assoc (middle-kept i) (middle-on-time i) (short i))
         by (no n) =
-            ap (λ b. kept && b) (le-ltb after (tour-length P r) (omega (arith, moved)))
-            ∙ and-false kept
-            ∙ sym (ap (λ b. middle-on-time i && b) (le-ltb (cost i) (below standing late) (omega arith)) ∙ and-false (middle-on-time i))
+            ap (λ b. (in-pairs && in-time-all) && b) (le-ltb (tour-length P moved) (tour-length P r) (omega (arith, shifted)))
+            ∙ and-false (in-pairs && in-time-all)
+            ∙ sym (ap (λ b. (middle-kept i && middle-on-time i) && b) (le-ltb (cost i) (below standing late) (omega arith)) ∙ and-false (middle-kept i && middle-on-time i))
 
     -- Where no pattern costs so little, none improves.
     pub none-below : (limit′ b : ℕ) → limit′ ≡ limit → b ≡ below standing late → NextShorter J rows b 0 limit limit′ → FirstGain P ps (length cs) r cs limit limit
@@ -108,37 +136,41 @@ module _ {T : Trip} {r cs rows J : List ℕ} {ps : List Pattern} {limit : ℕ}
           within = omega arith;
           passed = λ x h.
               gain-is x (omega (arith, given .allowed))
-              ∙ ap (λ t. middle-on-time x && t) (le-ltb (cost x) (below standing late) (omega (arith, is, next .passed x (omega arith) (omega arith))))
-              ∙ and-false (middle-on-time x);
+              ∙ ap (λ t. (middle-kept x && middle-on-time x) && t) (le-ltb (cost x) (below standing late) (omega (arith, is, next .passed x (omega arith) (omega arith))))
+              ∙ and-false (middle-kept x && middle-on-time x);
           gains = λ m. absurd (omega arith);
         }
 
-    -- With the dues of the states.
-    module _ (S D : List ℕ) (stays : StaysOf (T .tables .service) cs r S) (dues : DuesOf C cs r D) where
-      gain-due : (i : ℕ) → i < limit → gain i ≡ due-gain J rows S D (length cs - 1) now (below standing late) i
+    -- With the dues and the words of the states.
+    module _ (S D H : List ℕ) (stays : StaysOf (T .tables .service) cs r S) (dues : DuesOf C cs r D) (words : SegmentsMarked (P .pairs) cs r (length cs - 1) H) where
+      gain-due : (i : ℕ) → i < limit → gain i ≡ due-gain J rows S D H (length cs - 1) now (below standing late) i
       gain-due i h =
           let k : i < length ps = omega (arith, given .allowed) in
+          let f = given .patterned .for-k i k in
+          let w = given .patterned .each i k in
           gain-is i k
-          ∙ ap (λ b. b && ltb (cost i) (below standing late))
-          (sym (row-kept (T .tables) cs r J S D (given .cut-set) (given .joined) stays dues (pattern i .order) rows (pattern i .mask) i now (given .patterned .for-k i k) (given .patterned .each i k)))
+          ∙ ap (λ b. (b && middle-on-time i) && short i) (sym (row-in-order (P .pairs) cs r (given .cut-set) H words (pattern i .order) rows (pattern i .mask) i f w))
+          ∙ ap (λ b. (in-order H 0 (slice (4 * i) (4 * i + (length cs - 1)) rows) && b) && short i)
+          (sym (row-kept (T .tables) cs r J S D (given .cut-set) (given .joined) stays dues (pattern i .order) rows (pattern i .mask) i now f w))
 
-      pub first-due-gain : (b i : ℕ) → b ≡ below standing late → FirstDue J rows S D (length cs - 1) now b limit i → FirstGain P ps (length cs) r cs limit i
+      pub first-due-gain : (b i : ℕ) → b ≡ below standing late → FirstDue J rows S D H (length cs - 1) now b limit i → FirstGain P ps (length cs) r cs limit i
       first-due-gain b i e f =
-          let d : FirstDue J rows S D (length cs - 1) now (below standing late) limit i = rw e at f in
+          let d : FirstDue J rows S D H (length cs - 1) now (below standing late) limit i = rw e at f in
           record {
             within = d .within;
             passed = λ x h. gain-due x (omega (arith, d .within)) ∙ d .passed x h;
             gains = λ h. gain-due i h ∙ d .gains h;
           }
 
-  -- The rows can be judged by the dues.
-  pub due-rows : (S D : List ℕ) → StaysOf (T .tables .service) cs r S → length D ≡ 9 → (b shorter : ℕ) → now ≤ 2 ^ 40 → NextShorter J rows b 0 limit shorter → DueRows J rows S D (length cs - 1) now b shorter limit
-  due-rows S D stays places b shorter e next =
+  -- The rows can be judged by them.
+  pub due-rows : (S D H : List ℕ) → StaysOf (T .tables .service) cs r S → length D ≡ 9 → length H ≡ 17 → (b shorter : ℕ) → now ≤ 2 ^ 40 → NextShorter J rows b 0 limit shorter → DueRows J rows S D H (length cs - 1) now b shorter limit
+  due-rows S D H stays places word-places b shorter e next =
       record {
         chains = chains 0 (omega arith);
         most = omega (arith, given .cut-set .most);
         due-places = places;
         stay-places = stays .places;
+        word-places = word-places;
         brief = stays .brief;
         states = λ i h c l m.
             let k : i < length ps = omega (arith, given .allowed) in
@@ -175,8 +207,36 @@ pub tabled : {T : Trip} {r forwards backwards stayed cs rows J : List ℕ} {ps :
     Searchable T r forwards backwards stayed cs → Patterned (length cs) ps rows → limit ≤ length ps → JointOf (T .tables .locations) (T .tables .legs) (T .depot) (T .end) r cs J → Tabled T r cs ps rows J limit
 tabled s w l j = record { timed = s .timed; cut-set = s .cut-set; patterned = w; allowed = l; joined = j }
 
--- What is read of the lateness is that of the tail.
-pub told-late : {T : Trip} {r forwards backwards stayed cs rows late J D : List ℕ} {limit : ℕ} →
-    Findable T r forwards backwards stayed cs rows late J D limit → {v : ℕ} → v ≡ getD late (getD cs (length cs - 1) 0) 0 →
-    v ≡ lateness (clock-by (T .tables)) (T .depot) r (getD cs (length cs - 1) 0)
-told-late {r = r} {cs = cs} given e = e ∙ given .latenesses .each _ (last-cut cs r (given .searchable .cut-set))
+module _ {T : Trip} {members r forwards backwards stayed cs rows late : List ℕ} {since : ℕ} {J D H : List ℕ} {limit : ℕ}
+    (given : Findable T members r forwards backwards stayed cs rows late since J D H limit) where
+  abbrev own : CutSet (length cs) (length r) cs
+  own = given .searchable .cut-set
+
+  -- What is read of the lateness is that of the tail.
+  pub told-late : {v : ℕ} → v ≡ getD late (getD cs (length cs - 1) 0) 0 → v ≡ lateness (clock-by (T .tables)) (T .depot) r (getD cs (length cs - 1) 0)
+  told-late e = e ∙ given .latenesses .each _ (last-cut cs r own)
+
+  -- The words of the segments can be told.
+  pub tellable : MarksTellable members r cs H
+  tellable =
+      let m = given .searchable .timed .measurable in
+      record {
+        sized = ⊎-elim (λ e. inl (e .1)) (λ e. inr (e .0)) (given .lent);
+        short = m .stops .short;
+        known = λ i h. omega (arith, m .stops .known i h, m .table .few);
+        cut-set = own;
+        places = ⊎-elim (λ k. k .1) (λ k. k .1 .places) (given .marks);
+        before = ⊎-elim (λ k. inl (k .2 16)) (λ k. ⊎-elim (λ z. inl z) (λ w. inr (before-reach w)) (k .1 .held)) (given .marks);
+        behind = given .marks-behind;
+      }
+    where
+      before-reach : MarksReach (pairs-of (T .pairs)) r (take (length cs - 1) cs) H (getD H 16 0) → getD cs (length cs - 2) 0 ≤ getD H 16 0
+      before-reach w =
+          let n : length (take (length cs - 1) cs) - 1 ≡ length cs - 2 = omega (arith, first-many cs) in
+          let e : getD (take (length cs - 1) cs) (length (take (length cs - 1) cs) - 1) 0 ≡ getD cs (length cs - 2) 0 =
+          ap (λ i. getD (take (length cs - 1) cs) i 0) n ∙ getD-take (length cs - 1) cs (length cs - 2) 0 (omega (arith, own .least)) in
+          omega (arith, w .least, e)
+
+  -- Before the place where a tail may begin, no candidate improves.
+  pub none-before : getD cs (length cs - 1) 0 < since → (ps : List Pattern) → Patterned (length cs) ps rows → limit ≤ length ps → FirstGain (problem T) ps (length cs) r cs limit limit
+  none-before l ps w a = no-tail T ps cs r rows limit since own w a (given .back) l

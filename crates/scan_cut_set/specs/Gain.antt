@@ -5,8 +5,9 @@ use mathlib.Core.List.{List}
 use Prim.Native.Nat.{ℕ, _+_, _-_, _*_, _^_, _≤_, _<_}
 use lib.Dec.{ltb}
 use lib.Seq.{slice}
-use lib.ListN.{length, getD, take}
+use lib.ListN.{length, getD, take, drop}
 use Rattle.theory.specs.Moves.{Pattern}
+use Rattle.theory.specs.Pairs.{pairs-of, front-kept}
 use Rattle.theory.specs.Scan.{improves}
 use Rattle.theory.specs.Polish.{search-of, move-at}
 use Rattle.theory.specs.Route.{Problem, on-time}
@@ -17,7 +18,9 @@ use Rattle.deadlines.specs.Stays.{Stays}
 use Rattle.deadlines.specs.Lateness.{Latenesses}
 use Rattle.scan_joints.specs.States.{row, Patterned}
 use Rattle.deadline_dues.specs.Parts.{head}
-use Rattle.deadline_dues.specs.Dues.{in-time, DuesHeld}
+use Rattle.deadline_dues.specs.Dues.{in-time, DuesHeld, RowTimed}
+use Rattle.precedence.specs.Words.{PairsLent, BackSince}
+use Rattle.precedence_marks.specs.Held.{in-order, MarksKept}
 use Rattle.scan_joints.specs.JointTable.{chain, Padded, JointOf}
 
 -- What the step reads: tables, the route with its running sums and its stays, and k cuts of it.
@@ -40,9 +43,10 @@ pub record LateBehind (late cuts : List ℕ) : Type 0 where
   pub within : getD cuts (length cuts - 1) 0 < length late
   pub places : length late ≡ 513
 
--- With what is known of the deadlines: the head is on time, by how much the stops behind are late, and what is held of the dues for the first cuts; rows of
--- patterns of which the first `limit` are still allowed; and places for the joint table.
-pub record Findable (T : Trip) (route forward-sums backward-sums stayed cuts rows late table dues : List ℕ) (limit : ℕ) : Type 0 where
+-- With what is known of the deadlines: the head is on time, by how much the stops behind are late, and what is held of the dues for the first cuts; with what is
+-- known of the pairs: the head keeps them, where a tail begins that does, and what is held of their words; rows of patterns of which the first `limit` are still
+-- allowed; and places for the joint table.
+pub record Findable (T : Trip) (members route forward-sums backward-sums stayed cuts rows late : List ℕ) (since : ℕ) (table dues words : List ℕ) (limit : ℕ) : Type 0 where
   pub searchable : Searchable T route forward-sums backward-sums stayed cuts
   pub patterns : List Pattern
   pub patterned : Patterned (length cuts) patterns rows
@@ -51,15 +55,22 @@ pub record Findable (T : Trip) (route forward-sums backward-sums stayed cuts row
   pub latenesses : Latenesses (clock-by (T .tables)) (T .depot) route late
   pub held : DuesHeld (clock-by (T .tables)) route (take (length cuts - 1) cuts) dues
   pub behind : getD dues 8 0 ≤ getD cuts (length cuts - 1) 0
+  pub lent : PairsLent (pairs-of (T .pairs)) members
+  pub front : front-kept (pairs-of (T .pairs)) (take (getD cuts 0 0) route) (drop (getD cuts 0 0) route) ≡ true
+  pub back : BackSince (pairs-of (T .pairs)) route since
+  pub marks : MarksKept (pairs-of (T .pairs)) members route (take (length cuts - 1) cuts) words
+  pub marks-behind : getD words 16 0 ≤ getD cuts (length cuts - 1) 0
   pub padded : Padded table
 
 -- The answer, of whichever patterns the rows are, with what is then held.
-pub record Found (T : Trip) (route cuts rows : List ℕ) (limit i : ℕ) (table dues : List ℕ) : Type 0 where
+pub record Found (T : Trip) (members route cuts rows : List ℕ) (limit i : ℕ) (table dues words : List ℕ) : Type 0 where
   pub within : i ≤ limit
   pub first : (ps : List Pattern) → Patterned (length cuts) ps rows → limit ≤ length ps → FirstGain (problem T) ps (length cuts) route cuts limit i
   pub padded : Padded table
   pub held : DuesHeld (clock-by (T .tables)) route (take (length cuts - 1) cuts) dues
   pub behind : getD dues 8 0 ≤ getD cuts (length cuts - 1) 0
+  pub marks : MarksKept (pairs-of (T .pairs)) members route (take (length cuts - 1) cuts) words
+  pub marks-behind : getD words 16 0 ≤ getD cuts (length cuts - 1) 0
 
 -- ---- the parts of the step
 
@@ -90,25 +101,32 @@ pub record Tabled (T : Trip) (route cuts : List ℕ) (ps : List Pattern) (rows t
 abbrev pub below : ℕ → ℕ → ℕ
 below standing late = standing - (late - 1)
 
--- ---- by the dues of the states
+-- ---- by the dues and the words of the states
 
--- Row x costs less than `below`, and its first `m` states are left in time.
-abbrev pub due-gain : (table rows stays dues : List ℕ) → ℕ → ℕ → ℕ → ℕ → Bool
-due-gain table rows stays dues m clock below x = in-time table stays dues 9 clock (slice (4 * x) (4 * x + m) rows) && ltb (chain table 9 (row rows x)) below
+-- Row x keeps every pair along its first `m` states, is left in time, and costs less than `below`.
+abbrev pub due-gain : (table rows stays dues words : List ℕ) → ℕ → ℕ → ℕ → ℕ → Bool
+due-gain table rows stays dues words m clock below x =
+    (in-order words 0 (slice (4 * x) (4 * x + m) rows) && in-time table stays dues 9 clock (slice (4 * x) (4 * x + m) rows)) && ltb (chain table 9 (row rows x)) below
 
--- Rows of states, the joint table, the service and the dues of the states, when the head is left, and the first row that costs less.
-pub record DueRows (table rows stays dues : List ℕ) (m clock below shorter limit : ℕ) : Type 0 where
+-- A row of states that can be judged by both.
+pub record RowJudged (table rows stays dues words : List ℕ) (i m clock : ℕ) : Type 0 where
+  pub timed : RowTimed table rows stays dues i m clock
+  pub word-places : length words ≡ 17
+
+-- Rows of states, the joint table, the service, the dues and the words of the states, when the head is left, and the first row that costs less.
+pub record DueRows (table rows stays dues words : List ℕ) (m clock below shorter limit : ℕ) : Type 0 where
   pub chains : Chains table rows 0 limit
   pub most : m ≤ 4
   pub due-places : length dues ≡ 9
   pub stay-places : length stays ≡ 9
+  pub word-places : length words ≡ 17
   pub brief : (s : ℕ) → getD stays s 0 ≤ 512 * 1000000
   pub states : (i : ℕ) → i < limit → (c : ℕ) → 4 * i ≤ c → c < 4 * i + m → getD rows c 0 < 8
   pub early : clock ≤ 2 ^ 40
   pub first : NextShorter table rows below 0 limit shorter
 
 -- The first such row, or `limit` where none is.
-pub record FirstDue (table rows stays dues : List ℕ) (m clock below limit i : ℕ) : Type 0 where
+pub record FirstDue (table rows stays dues words : List ℕ) (m clock below limit i : ℕ) : Type 0 where
   pub within : i ≤ limit
-  pub passed : (x : ℕ) → x < i → due-gain table rows stays dues m clock below x ≡ false
-  pub gains : i < limit → due-gain table rows stays dues m clock below i ≡ true
+  pub passed : (x : ℕ) → x < i → due-gain table rows stays dues words m clock below x ≡ false
+  pub gains : i < limit → due-gain table rows stays dues words m clock below i ≡ true

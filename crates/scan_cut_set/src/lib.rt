@@ -1,16 +1,21 @@
-// The inner step of the scan: the first pattern on a cut set that improves the route and keeps every deadline. No entry: for the scan.
+// The inner step of the scan: the first pattern on a cut set that improves the route and keeps every deadline and every pair. No entry: for the scan.
 use deadline_dues::DUE_PLACES;
 use deadline_dues::Timing;
 use deadline_dues::time_states;
+use precedence_marks::MARK_PLACES;
 use scan_joints::CELLS;
 use scan_joints::ROW_BYTES;
 use theory::CUT_PLACES;
 use theory::STOPS;
 ghost use mathlib.Core.Path.{_≡_};
-ghost use Prim.Native.Nat.{_-_};
+ghost use mathlib.Core.Bool.{_&&_};
+ghost use Prim.Native.Nat.{_+_, _-_, _*_};
 ghost use lib.ListN.{length, getD};
+ghost use lib.Seq.{slice};
 ghost use Rattle.theory.specs.Tables.{trip};
-ghost use Rattle.scan_cut_set.specs.Gain.{below, LateBehind, Findable, Found, Chains, NextShorter, DueRows, FirstDue};
+ghost use Rattle.deadline_dues.specs.Dues.{in-time};
+ghost use Rattle.precedence_marks.specs.Held.{in-order};
+ghost use Rattle.scan_cut_set.specs.Gain.{below, LateBehind, Findable, Found, Chains, NextShorter, RowJudged, DueRows, FirstDue};
 
 // The first pattern from `from` on that costs less than `standing`, or `limit`.
 fn next_shorter(
@@ -33,25 +38,46 @@ fn next_shorter(
     i
 }
 
-// The first row from `shorter` on that costs less than `below` and is left in time, or `limit`.
+// Whether row i is left in time, and then whether it keeps every pair.
+fn row_kept(
+    joint: &[u64; CELLS],
+    rows: &[u8; ROW_BYTES],
+    stays: &[u64; DUE_PLACES],
+    dues: &[u64; DUE_PLACES],
+    held: &[u64; MARK_PLACES],
+    i: usize,
+    m: usize,
+    clock: u64,
+) -> bool
+    requires { ⌜ RowJudged (now joint) (now rows) (now stays) (now dues) (now held) i m clock ⌝ }
+    ensures { λ r. ⌜ r ≡ (in-order (now (held .entry)) 0 (slice (4 * i) (4 * i + m) (now (rows .entry))) && in-time (now (joint .entry)) (now (stays .entry)) (now (dues .entry)) 9 clock (slice (4 * i) (4 * i + m) (now (rows .entry)))) ⌝ }
+{
+    let judged = deadline_dues::judge_row(joint, rows, stays, dues, i, m, clock);
+    if let Timing::InTime = judged {
+        return precedence_marks::row_in_order(rows, held, i, m);
+    }
+    false
+}
+
+// The first row from `shorter` on that costs less than `below`, is left in time and keeps every pair, or `limit`.
 fn first_due(
     joint: &[u64; CELLS],
     rows: &[u8; ROW_BYTES],
     stays: &[u64; DUE_PLACES],
     dues: &[u64; DUE_PLACES],
+    held: &[u64; MARK_PLACES],
     m: usize,
     clock: u64,
     below: u64,
     shorter: usize,
     limit: usize,
 ) -> usize
-    requires { ⌜ DueRows (now joint) (now rows) (now stays) (now dues) m clock below shorter limit ⌝ }
-    ensures { λ r. ⌜ FirstDue (now (joint .entry)) (now (rows .entry)) (now (stays .entry)) (now (dues .entry)) m clock below limit r ⌝ }
+    requires { ⌜ DueRows (now joint) (now rows) (now stays) (now dues) (now held) m clock below shorter limit ⌝ }
+    ensures { λ r. ⌜ FirstDue (now (joint .entry)) (now (rows .entry)) (now (stays .entry)) (now (dues .entry)) (now (held .entry)) m clock below limit r ⌝ }
 {
     let mut i = shorter;
     while i < limit {
-        let judged = deadline_dues::judge_row(joint, rows, stays, dues, i, m, clock);
-        if let Timing::InTime = judged {
+        if row_kept(joint, rows, stays, dues, held, i, m, clock) {
             return i;
         }
         i = next_shorter(joint, rows, below, i + 1, limit);
@@ -82,7 +108,8 @@ fn late_behind(lateness: &[u64; CUT_PLACES], cuts: &[usize]) -> u64
     lateness[c]
 }
 
-// The first of the first `limit` patterns on the cut set that improves the route, or `limit`. Deadlines are looked at only where a pattern gains enough.
+// The first of the first `limit` patterns on the cut set that improves the route, or `limit`. Deadlines are looked at only where a pattern gains enough, pairs where
+// it is in time as well; before `since` no tail keeps its pairs.
 pub fn first_gain(
     locations: usize,
     legs: &[u32],
@@ -90,6 +117,8 @@ pub fn first_gain(
     service: &[u32],
     depot: u32,
     end: u32,
+    pairs: &[u32],
+    members: &[u64],
     route: &[u32],
     forward: &[u64; STOPS],
     backward: &[u64; STOPS],
@@ -97,13 +126,18 @@ pub fn first_gain(
     cuts: &[usize],
     rows: &[u8; ROW_BYTES],
     lateness: &[u64; CUT_PLACES],
+    since: usize,
     joint: &mut [u64; CELLS],
     dues: &mut [u64; DUE_PLACES],
+    held: &mut [u64; MARK_PLACES],
     limit: usize,
 ) -> usize
-    requires { ⌜ Findable (trip locations (now legs) (now latest) (now service) depot end) (now route) (now forward) (now backward) (now stayed) (now cuts) (now rows) (now lateness) (now joint) (now dues) limit ⌝ }
-    ensures { λ r. ⌜ Found (trip locations (now (legs .entry)) (now (latest .entry)) (now (service .entry)) depot end) (now (route .entry)) (now (cuts .entry)) (now (rows .entry)) limit r (now (joint .exit)) (now (dues .exit)) ⌝ }
+    requires { ⌜ Findable (trip locations (now legs) (now latest) (now service) depot end (now pairs)) (now members) (now route) (now forward) (now backward) (now stayed) (now cuts) (now rows) (now lateness) since (now joint) (now dues) (now held) limit ⌝ }
+    ensures { λ r. ⌜ Found (trip locations (now (legs .entry)) (now (latest .entry)) (now (service .entry)) depot end (now (pairs .entry))) (now (members .entry)) (now (route .entry)) (now (cuts .entry)) (now (rows .entry)) limit r (now (joint .exit)) (now (dues .exit)) (now (held .exit)) ⌝ }
 {
+    if cuts[cuts.len() - 1] < since {
+        return limit;
+    }
     scan_joints::fill_joint(
         locations,
         legs,
@@ -134,7 +168,19 @@ pub fn first_gain(
         dues,
         &mut stays,
     );
+    precedence_marks::mark_states(members, route, cuts, held);
     let clock = deadline_dues::head_clock(locations, legs, depot, route, forward, stayed, cuts);
     let m = cuts.len() - 1;
-    first_due(joint, rows, &stays, dues, m, clock, below, shorter, limit)
+    first_due(
+        joint,
+        rows,
+        &stays,
+        dues,
+        held,
+        m,
+        clock,
+        below,
+        shorter,
+        limit,
+    )
 }

@@ -25,7 +25,7 @@ first-set (suc (suc (suc (suc zero)))) h = refl
 first-set (suc (suc (suc (suc (suc zero))))) h = refl
 first-set (suc (suc (suc (suc (suc (suc k)))))) h = absurd (omega arith)
 
-module _ (k : ℕ) (T : Trip) (orders masks rows route₀ : List ℕ) (A : ℕ) (ok : Scannable k T orders masks rows route₀) where
+module _ (k : ℕ) (T : Trip) (orders masks rows members route₀ : List ℕ) (A : ℕ) (ok : Scannable k T orders masks rows members route₀) where
   -- At cuts, with e examined and c accepted.
   abbrev pub At : List ℕ → ℕ → ℕ → List ℕ → Type 0
   At cuts e c r = Polishing (problem T) (pattern-rows k orders masks) k A route₀ cuts e c r

@@ -1,6 +1,7 @@
 // The scan of document 01, stretch by stretch: the cut sets with the same first cuts are one. No entry: crate polishing calls it.
 use scan_joints::CELLS;
 use scan_joints::ROW_BYTES;
+use scan_taking::Limits;
 use theory::CUT_PLACES;
 use theory::STOPS;
 ghost use Rattle.theory.specs.Tables.{problem, pattern-rows, trip};
@@ -24,25 +25,28 @@ pub fn scan_cut_sets(
     service: &[u32],
     depot: u32,
     end: u32,
+    pairs: &[u32],
+    members: &[u64],
     orders: &[u8],
     masks: &[u8],
     rows: &[u8; ROW_BYTES],
     route: &mut [u32],
 ) -> Scanned
-    requires { ⌜ Scannable k (trip locations (now legs) (now latest) (now service) depot end) (now orders) (now masks) (now rows) (now route) ⌝ }
-    ensures { λ r. ⌜ Scans (problem (trip locations (now (legs .entry)) (now (latest .entry)) (now (service .entry)) depot end)) (pattern-rows k (now (orders .entry)) (now (masks .entry))) k allowance (now (route .entry)) r (now (route .exit)) ⌝ }
+    requires { ⌜ Scannable k (trip locations (now legs) (now latest) (now service) depot end (now pairs)) (now orders) (now masks) (now rows) (now members) (now route) ⌝ }
+    ensures { λ r. ⌜ Scans (problem (trip locations (now (legs .entry)) (now (latest .entry)) (now (service .entry)) depot end (now (pairs .entry)))) (pattern-rows k (now (orders .entry)) (now (masks .entry))) k allowance (now (route .entry)) r (now (route .exit)) ⌝ }
 {
     let mut forward = [0u64; STOPS];
     let mut backward = [0u64; STOPS];
     let mut joint = [0u64; CELLS];
     let mut stayed = [0u64; CUT_PLACES];
     let mut lateness = [0u64; CUT_PLACES];
-    let mut longest = scan_taking::measure(
+    let mut limits = scan_taking::measure(
         locations,
         legs,
         latest,
         service,
         depot,
+        members,
         &route[..],
         &mut forward,
         &mut backward,
@@ -60,14 +64,17 @@ pub fn scan_cut_sets(
             service,
             depot,
             end,
+            pairs,
+            members,
             rows,
             masks.len(),
             &route[..],
             &forward,
             &backward,
             &stayed,
-            longest,
+            limits.longest,
             &lateness,
+            limits.since,
             &mut cut[..k],
             &mut joint,
             allowance - examined,
@@ -88,7 +95,10 @@ pub fn scan_cut_sets(
                 &mut stayed,
                 &mut lateness,
             );
-            longest = route.len();
+            limits = Limits {
+                longest: route.len(),
+                since: 0,
+            };
             cut = [0, 1, 2, 3, 4];
             examined += 1;
             accepted += 1;

@@ -1,19 +1,24 @@
--- Behind a head beyond the longest the whole stretch is passed over: none of its candidates keeps every deadline. Assumes nothing.
+-- Behind a head beyond the longest the whole stretch is passed over: none of its candidates keeps every deadline and every pair. Assumes nothing.
 use mathlib.Core.Path.{_≡_, refl, sym, ap, _∙_}
-use mathlib.Core.Bool.{Bool, true, false, true≢false, _&&_}
+use mathlib.Core.Bool.{Bool, true, false, true≢false, _&&_, and-false}
 use mathlib.Core.List.{List, [], _∷_, _++_}
 use Prim.Native.Nat.{ℕ, _+_, _-_, _*_, _≤_, _<_}
 use native.Mathlib.Omega.{arith}
+use native.Mathlib.Decide.{decLt}
 use lib.Dec.{ltb}
-use lib.ListN.{length, getD, set, List·getD-append}
+use lib.ListN.{length, getD, set, take, drop, List·getD-append}
 use lib.Seq.{getD-take}
+use borrow.Author.Tests.{le-leb, lt-leb}
 use Rattle.theory.specs.Moves.{Pattern}
-use Rattle.theory.specs.Route.{reconnected, tour-length}
+use Rattle.theory.specs.Pairs.{pairs-of, pairs-kept, front-kept}
+use Rattle.theory.specs.Route.{reconnected, tour-length, timely}
 use Rattle.theory.specs.Polish.{move-at}
-use Rattle.theory.specs.Tables.{problem, timetable-by, clock-by, CutSet, Trip}
+use Rattle.theory.specs.Tables.{problem, timetable-by, clock-by, CutSet, ForK, Trip}
 use Rattle.deadlines.proofs.Lateness.{head-on-time}
 use Rattle.costs.specs.RouteCosts.{first-cuts, last-cut}
+use Rattle.costs.proofs.Segments.{cut-below}
 use Rattle.deadline_dues.proofs.Judged.{candidate-too-late}
+use Rattle.scan_cut_set.proofs.Kept.{candidate-kept}
 use Rattle.scan_stretch.specs.declared.Stretch.{Stretch}
 use Rattle.scan_stretch.specs.Stretch.{Listed, LastCutsScannable, Passable, Passed, Stretchable, Stretched, idle-end, improves-at}
 use Rattle.scan_stretch.proofs.LastCut.{not-empty, first-below, long, at-cut}
@@ -28,8 +33,8 @@ pub passed-spent : (stops patterns : ℕ) (cuts : List ℕ) (left over : ℕ) �
     Passed stops patterns cuts left (idle-end left false) cuts
 passed-spent stops patterns cuts left over e h = record { no-gain = refl; over = λ b. absurd (true≢false (sym b)); spent = λ _. (refl, omega (arith, e)) }
 
-module _ {T : Trip} {rows : List ℕ} {patterns : ℕ} {r forwards backwards stayed : List ℕ} {longest : ℕ} {late cuts table : List ℕ}
-    (given : Stretchable T rows patterns r forwards backwards stayed longest late cuts table) where
+module _ {T : Trip} {members rows : List ℕ} {patterns : ℕ} {r forwards backwards stayed : List ℕ} {longest : ℕ} {late : List ℕ} {since : ℕ} {cuts table : List ℕ}
+    (given : Stretchable T members rows patterns r forwards backwards stayed longest late since cuts table) where
   abbrev own : CutSet (length cuts) (length r) cuts
   own = given .searchable .cut-set
 
@@ -37,7 +42,7 @@ module _ {T : Trip} {rows : List ℕ} {patterns : ℕ} {r forwards backwards sta
   passable =
       record { not-empty = omega (arith, own .least); most = own .most; within = first-below r cuts own .1; short = own .short; few = omega (arith, given .listed .patterned .few, given .listed .many) }
 
-  pub scannable : getD cuts 0 0 ≤ longest → LastCutsScannable T rows patterns r forwards backwards stayed late cuts table
+  pub scannable : getD cuts 0 0 ≤ longest → LastCutsScannable T members rows patterns r forwards backwards stayed late since cuts table
   scannable h =
       record {
         hopeful = record {
@@ -45,21 +50,59 @@ module _ {T : Trip} {rows : List ℕ} {patterns : ℕ} {r forwards backwards sta
           list = given .list;
           listed = given .listed;
           padded = given .padded;
-          early = head-on-time (clock-by (T .tables)) (T .depot) r longest (given .head) (getD cuts 0 0) h;
+          early = head-on-time (clock-by (T .tables)) (T .depot) r (given .head .punctual) (given .head .timed) (getD cuts 0 0) (omega (arith, given .head .lesser));
           latenesses = given .latenesses;
+          lent = given .lent;
+          front = given .head .front .is (getD cuts 0 0) (cut-below cuts r own 0 (omega (arith, own .least))) ∙ le-leb (getD cuts 0 0) (given .head .reach) (omega (arith, given .head .lesser));
+          back = given .back;
         };
         first = given .first;
       }
 
   module _ (l : longest < getD cuts 0 0) where
     none : (ps : List Pattern) → Listed (length cuts) patterns rows ps → (t x : ℕ) → last-cut cuts ≤ t → t ≤ length r → x < length ps → improves-at (problem T) ps r cuts t x ≡ false
-    none ps w t x h k i =
-        let P = problem T in
-        let cs = first-cuts cuts ++ (t ∷ []) in
-        let p = move-at ps cs x .pattern in
-        let first : getD cs 0 0 ≡ getD cuts 0 0 = List·getD-append (first-cuts cuts) (t ∷ []) 0 0 (not-empty r cuts own) ∙ getD-take (length cuts - 1) cuts 0 0 (omega (arith, own .least)) in
-        ap (λ b. b && ltb (tour-length P (reconnected (record { cuts = cs; pattern = p }) r)) (tour-length P r))
-        (candidate-too-late cs r (at-cut r cuts own t h k) (timetable-by (T .tables)) (T .depot) longest (given .head) (omega (arith, first)) p (rw (long r cuts own t) (w .patterned .for-k x i)))
+    none ps w t x h k i = by (decLt (given .head .punctual) (getD cuts 0 0))
+      where
+        cs : List ℕ
+        cs = first-cuts cuts ++ (t ∷ [])
+
+        p : Pattern
+        p = move-at ps cs x .pattern
+
+        moved : List ℕ
+        moved = reconnected (record { cuts = cs; pattern = p }) r
+
+        first : getD cs 0 0 ≡ getD cuts 0 0
+        first = List·getD-append (first-cuts cuts) (t ∷ []) 0 0 (not-empty r cuts own) ∙ getD-take (length cuts - 1) cuts 0 0 (omega (arith, own .least))
+
+        there : CutSet (length cs) (length r) cs
+        there = at-cut r cuts own t h k
+
+        for-k : ForK (length cs) (p .order) (p .mask)
+        for-k = rw (long r cuts own t) (w .patterned .for-k x i)
+
+        pairs : Bool
+        pairs = pairs-kept (pairs-of (T .pairs)) moved
+
+        on-time : Bool
+        on-time = timely (timetable-by (T .tables)) (T .depot) moved
+
+        shorter : Bool
+        shorter = ltb (tour-length (problem T) moved) (tour-length (problem T) r)
+
+        -- It is late, or breaks a pair.
+        late-there : given .head .punctual < getD cuts 0 0 → on-time ≡ false
+        late-there n = candidate-too-late cs r there (timetable-by (T .tables)) (T .depot) (given .head .punctual) (given .head .timed) (omega (arith, first)) p for-k
+
+        broken-there : given .head .reach < getD cuts 0 0 → pairs ≡ false
+        broken-there n =
+            let f : front-kept (pairs-of (T .pairs)) (take (getD cs 0 0) r) (drop (getD cs 0 0) r) ≡ false =
+            given .head .front .is (getD cs 0 0) (cut-below cs r there 0 (omega (arith, there .least))) ∙ lt-leb (getD cs 0 0) (given .head .reach) (omega (arith, first)) in
+            candidate-kept (pairs-of (T .pairs)) cs r there (given .back) p for-k ∙ rw f
+
+        by : Dec (given .head .punctual < getD cuts 0 0) → ((pairs && on-time) && shorter) ≡ false
+        by (yes n) = ap (λ b. (pairs && b) && shorter) (late-there n) ∙ ap (λ b. b && shorter) (and-false pairs)
+        by (no n) = ap (λ b. (b && on-time) && shorter) (broken-there (omega (arith, given .head .lesser)))
 
     pub passed-over : {left : ℕ} {answer : Stretch} {cuts′ : List ℕ} → Passed (length r) patterns cuts left answer cuts′ →
         Stretched (problem T) patterns rows r cuts left answer cuts′ table

@@ -1,7 +1,7 @@
 -- A stretch, over plain lists: what holds at each step, and what each end of a step gives. Assumes nothing.
 use mathlib.Core.Path.{_≡_, refl, sym, ap, _∙_}
 use mathlib.Core.Bool.{Bool, true, false, true≢false, _&&_, and-false}
-use mathlib.Core.Logic.{inl}
+use mathlib.Core.Logic.{inl, inr}
 use mathlib.Core.List.{List, [], _∷_, _++_}
 use Prim.Native.Nat.{ℕ, suc, min, _+_, _-_, _*_, _≤_, _<_}
 use native.Mathlib.Omega.{arith}
@@ -10,6 +10,7 @@ use native.Mathlib.Decide.{decLt}
 use lib.ListN.{length, getD, set, replicate}
 use lib.Seq.{set-at, getD-take}
 use Rattle.theory.specs.Moves.{Pattern}
+use Rattle.theory.specs.Pairs.{pairs-of}
 use Rattle.theory.specs.Route.{reconnected, feasible, tour-length}
 use Rattle.theory.specs.Scan.{improves}
 use Rattle.theory.specs.Polish.{search-of, move-at}
@@ -24,6 +25,8 @@ use Rattle.scan_shared.specs.Filling.{Preparable, PreparedNow}
 use Rattle.scan_shared.proofs.Preparing.{first-of-cuts, last-of-cuts, zero-at}
 use Rattle.scan_bound.specs.Tests.{Nextable, NextPromising}
 use Rattle.deadline_dues.specs.Dues.{DuesHeld}
+use Rattle.precedence.specs.Words.{PairsLent}
+use Rattle.precedence_marks.specs.Held.{MarksKept}
 use Rattle.scan_cut_set.specs.Gain.{FirstGain, Findable, Found}
 use Rattle.scan_stretch.specs.declared.Step.{Step}
 use Rattle.scan_stretch.specs.declared.Step.the-variants.{Done, On}
@@ -38,7 +41,7 @@ last-stored l v h = ap (λ z. set z (length l - 1) v) (cuts-parted l h) ∙ set-
 
 -- ---- what is known of the cut set at hand
 
-module _ {T : Trip} {ps : List Pattern} {r first : List ℕ} {left : ℕ} {cuts table dues : List ℕ} {examined : ℕ} (going : Going T ps r first left cuts table dues examined) where
+module _ {T : Trip} {ps : List Pattern} {members r first : List ℕ} {left : ℕ} {cuts table dues words : List ℕ} {examined : ℕ} (going : Going T ps members r first left cuts table dues words examined) where
   stored : (v : ℕ) → set cuts (length cuts - 1) v ≡ first-cuts first ++ (v ∷ [])
   stored v = last-stored cuts v (omega (arith, going .cut-set .least)) ∙ ap (λ l. l ++ (v ∷ [])) (going .same)
 
@@ -62,9 +65,9 @@ module _ {T : Trip} {ps : List Pattern} {r first : List ℕ} {left : ℕ} {cuts 
       Ended (problem T) ps r first left (record { examined = e; gains = g; through = w; pattern = x }) cuts′ × Padded table′
   answered p idle allowed gain over spent = (record { idle = λ t y h l i n. idle t y h i n; allowed = allowed; gain = gain; over = over; spent = spent }, p)
 
-  -- The next cut set is behind a head that is on time as well.
-  module _ {rows : List ℕ} {patterns : ℕ} {forwards backwards stayed late table₀ : List ℕ} (given : Hopeful T rows patterns r forwards backwards stayed late first table₀) where
-    pub hopeful-on : Hopeful T rows patterns r forwards backwards stayed late cuts table
+  -- The next cut set is behind the same head.
+  module _ {rows : List ℕ} {patterns : ℕ} {forwards backwards stayed late : List ℕ} {since : ℕ} {table₀ : List ℕ} (given : Hopeful T members rows patterns r forwards backwards stayed late since first table₀) where
+    pub hopeful-on : Hopeful T members rows patterns r forwards backwards stayed late since cuts table
     hopeful-on =
         let g = given .searchable in
         record {
@@ -74,10 +77,14 @@ module _ {T : Trip} {ps : List Pattern} {r first : List ℕ} {left : ℕ} {cuts 
           padded = going .padded;
           early = rw first-same (given .early);
           latenesses = given .latenesses;
+          lent = given .lent;
+          front = rw first-same (given .front);
+          back = given .back;
         }
 
-    pub triable-on : Triable T rows patterns r forwards backwards stayed late cuts table dues examined left
-    triable-on = record { hopeful = hopeful-on; held = rw (going .same) (going .held); behind = going .behind; within = going .within }
+    pub triable-on : Triable T members rows patterns r forwards backwards stayed late since cuts table dues words examined left
+    triable-on =
+        record { hopeful = hopeful-on; held = rw (going .same) (going .held); behind = going .behind; marks = rw (going .same) (going .marks); marks-behind = going .marks-behind; within = going .within }
 
     pub prepared-on : {entries exits inside low : List ℕ} → PreparedNow (T .tables .locations) (T .tables .legs) (T .depot) r first rows patterns entries exits inside low →
         PreparedNow (T .tables .locations) (T .tables .legs) (T .depot) r cuts rows patterns entries exits inside low
@@ -85,7 +92,7 @@ module _ {T : Trip} {ps : List Pattern} {r first : List ℕ} {left : ℕ} {cuts 
 
 -- ---- the start
 
-module _ {T : Trip} {rows : List ℕ} {patterns : ℕ} {r forwards backwards stayed late cuts table : List ℕ} (given : Hopeful T rows patterns r forwards backwards stayed late cuts table) where
+module _ {T : Trip} {members rows : List ℕ} {patterns : ℕ} {r forwards backwards stayed late : List ℕ} {since : ℕ} {cuts table : List ℕ} (given : Hopeful T members rows patterns r forwards backwards stayed late since cuts table) where
   cut : Cut (T .tables .locations) (T .tables .legs) (T .depot) (T .end) r forwards backwards cuts
   cut = let g = given .searchable in record { measurable = g .timed .measurable; forwards = g .forwards; backwards = g .backwards; cut-set = g .cut-set }
 
@@ -108,8 +115,9 @@ module _ {T : Trip} {rows : List ℕ} {patterns : ℕ} {r forwards backwards sta
         first = o;
       }
 
-  pub starts : (ps : List Pattern) (left : ℕ) {dues : List ℕ} → DuesHeld (clock-by (T .tables)) r (first-cuts cuts) dues → getD dues 8 0 ≤ last-cut cuts → Going T ps r cuts left cuts table dues 0
-  starts ps left held behind =
+  pub starts : (ps : List Pattern) (left : ℕ) {dues words : List ℕ} → DuesHeld (clock-by (T .tables)) r (first-cuts cuts) dues → getD dues 8 0 ≤ last-cut cuts →
+      MarksKept (pairs-of (T .pairs)) members r (first-cuts cuts) words → getD words 16 0 ≤ last-cut cuts → Going T ps members r cuts left cuts table dues words 0
+  starts ps left held behind marks marks-behind =
       let z : last-cut cuts - last-cut cuts ≡ 0 = omega arith in
       record {
         begin = given .searchable .cut-set;
@@ -123,16 +131,22 @@ module _ {T : Trip} {rows : List ℕ} {patterns : ℕ} {r forwards backwards sta
         padded = given .padded;
         held = held;
         behind = behind;
+        marks = marks;
+        marks-behind = marks-behind;
       }
 
-  -- Nothing is held of the dues.
-  pub starts-bare : (ps : List Pattern) (left : ℕ) → Going T ps r cuts left cuts table (replicate 9 0) 0
-  starts-bare ps left = starts ps left (record { places = refl; held = inl refl }) (rw (zero-at 9 8) (omega arith))
+  -- Nothing is held of the dues and the words.
+  pub starts-bare : (ps : List Pattern) (left : ℕ) → Going T ps members r cuts left cuts table (replicate 9 0) (replicate 17 0) 0
+  starts-bare ps left = starts ps left (record { places = refl; held = inl refl }) (rw (zero-at 9 8) (omega arith)) (bare (given .lent)) (rw (zero-at 17 16) (omega arith))
+    where
+      bare : PairsLent (pairs-of (T .pairs)) members → MarksKept (pairs-of (T .pairs)) members r (first-cuts cuts) (replicate 17 0)
+      bare (inl e) = inl (e .1, refl, zero-at 17)
+      bare (inr m) = inr (omega (arith, m .0), record { places = refl; held = inl refl })
 
 -- ---- up to the first last cut that is promising
 
-module _ {T : Trip} {rows : List ℕ} {patterns : ℕ} {r forwards backwards stayed late cuts entries exits inside low zero table dues : List ℕ} {examined left : ℕ}
-    (given : Steppable T rows patterns r forwards backwards stayed late cuts entries exits inside low zero table dues examined left) where
+module _ {T : Trip} {members rows : List ℕ} {patterns : ℕ} {r forwards backwards stayed late : List ℕ} {since : ℕ} {cuts entries exits inside low zero table dues words : List ℕ} {examined left : ℕ}
+    (given : Steppable T members rows patterns r forwards backwards stayed late since cuts entries exits inside low zero table dues words examined left) where
   pub nextable : Nextable (T .tables .locations) (T .tables .legs) (T .depot) (T .end) r forwards backwards cuts entries exits inside low zero
   nextable =
       let k = given .prepared .prepared in
@@ -148,7 +162,7 @@ module _ {T : Trip} {rows : List ℕ} {patterns : ℕ} {r forwards backwards sta
     pub few-sets : (hit - last-cut cuts ≤ 513) × (patterns ≤ 383)
     few-sets = (omega (arith, next .most, given .triable .hopeful .searchable .cut-set .short), few-patterns (given .triable .hopeful))
 
-    module _ {first : List ℕ} {ps : List Pattern} (list : Listed (length first) patterns rows ps) (going : Going T ps r first left cuts table dues examined) where
+    module _ {first : List ℕ} {ps : List Pattern} (list : Listed (length first) patterns rows ps) (going : Going T ps members r first left cuts table dues words examined) where
       behind-hit : last-cut first ≤ hit
       behind-hit = omega (arith, going .from, next .least)
 
@@ -185,7 +199,7 @@ module _ {T : Trip} {rows : List ℕ} {patterns : ℕ} {r forwards backwards sta
             (λ y l. absurd (omega arith)) t x h i (omega (arith, n, reaches))
 
         -- The allowance ends among them.
-        pub spent-over : left - examined < over → StepTo T ps r first left (last-cut cuts) (Done (idle-end left false)) cuts table dues
+        pub spent-over : left - examined < over → StepTo T ps members r first left (last-cut cuts) (Done (idle-end left false)) cuts table dues words
         spent-over b =
             answered going (going .padded)
             (λ t x h i n. idle-below t x h i (omega (arith, n, b, going .within)))
@@ -196,7 +210,7 @@ module _ {T : Trip} {rows : List ℕ} {patterns : ℕ} {r forwards backwards sta
 
         module _ (room : over ≤ left - examined) where
           -- No last cut is left.
-          pub through-over : length r < hit → StepTo T ps r first left (last-cut cuts) (Done (idle-end (examined + over) true)) (set cuts (length cuts - 1) (length r)) table dues
+          pub through-over : length r < hit → StepTo T ps members r first left (last-cut cuts) (Done (idle-end (examined + over) true)) (set cuts (length cuts - 1) (length r)) table dues words
           through-over b =
               let e : hit ≡ length r + 1 = omega (arith, next .most) in
               answered going (going .padded)
@@ -207,7 +221,7 @@ module _ {T : Trip} {rows : List ℕ} {patterns : ℕ} {r forwards backwards sta
               (λ _ e. absurd (true≢false e))
 
           -- At a last cut that is promising.
-          pub at-hit : hit ≤ length r → Going T ps r first left (set cuts (length cuts - 1) hit) table dues (examined + over)
+          pub at-hit : hit ≤ length r → Going T ps members r first left (set cuts (length cuts - 1) hit) table dues words (examined + over)
           at-hit l =
               let f = first-of-cuts (first-cuts first) hit in
               let e = last-of-cuts (first-cuts first) hit in
@@ -224,33 +238,35 @@ module _ {T : Trip} {rows : List ℕ} {patterns : ℕ} {r forwards backwards sta
                 padded = going .padded;
                 held = going .held;
                 behind = rw e (omega (arith, going .behind, next .least));
+                marks = going .marks;
+                marks-behind = rw e (omega (arith, going .marks-behind, next .least));
               })
 
           -- What is then tried leads on from here.
-          pub from-hit : (answer : Step) (cuts′ table′ dues′ : List ℕ) →
-              StepTo T ps r first left (last-cut (set cuts (length cuts - 1) hit)) answer cuts′ table′ dues′ → StepTo T ps r first left (last-cut cuts) answer cuts′ table′ dues′
-          from-hit (Done answer) cuts′ table′ dues′ w = w
-          from-hit (On reached) cuts′ table′ dues′ w =
+          pub from-hit : (answer : Step) (cuts′ table′ dues′ words′ : List ℕ) →
+              StepTo T ps members r first left (last-cut (set cuts (length cuts - 1) hit)) answer cuts′ table′ dues′ words′ → StepTo T ps members r first left (last-cut cuts) answer cuts′ table′ dues′ words′
+          from-hit (Done answer) cuts′ table′ dues′ words′ w = w
+          from-hit (On reached) cuts′ table′ dues′ words′ w =
               let e : last-cut (set cuts (length cuts - 1) hit) ≡ hit = ap last-cut (stored going hit) ∙ last-of-cuts (first-cuts first) hit in
               (w .0, omega (arith, w .1, e, next .least))
 
-pub hit-triable : {T : Trip} {rows : List ℕ} {patterns : ℕ} {r forwards backwards stayed late cuts entries exits inside low zero table dues : List ℕ} {examined left : ℕ} →
-    Steppable T rows patterns r forwards backwards stayed late cuts entries exits inside low zero table dues examined left →
+pub hit-triable : {T : Trip} {members rows : List ℕ} {patterns : ℕ} {r forwards backwards stayed late : List ℕ} {since : ℕ} {cuts entries exits inside low zero table dues words : List ℕ} {examined left : ℕ} →
+    Steppable T members rows patterns r forwards backwards stayed late since cuts entries exits inside low zero table dues words examined left →
     {hit : ℕ} → NextPromising (T .tables .locations) (T .tables .legs) (T .depot) (T .end) r cuts entries exits inside low hit → {over : ℕ} → over ≡ (hit - last-cut cuts) * patterns → over ≤ left - examined → hit ≤ length r →
-    Triable T rows patterns r forwards backwards stayed late (set cuts (length cuts - 1) hit) table dues (examined + over) left
-hit-triable {T} {rows} {patterns} {r} {forwards} {backwards} {stayed} {late} {cuts} {entries} {exits} {inside} {low} {zero} {table} {dues} given next {over} e room l =
+    Triable T members rows patterns r forwards backwards stayed late since (set cuts (length cuts - 1) hit) table dues words (examined + over) left
+hit-triable {T} {members} {rows} {patterns} {r} {forwards} {backwards} {stayed} {late} {since} {cuts} {entries} {exits} {inside} {low} {zero} {table} {dues} {words} given next {over} e room l =
     let w = given .triable in
     let h = w .hopeful in
-    let alone : Steppable T rows patterns r forwards backwards stayed late cuts entries exits inside low zero table dues 0 over =
-    record { triable = record { hopeful = h; held = w .held; behind = w .behind; within = omega arith }; prepared = given .prepared; zero-places = given .zero-places; zero-is = given .zero-is } in
-    let t = triable-on (at-hit alone next (h .listed) (starts h (h .list) over (w .held) (w .behind)) e (omega arith) l) h in
-    record { hopeful = t .hopeful; held = t .held; behind = t .behind; within = omega (arith, room, w .within) }
+    let alone : Steppable T members rows patterns r forwards backwards stayed late since cuts entries exits inside low zero table dues words 0 over =
+    record { triable = record { hopeful = h; held = w .held; behind = w .behind; marks = w .marks; marks-behind = w .marks-behind; within = omega arith }; prepared = given .prepared; zero-places = given .zero-places; zero-is = given .zero-is } in
+    let t = triable-on (at-hit alone next (h .listed) (starts h (h .list) over (w .held) (w .behind) (w .marks) (w .marks-behind)) e (omega arith) l) h in
+    record { hopeful = t .hopeful; held = t .held; behind = t .behind; marks = t .marks; marks-behind = t .marks-behind; within = omega (arith, room, w .within) }
 
 -- ---- at a last cut that is promising
 
-module _ {T : Trip} {rows : List ℕ} {patterns : ℕ} {r forwards backwards stayed late cuts table dues : List ℕ} {examined left : ℕ}
-    (given : Triable T rows patterns r forwards backwards stayed late cuts table dues examined left) {limit : ℕ} (limit-is : limit ≡ min patterns (left - examined)) where
-  pub findable : Findable T r forwards backwards stayed cuts rows late table dues limit
+module _ {T : Trip} {members rows : List ℕ} {patterns : ℕ} {r forwards backwards stayed late : List ℕ} {since : ℕ} {cuts table dues words : List ℕ} {examined left : ℕ}
+    (given : Triable T members rows patterns r forwards backwards stayed late since cuts table dues words examined left) {limit : ℕ} (limit-is : limit ≡ min patterns (left - examined)) where
+  pub findable : Findable T members r forwards backwards stayed cuts rows late since table dues words limit
   findable =
       let h = given .hopeful in
       record {
@@ -262,14 +278,19 @@ module _ {T : Trip} {rows : List ℕ} {patterns : ℕ} {r forwards backwards sta
         latenesses = h .latenesses;
         held = given .held;
         behind = given .behind;
+        lent = h .lent;
+        front = h .front;
+        back = h .back;
+        marks = given .marks;
+        marks-behind = given .marks-behind;
         padded = h .padded;
       }
 
-  module _ {i : ℕ} {table′ dues′ : List ℕ} (found : Found T r cuts rows limit i table′ dues′) where
+  module _ {i : ℕ} {table′ dues′ words′ : List ℕ} (found : Found T members r cuts rows limit i table′ dues′ words′) where
     pub room-left : examined + i ≤ left
     room-left = omega (arith, found .within, given .within)
 
-    module _ {first : List ℕ} {ps : List Pattern} (list : Listed (length first) patterns rows ps) (going : Going T ps r first left cuts table dues examined) where
+    module _ {first : List ℕ} {ps : List Pattern} (list : Listed (length first) patterns rows ps) (going : Going T ps members r first left cuts table dues words examined) where
       gain : FirstGain (problem T) ps (length cuts) r cuts limit i
       gain = found .first ps (rw (going .many) (list .patterned)) (omega (arith, list .many))
 
@@ -287,7 +308,7 @@ module _ {T : Trip} {rows : List ℕ} {patterns : ℕ} {r forwards backwards sta
           up-to (last-cut first) (last-cut cuts) (length ps) i (going .from) (omega (arith, gain .within, list .many)) (improves-at (problem T) ps r first)
           (going .idle) here t x h l (omega (arith, n, going .count))
 
-      pub gains : i < limit → StepTo T ps r first left (last-cut cuts) (Done (record { examined = examined + i; gains = true; through = false; pattern = i })) cuts table′ dues′
+      pub gains : i < limit → StepTo T ps members r first left (last-cut cuts) (Done (record { examined = examined + i; gains = true; through = false; pattern = i })) cuts table′ dues′ words′
       gains h =
           answered going (found .padded) idle-now room-left
           (λ _. (
@@ -310,7 +331,7 @@ module _ {T : Trip} {rows : List ℕ} {patterns : ℕ} {r forwards backwards sta
         reached = omega (arith, gain .within)
 
         -- The allowance ends on this cut set.
-        pub spent-here : limit < patterns → StepTo T ps r first left (last-cut cuts) (Done (idle-end (examined + i) false)) cuts table′ dues′
+        pub spent-here : limit < patterns → StepTo T ps members r first left (last-cut cuts) (Done (idle-end (examined + i) false)) cuts table′ dues′ words′
         spent-here h =
             answered going (found .padded) idle-now room-left
             (λ e. absurd (true≢false (sym e)))
@@ -325,14 +346,14 @@ module _ {T : Trip} {rows : List ℕ} {patterns : ℕ} {r forwards backwards sta
           counted = omega (arith, reached, list .many, going .count, count-next (last-cut first) (last-cut cuts) (length ps) (going .from))
 
           -- It was the last one.
-          pub ends : last-cut cuts ≡ length r → StepTo T ps r first left (last-cut cuts) (Done (idle-end (examined + i) true)) cuts table′ dues′
+          pub ends : last-cut cuts ≡ length r → StepTo T ps members r first left (last-cut cuts) (Done (idle-end (examined + i) true)) cuts table′ dues′ words′
           ends e =
               answered going (found .padded) idle-now room-left
               (λ e. absurd (true≢false (sym e)))
               (λ _. (counted ∙ ap (λ c. (c + 1 - last-cut first) * length ps) e, cuts-are going ∙ ap (λ c. first-cuts first ++ (c ∷ [])) e))
               (λ _ e. absurd (true≢false e))
 
-          pub goes-on : (last-cut cuts ≡ length r → ⊥) → StepTo T ps r first left (last-cut cuts) (On (examined + i)) (set cuts (length cuts - 1) (last-cut cuts + 1)) table′ dues′
+          pub goes-on : (last-cut cuts ≡ length r → ⊥) → StepTo T ps members r first left (last-cut cuts) (On (examined + i)) (set cuts (length cuts - 1) (last-cut cuts + 1)) table′ dues′ words′
           goes-on n =
               let f = first-of-cuts (first-cuts first) (last-cut cuts + 1) in
               let e = last-of-cuts (first-cuts first) (last-cut cuts + 1) in
@@ -349,6 +370,8 @@ module _ {T : Trip} {rows : List ℕ} {patterns : ℕ} {r forwards backwards sta
                   padded = found .padded;
                   held = rw (going .same) at (found .held);
                   behind = rw e (omega (arith, found .behind));
+                  marks = rw (going .same) at (found .marks);
+                  marks-behind = rw e (omega (arith, found .marks-behind));
                 },
                 rw e (omega arith),
               )

@@ -2,9 +2,10 @@
 use mathlib.Core.Path.{_≡_}
 use mathlib.Core.Bool.{Bool, true, false}
 use mathlib.Core.List.{List, [], _∷_, _++_}
-use Prim.Native.Nat.{ℕ, _+_, _-_, _*_, _≤_, _<_}
-use lib.ListN.{length, getD, take}
+use Prim.Native.Nat.{ℕ, min, _+_, _-_, _*_, _≤_, _<_}
+use lib.ListN.{length, getD, take, drop}
 use Rattle.theory.specs.Moves.{Pattern}
+use Rattle.theory.specs.Pairs.{pairs-of, front-kept}
 use Rattle.theory.specs.Scan.{improves}
 use Rattle.theory.specs.Route.{Problem, on-time}
 use Rattle.theory.specs.Polish.{search-of, move-at}
@@ -16,6 +17,8 @@ use Rattle.costs.specs.RouteCosts.{first-cuts, last-cut}
 use Rattle.scan_shared.specs.Prepared.{Opened}
 use Rattle.scan_shared.specs.Filling.{PreparedNow}
 use Rattle.deadline_dues.specs.Dues.{DuesHeld}
+use Rattle.precedence.specs.Words.{PairsLent, FrontReach, BackSince}
+use Rattle.precedence_marks.specs.Held.{MarksKept}
 use Rattle.scan_cut_set.specs.Gain.{Searchable}
 use Rattle.scan_stretch.specs.declared.Stretch.{Stretch}
 use Rattle.scan_stretch.specs.declared.Step.{Step}
@@ -30,29 +33,42 @@ pub record Listed (k patterns : ℕ) (rows : List ℕ) (ps : List Pattern) : Typ
 abbrev pub idle-end : ℕ → Bool → Stretch
 idle-end examined through = record { examined = examined; gains = false; through = through; pattern = 0 }
 
--- What the inner step reads, behind a head that is on time.
-pub record Hopeful (T : Trip) (rows : List ℕ) (patterns : ℕ) (route forward-sums backward-sums stayed late cuts table : List ℕ) : Type 0 where
+-- What the inner step reads, behind a head that is on time and keeps its pairs.
+pub record Hopeful (T : Trip) (members rows : List ℕ) (patterns : ℕ) (route forward-sums backward-sums stayed late : List ℕ) (since : ℕ) (cuts table : List ℕ) : Type 0 where
   pub searchable : Searchable T route forward-sums backward-sums stayed cuts
   pub list : List Pattern
   pub listed : Listed (length cuts) patterns rows list
   pub padded : Padded table
   pub early : on-time (clock-by (T .tables)) (T .depot) 0 (take (getD cuts 0 0) route) ≡ true
   pub latenesses : Latenesses (clock-by (T .tables)) (T .depot) route late
+  pub lent : PairsLent (pairs-of (T .pairs)) members
+  pub front : front-kept (pairs-of (T .pairs)) (take (getD cuts 0 0) route) (drop (getD cuts 0 0) route) ≡ true
+  pub back : BackSince (pairs-of (T .pairs)) route since
 
--- What a stretch is scanned from, behind a head that is on time: its first cut set.
-pub record LastCutsScannable (T : Trip) (rows : List ℕ) (patterns : ℕ) (route forward-sums backward-sums stayed late cuts table : List ℕ) : Type 0 where
-  pub hopeful : Hopeful T rows patterns route forward-sums backward-sums stayed late cuts table
+-- What a stretch is scanned from, behind such a head: its first cut set.
+pub record LastCutsScannable (T : Trip) (members rows : List ℕ) (patterns : ℕ) (route forward-sums backward-sums stayed late : List ℕ) (since : ℕ) (cuts table : List ℕ) : Type 0 where
+  pub hopeful : Hopeful T members rows patterns route forward-sums backward-sums stayed late since cuts table
   pub first : Opened cuts
 
+-- The longest head with which a candidate may keep every deadline and every pair: the lesser of both.
+pub record LongestKept (T : Trip) (route : List ℕ) (longest : ℕ) : Type 0 where
+  pub punctual : ℕ
+  pub timed : LongestHead (clock-by (T .tables)) (T .depot) route punctual
+  pub reach : ℕ
+  pub front : FrontReach (pairs-of (T .pairs)) route reach
+  pub lesser : longest ≡ min punctual reach
+
 -- The same behind any head, with the longest that a candidate may have.
-pub record Stretchable (T : Trip) (rows : List ℕ) (patterns : ℕ) (route forward-sums backward-sums stayed : List ℕ) (longest : ℕ) (late cuts table : List ℕ) : Type 0 where
+pub record Stretchable (T : Trip) (members rows : List ℕ) (patterns : ℕ) (route forward-sums backward-sums stayed : List ℕ) (longest : ℕ) (late : List ℕ) (since : ℕ) (cuts table : List ℕ) : Type 0 where
   pub searchable : Searchable T route forward-sums backward-sums stayed cuts
   pub list : List Pattern
   pub listed : Listed (length cuts) patterns rows list
   pub padded : Padded table
   pub first : Opened cuts
-  pub head : LongestHead (clock-by (T .tables)) (T .depot) route longest
+  pub head : LongestKept T route longest
   pub latenesses : Latenesses (clock-by (T .tables)) (T .depot) route late
+  pub lent : PairsLent (pairs-of (T .pairs)) members
+  pub back : BackSince (pairs-of (T .pairs)) route since
 
 -- The last cut of a route of so many stops, to be passed over with the last cuts behind it.
 pub record Passable (stops patterns : ℕ) (cuts : List ℕ) : Type 0 where
@@ -106,7 +122,7 @@ pub record Stretched (P : Problem) (patterns : ℕ) (rows route cuts : List ℕ)
 -- ---- a step of it
 
 -- A cut set of the stretch with the first cut set `first`: the candidates before it are examined, and none improves the route.
-pub record Going (T : Trip) (ps : List Pattern) (route first : List ℕ) (left : ℕ) (cuts table dues : List ℕ) (examined : ℕ) : Type 0 where
+pub record Going (T : Trip) (ps : List Pattern) (members route first : List ℕ) (left : ℕ) (cuts table dues words : List ℕ) (examined : ℕ) : Type 0 where
   pub begin : CutSet (length first) (length route) first
   pub cut-set : CutSet (length cuts) (length route) cuts
   pub many : length cuts ≡ length first
@@ -118,28 +134,32 @@ pub record Going (T : Trip) (ps : List Pattern) (route first : List ℕ) (left :
   pub padded : Padded table
   pub held : DuesHeld (clock-by (T .tables)) route (first-cuts first) dues
   pub behind : getD dues 8 0 ≤ last-cut cuts
+  pub marks : MarksKept (pairs-of (T .pairs)) members route (first-cuts first) words
+  pub marks-behind : getD words 16 0 ≤ last-cut cuts
 
 -- Where a step leads, from the last cut `last`: the stretch has ended, or a later one is at hand.
-abbrev pub StepTo : Trip → List Pattern → List ℕ → List ℕ → ℕ → ℕ → Step → List ℕ → List ℕ → List ℕ → Type 0
-StepTo T ps route first left last (Done answer) cuts table dues = Ended (problem T) ps route first left answer cuts × Padded table
-StepTo T ps route first left last (On examined) cuts table dues = Going T ps route first left cuts table dues examined × (last < last-cut cuts)
+abbrev pub StepTo : Trip → List Pattern → List ℕ → List ℕ → List ℕ → ℕ → ℕ → Step → List ℕ → List ℕ → List ℕ → List ℕ → Type 0
+StepTo T ps members route first left last (Done answer) cuts table dues words = Ended (problem T) ps route first left answer cuts × Padded table
+StepTo T ps members route first left last (On examined) cuts table dues words = Going T ps members route first left cuts table dues words examined × (last < last-cut cuts)
 
 -- It carries on whichever stretch the cut set is of, with whichever patterns the rows are of.
-abbrev pub Carried : Trip → List ℕ → ℕ → List ℕ → List ℕ → List ℕ → List ℕ → ℕ → ℕ → Step → List ℕ → List ℕ → List ℕ → Type 0
-Carried T rows patterns route cuts table dues examined left answer cuts′ table′ dues′ =
-    (first : List ℕ) (ps : List Pattern) → Listed (length first) patterns rows ps → Going T ps route first left cuts table dues examined →
-    StepTo T ps route first left (last-cut cuts) answer cuts′ table′ dues′
+abbrev pub Carried : Trip → List ℕ → List ℕ → ℕ → List ℕ → List ℕ → List ℕ → List ℕ → List ℕ → ℕ → ℕ → Step → List ℕ → List ℕ → List ℕ → List ℕ → Type 0
+Carried T members rows patterns route cuts table dues words examined left answer cuts′ table′ dues′ words′ =
+    (first : List ℕ) (ps : List Pattern) → Listed (length first) patterns rows ps → Going T ps members route first left cuts table dues words examined →
+    StepTo T ps members route first left (last-cut cuts) answer cuts′ table′ dues′ words′
 
--- A cut set that can be tried, with what is held of the dues.
-pub record Triable (T : Trip) (rows : List ℕ) (patterns : ℕ) (route forward-sums backward-sums stayed late cuts table dues : List ℕ) (examined left : ℕ) : Type 0 where
-  pub hopeful : Hopeful T rows patterns route forward-sums backward-sums stayed late cuts table
+-- A cut set that can be tried, with what is held of the dues and of the words.
+pub record Triable (T : Trip) (members rows : List ℕ) (patterns : ℕ) (route forward-sums backward-sums stayed late : List ℕ) (since : ℕ) (cuts table dues words : List ℕ) (examined left : ℕ) : Type 0 where
+  pub hopeful : Hopeful T members rows patterns route forward-sums backward-sums stayed late since cuts table
   pub held : DuesHeld (clock-by (T .tables)) route (first-cuts cuts) dues
   pub behind : getD dues 8 0 ≤ last-cut cuts
+  pub marks : MarksKept (pairs-of (T .pairs)) members route (first-cuts cuts) words
+  pub marks-behind : getD words 16 0 ≤ last-cut cuts
   pub within : examined ≤ left
 
 -- The same with what is kept of the first cuts. `zero` holds nothing.
-pub record Steppable (T : Trip) (rows : List ℕ) (patterns : ℕ) (route forward-sums backward-sums stayed late cuts entries exits inside low zero table dues : List ℕ) (examined left : ℕ) : Type 0 where
-  pub triable : Triable T rows patterns route forward-sums backward-sums stayed late cuts table dues examined left
+pub record Steppable (T : Trip) (members rows : List ℕ) (patterns : ℕ) (route forward-sums backward-sums stayed late : List ℕ) (since : ℕ) (cuts entries exits inside low zero table dues words : List ℕ) (examined left : ℕ) : Type 0 where
+  pub triable : Triable T members rows patterns route forward-sums backward-sums stayed late since cuts table dues words examined left
   pub prepared : PreparedNow (T .tables .locations) (T .tables .legs) (T .depot) route cuts rows patterns entries exits inside low
   pub zero-places : length zero ≡ 21
   pub zero-is : (x : ℕ) → getD zero x 0 ≡ 0

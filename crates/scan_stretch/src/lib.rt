@@ -1,5 +1,6 @@
 // A stretch of the scan: the cut sets with the same first cuts, in their order. Those that can hold no gain are passed over and counted. No entry: crate scan_loop calls it.
 use deadline_dues::DUE_PLACES;
+use precedence_marks::MARK_PLACES;
 use scan_joints::CELLS;
 use scan_joints::ROW_BYTES;
 use scan_joints::STATES;
@@ -76,6 +77,8 @@ fn try_cut_set(
     service: &[u32],
     depot: u32,
     end: u32,
+    pairs: &[u32],
+    members: &[u64],
     rows: &[u8; ROW_BYTES],
     patterns: usize,
     route: &[u32],
@@ -83,14 +86,16 @@ fn try_cut_set(
     backward: &[u64; STOPS],
     stayed: &[u64; CUT_PLACES],
     lateness: &[u64; CUT_PLACES],
+    since: usize,
     cuts: &mut [usize],
     joint: &mut [u64; CELLS],
     dues: &mut [u64; DUE_PLACES],
+    held: &mut [u64; MARK_PLACES],
     examined: u64,
     left: u64,
 ) -> Step
-    requires { ⌜ Triable (trip locations (now legs) (now latest) (now service) depot end) (now rows) patterns (now route) (now forward) (now backward) (now stayed) (now lateness) (now cuts) (now joint) (now dues) examined left ⌝ }
-    ensures { λ r. ⌜ Carried (trip locations (now (legs .entry)) (now (latest .entry)) (now (service .entry)) depot end) (now (rows .entry)) patterns (now (route .entry)) (now (cuts .entry)) (now (joint .entry)) (now (dues .entry)) examined left r (now (cuts .exit)) (now (joint .exit)) (now (dues .exit)) ⌝ }
+    requires { ⌜ Triable (trip locations (now legs) (now latest) (now service) depot end (now pairs)) (now members) (now rows) patterns (now route) (now forward) (now backward) (now stayed) (now lateness) since (now cuts) (now joint) (now dues) (now held) examined left ⌝ }
+    ensures { λ r. ⌜ Carried (trip locations (now (legs .entry)) (now (latest .entry)) (now (service .entry)) depot end (now (pairs .entry))) (now (members .entry)) (now (rows .entry)) patterns (now (route .entry)) (now (cuts .entry)) (now (joint .entry)) (now (dues .entry)) (now (held .entry)) examined left r (now (cuts .exit)) (now (joint .exit)) (now (dues .exit)) (now (held .exit)) ⌝ }
 {
     let limit = still_allowed(patterns, left - examined);
     let found = scan_cut_set::first_gain(
@@ -100,6 +105,8 @@ fn try_cut_set(
         service,
         depot,
         end,
+        pairs,
+        members,
         route,
         forward,
         backward,
@@ -107,8 +114,10 @@ fn try_cut_set(
         &cuts[..],
         rows,
         lateness,
+        since,
         joint,
         dues,
+        held,
         limit,
     );
     let reached = examined + found as u64;
@@ -140,6 +149,8 @@ fn take_step(
     service: &[u32],
     depot: u32,
     end: u32,
+    pairs: &[u32],
+    members: &[u64],
     rows: &[u8; ROW_BYTES],
     patterns: usize,
     route: &[u32],
@@ -147,6 +158,7 @@ fn take_step(
     backward: &[u64; STOPS],
     stayed: &[u64; CUT_PLACES],
     lateness: &[u64; CUT_PLACES],
+    since: usize,
     cuts: &mut [usize],
     entries: &[u32; STATES],
     exits: &[u32; STATES],
@@ -155,11 +167,12 @@ fn take_step(
     zero: &[u64; LOW_PLACES],
     joint: &mut [u64; CELLS],
     dues: &mut [u64; DUE_PLACES],
+    held: &mut [u64; MARK_PLACES],
     examined: u64,
     left: u64,
 ) -> Step
-    requires { ⌜ Steppable (trip locations (now legs) (now latest) (now service) depot end) (now rows) patterns (now route) (now forward) (now backward) (now stayed) (now lateness) (now cuts) (now entries) (now exits) (now inside) (now low) (now zero) (now joint) (now dues) examined left ⌝ }
-    ensures { λ r. ⌜ Carried (trip locations (now (legs .entry)) (now (latest .entry)) (now (service .entry)) depot end) (now (rows .entry)) patterns (now (route .entry)) (now (cuts .entry)) (now (joint .entry)) (now (dues .entry)) examined left r (now (cuts .exit)) (now (joint .exit)) (now (dues .exit)) ⌝ }
+    requires { ⌜ Steppable (trip locations (now legs) (now latest) (now service) depot end (now pairs)) (now members) (now rows) patterns (now route) (now forward) (now backward) (now stayed) (now lateness) since (now cuts) (now entries) (now exits) (now inside) (now low) (now zero) (now joint) (now dues) (now held) examined left ⌝ }
+    ensures { λ r. ⌜ Carried (trip locations (now (legs .entry)) (now (latest .entry)) (now (service .entry)) depot end (now (pairs .entry))) (now (members .entry)) (now (rows .entry)) patterns (now (route .entry)) (now (cuts .entry)) (now (joint .entry)) (now (dues .entry)) (now (held .entry)) examined left r (now (cuts .exit)) (now (joint .exit)) (now (dues .exit)) (now (held .exit)) ⌝ }
 {
     let last = cuts.len() - 1;
     let hit = scan_bound::next_promising(
@@ -194,6 +207,8 @@ fn take_step(
         service,
         depot,
         end,
+        pairs,
+        members,
         rows,
         patterns,
         route,
@@ -201,15 +216,17 @@ fn take_step(
         backward,
         stayed,
         lateness,
+        since,
         cuts,
         joint,
         dues,
+        held,
         reached,
         left,
     )
 }
 
-// Last cut by last cut, behind a head that is on time.
+// Last cut by last cut, behind a head that is on time and keeps its pairs.
 fn scan_last_cuts(
     locations: usize,
     legs: &[u32],
@@ -217,6 +234,8 @@ fn scan_last_cuts(
     service: &[u32],
     depot: u32,
     end: u32,
+    pairs: &[u32],
+    members: &[u64],
     rows: &[u8; ROW_BYTES],
     patterns: usize,
     route: &[u32],
@@ -224,18 +243,20 @@ fn scan_last_cuts(
     backward: &[u64; STOPS],
     stayed: &[u64; CUT_PLACES],
     lateness: &[u64; CUT_PLACES],
+    since: usize,
     cuts: &mut [usize],
     joint: &mut [u64; CELLS],
     left: u64,
 ) -> Stretch
-    requires { ⌜ LastCutsScannable (trip locations (now legs) (now latest) (now service) depot end) (now rows) patterns (now route) (now forward) (now backward) (now stayed) (now lateness) (now cuts) (now joint) ⌝ }
-    ensures { λ r. ⌜ Stretched (problem (trip locations (now (legs .entry)) (now (latest .entry)) (now (service .entry)) depot end)) patterns (now (rows .entry)) (now (route .entry)) (now (cuts .entry)) left r (now (cuts .exit)) (now (joint .exit)) ⌝ }
+    requires { ⌜ LastCutsScannable (trip locations (now legs) (now latest) (now service) depot end (now pairs)) (now members) (now rows) patterns (now route) (now forward) (now backward) (now stayed) (now lateness) since (now cuts) (now joint) ⌝ }
+    ensures { λ r. ⌜ Stretched (problem (trip locations (now (legs .entry)) (now (latest .entry)) (now (service .entry)) depot end (now (pairs .entry)))) patterns (now (rows .entry)) (now (route .entry)) (now (cuts .entry)) left r (now (cuts .exit)) (now (joint .exit)) ⌝ }
 {
     let mut entries = [0u32; STATES];
     let mut exits = [0u32; STATES];
     let mut inside = [0u64; STATES];
     let mut low = [0u64; LOW_PLACES];
     let mut dues = [0u64; DUE_PLACES];
+    let mut held = [0u64; MARK_PLACES];
     let zero = [0u64; LOW_PLACES];
     scan_shared::prepare(
         locations,
@@ -261,6 +282,8 @@ fn scan_last_cuts(
             service,
             depot,
             end,
+            pairs,
+            members,
             rows,
             patterns,
             route,
@@ -268,6 +291,7 @@ fn scan_last_cuts(
             backward,
             stayed,
             lateness,
+            since,
             cuts,
             &entries,
             &exits,
@@ -276,6 +300,7 @@ fn scan_last_cuts(
             &zero,
             joint,
             &mut dues,
+            &mut held,
             examined,
             left,
         );
@@ -287,7 +312,7 @@ fn scan_last_cuts(
 }
 
 // From the first cut set with its first cuts on, the first of the `left` candidates still allowed that improves the route. With a head beyond the longest, no
-// candidate keeps every deadline.
+// candidate keeps every deadline and every pair.
 pub fn scan_stretch(
     locations: usize,
     legs: &[u32],
@@ -295,6 +320,8 @@ pub fn scan_stretch(
     service: &[u32],
     depot: u32,
     end: u32,
+    pairs: &[u32],
+    members: &[u64],
     rows: &[u8; ROW_BYTES],
     patterns: usize,
     route: &[u32],
@@ -303,12 +330,13 @@ pub fn scan_stretch(
     stayed: &[u64; CUT_PLACES],
     longest: usize,
     lateness: &[u64; CUT_PLACES],
+    since: usize,
     cuts: &mut [usize],
     joint: &mut [u64; CELLS],
     left: u64,
 ) -> Stretch
-    requires { ⌜ Stretchable (trip locations (now legs) (now latest) (now service) depot end) (now rows) patterns (now route) (now forward) (now backward) (now stayed) longest (now lateness) (now cuts) (now joint) ⌝ }
-    ensures { λ r. ⌜ Stretched (problem (trip locations (now (legs .entry)) (now (latest .entry)) (now (service .entry)) depot end)) patterns (now (rows .entry)) (now (route .entry)) (now (cuts .entry)) left r (now (cuts .exit)) (now (joint .exit)) ⌝ }
+    requires { ⌜ Stretchable (trip locations (now legs) (now latest) (now service) depot end (now pairs)) (now members) (now rows) patterns (now route) (now forward) (now backward) (now stayed) longest (now lateness) since (now cuts) (now joint) ⌝ }
+    ensures { λ r. ⌜ Stretched (problem (trip locations (now (legs .entry)) (now (latest .entry)) (now (service .entry)) depot end (now (pairs .entry)))) patterns (now (rows .entry)) (now (route .entry)) (now (cuts .entry)) left r (now (cuts .exit)) (now (joint .exit)) ⌝ }
 {
     if longest < cuts[0] {
         return pass_stretch(route.len(), patterns, cuts, left);
@@ -320,6 +348,8 @@ pub fn scan_stretch(
         service,
         depot,
         end,
+        pairs,
+        members,
         rows,
         patterns,
         route,
@@ -327,6 +357,7 @@ pub fn scan_stretch(
         backward,
         stayed,
         lateness,
+        since,
         cuts,
         joint,
         left,

@@ -1,7 +1,8 @@
 -- A route measured, and one taken in its place: what the functions ask and give.
 use mathlib.Core.Path.{_≡_}
+use mathlib.Core.Logic.{_⊎_}
 use mathlib.Core.List.{List}
-use Prim.Native.Nat.{ℕ, _≤_}
+use Prim.Native.Nat.{ℕ, min, _≤_}
 use lib.ListN.{length, getD}
 use Rattle.theory.specs.Moves.{total}
 use Rattle.theory.specs.Costs.{forward, backward}
@@ -10,21 +11,33 @@ use Rattle.costs.specs.RouteCosts.{leg, Sums}
 use Rattle.deadlines.specs.Stays.{Stays, StaysFillable}
 use Rattle.deadlines.specs.Lateness.{LongestHead, Latenesses}
 use Rattle.candidates.specs.Candidate.{candidate, Candidate}
+use Rattle.precedence_marks.specs.Held.{HeadLimit, TailSince}
+use Rattle.scan_taking.specs.declared.Limits.{Limits}
 
--- A route, and places for its sums, its stays and its lateness.
-pub record MeasureAsked (T : Tables) (depot : ℕ) (route forward-sums backward-sums stayed late : List ℕ) : Type 0 where
+-- From the longest head that is on time: the lesser of it and the longest that keeps its pairs, and where the longest tail begins that does.
+pub record LimitsTold (members route : List ℕ) (punctual : ℕ) (limits : Limits) : Type 0 where
+  pub reach : ℕ
+  pub front : HeadLimit members route reach
+  pub lesser : limits .longest ≡ min punctual reach
+  pub back : TailSince members route (limits .since)
+
+-- A route, the words of its pairs or none, and places for its sums, its stays and its lateness.
+pub record MeasureAsked (T : Tables) (depot : ℕ) (members route forward-sums backward-sums stayed late : List ℕ) : Type 0 where
   pub clocked : Clocked T depot route
+  pub sized : (length members ≡ 0) ⊎ (length members ≡ 2048)
   pub forward-places : length forward-sums ≡ 512
   pub backward-places : length backward-sums ≡ 512
   pub stay-places : length stayed ≡ 513
   pub late-places : length late ≡ 513
 
--- Its sums and stays, the longest head, and the lateness from each position on.
-pub record Measured (T : Tables) (depot : ℕ) (route forward-sums backward-sums stayed : List ℕ) (longest : ℕ) (late : List ℕ) : Type 0 where
+-- Its sums and stays, the longest head that is on time, what it leaves to its candidates, and the lateness from each position on.
+pub record Measured (T : Tables) (depot : ℕ) (members route forward-sums backward-sums stayed : List ℕ) (limits : Limits) (late : List ℕ) : Type 0 where
   pub forwards : Sums route (forward (leg (T .locations) (T .legs)) route) forward-sums
   pub backwards : Sums route (backward (leg (T .locations) (T .legs)) route) backward-sums
   pub stays : Stays (T .service) route stayed
-  pub head : LongestHead (clock-by T) depot route longest
+  pub punctual : ℕ
+  pub head : LongestHead (clock-by T) depot route punctual
+  pub told : LimitsTold members route punctual limits
   pub latenesses : Latenesses (clock-by T) depot route late
 
 -- Places for the lateness of a route of so many stops.

@@ -3,30 +3,59 @@ use deadlines::fill_lateness;
 use theory::CUT_PLACES;
 use theory::STOPS;
 ghost use mathlib.Core.Path.{_≡_};
+ghost use Prim.Native.Nat.{min};
 ghost use Rattle.theory.specs.Tables.{tables};
 ghost use Rattle.deadlines.specs.Stays.{StaysFillable};
-ghost use Rattle.scan_taking.specs.Measure.{MeasureAsked, Measured, Clearable, Cleared, StaysAnew, Takeable, Taken};
+ghost use Rattle.precedence_marks.specs.Held.{RouteTellable};
+ghost use Rattle.scan_taking.specs.Measure.{LimitsTold, MeasureAsked, Measured, Clearable, Cleared, StaysAnew, Takeable, Taken};
 
-// The running sums of a route, and what it leaves to its candidates; the answer is the longest head.
+// What a route leaves to its candidates: the longest head that is on time and keeps its pairs, and where the longest tail begins that keeps its own.
+pub struct Limits {
+    pub longest: usize,
+    pub since: usize,
+}
+
+fn lesser(a: usize, b: usize) -> usize
+    ensures { λ r. ⌜ r ≡ min a b ⌝ }
+{
+    if a < b {
+        return a;
+    }
+    b
+}
+
+// From the longest head that is on time.
+fn tell_limits(punctual: usize, members: &[u64], route: &[u32]) -> Limits
+    requires { ⌜ RouteTellable (now members) (now route) ⌝ }
+    ensures { λ r. ⌜ LimitsTold (now (members .entry)) (now (route .entry)) punctual r ⌝ }
+{
+    let reach = precedence_marks::head_limit(members, route);
+    let longest = lesser(punctual, reach);
+    let since = precedence_marks::tail_since(members, route);
+    Limits { longest, since }
+}
+
+// The running sums of a route, and what it leaves to its candidates; `members` are the words of the pairs.
 pub fn measure(
     locations: usize,
     legs: &[u32],
     latest: &[u32],
     service: &[u32],
     depot: u32,
+    members: &[u64],
     route: &[u32],
     forward: &mut [u64; STOPS],
     backward: &mut [u64; STOPS],
     stayed: &mut [u64; CUT_PLACES],
     lateness: &mut [u64; CUT_PLACES],
-) -> usize
-    requires { ⌜ MeasureAsked (tables locations (now legs) (now latest) (now service)) depot (now route) (now forward) (now backward) (now stayed) (now lateness) ⌝ }
-    ensures { λ r. ⌜ Measured (tables locations (now (legs .entry)) (now (latest .entry)) (now (service .entry))) depot (now (route .entry)) (now (forward .exit)) (now (backward .exit)) (now (stayed .exit)) r (now (lateness .exit)) ⌝ }
+) -> Limits
+    requires { ⌜ MeasureAsked (tables locations (now legs) (now latest) (now service)) depot (now members) (now route) (now forward) (now backward) (now stayed) (now lateness) ⌝ }
+    ensures { λ r. ⌜ Measured (tables locations (now (legs .entry)) (now (latest .entry)) (now (service .entry))) depot (now (members .entry)) (now (route .entry)) (now (forward .exit)) (now (backward .exit)) (now (stayed .exit)) r (now (lateness .exit)) ⌝ }
 {
     costs::forward_sums(locations, legs, route, forward);
     costs::backward_sums(locations, legs, route, backward);
     deadlines::fill_stays(service, route, stayed);
-    fill_lateness(
+    let punctual = fill_lateness(
         locations,
         legs,
         latest,
@@ -36,7 +65,8 @@ pub fn measure(
         forward,
         stayed,
         lateness,
-    )
+    );
+    tell_limits(punctual, members, route)
 }
 
 // No stop of an accepted route is late. Where none was before, the table says so already.

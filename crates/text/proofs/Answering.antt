@@ -1,7 +1,7 @@
 -- The answer to a question, over plain values: refused, or polished and printed. Assumes nothing.
 use mathlib.Core.Path.{_≡_, refl, sym, ap, _∙_}
 use mathlib.Core.Logic.{_↔_}
-use mathlib.Core.List.{List}
+use mathlib.Core.List.{List, []}
 use Prim.Native.Nat.{ℕ}
 use borrow.Author.Tests.{ne-eqb, eq-eqb}
 use Rattle.theory.specs.Moves.{patterns}
@@ -15,7 +15,7 @@ use Rattle.theory.specs.declared.Polished.the-variants.{Finished, Spent}
 use Rattle.theory.proofs.LatePosition.{late-position-none}
 use Rattle.theory.proofs.Refusals.{known, accepted}
 use Rattle.polishing.specs.Loop.{Polishable}
-use Rattle.polishing.proofs.Judged.{polishable-fine}
+use Rattle.polishing.proofs.Judged.{polishable-fine, none-lent}
 use Rattle.text_printing.specs.Answer.{none-line, late-line, refusal-text, Printed}
 use Rattle.text_printing.proofs.Answer.{none-exactly}
 use Rattle.text.specs.Program.{reply-text, question-text, polished-text}
@@ -42,6 +42,6 @@ module _ (q : Question) (number : ℕ) (judged : number ≡ refusal (question-ru
       let P = problem (q .trip) in
       rw (← judged, eq-eqb number 0 h) (rw (text-is P (q .route) route′ answer (p .before) (p .after) (p .late) ∙ ap (reply-text P (q .route)) (p .scan)) at t)
 
-pub fine : (q : Question) (number : ℕ) → number ≡ refusal (question-rules q) → number ≡ 0 → Polishable (q .k) (q .trip) (q .route)
+pub fine : (q : Question) (number : ℕ) → number ≡ refusal (question-rules q) → number ≡ 0 → q .trip .pairs ≡ [] → Polishable (q .k) (q .trip) [] (q .route)
 unfolding known
-fine q number judged h = polishable-fine q (accepted (question-rules q) refl (sym judged ∙ h))
+fine q number judged h none = polishable-fine q [] (rw none (none-lent [] refl)) (accepted (question-rules q) refl (sym judged ∙ h))

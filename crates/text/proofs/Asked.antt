@@ -1,6 +1,6 @@
 -- A text that was read: its question, the places of its tables, and what the program tells of it. Assumes nothing.
 use mathlib.Core.Path.{_≡_, refl, sym, ap, _∙_, subst}
-use mathlib.Core.List.{List}
+use mathlib.Core.List.{List, []}
 use mathlib.Core.Option.{none, some}
 use Prim.Native.Nat.{ℕ, _*_, _≤_}
 use native.Mathlib.Omega.{arith}
@@ -50,7 +50,7 @@ module _ (text : List ℕ) (T : Tables) (stops : List ℕ) {answer : Reading} (a
 
   module _ (h : Header) (count : ℕ) (is : answer ≡ R.Question h count) where
     abbrev question : Question
-    question = record { k = h .k; allowance = h .allowance; trip = record { tables = front (h .locations) T; depot = h .depot; end = h .end }; route = take count stops }
+    question = record { k = h .k; allowance = h .allowance; trip = record { tables = front (h .locations) T; depot = h .depot; end = h .end; pairs = [] }; route = take count stops }
 
     read-is : read text ≡ some question
     read-is = answered .reads ∙ ap (λ a. question-told a T stops) is

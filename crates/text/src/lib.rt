@@ -34,7 +34,7 @@ fn print_polished(answer: Polished, route: &[u32], out: &mut [u8]) -> usize
     }
 }
 
-// The answer to a question that was read.
+// The answer to a question that was read. A text holds no pairs.
 fn answer_question(
     k: usize,
     allowance: u64,
@@ -63,6 +63,7 @@ fn answer_question(
     if refused != 0 {
         return text_printing::print_refusal(refused, out);
     }
+    let none = [0u64; 1];
     let answer = polishing::polish_route(
         k,
         allowance,
@@ -72,6 +73,8 @@ fn answer_question(
         service,
         depot,
         end,
+        &legs[..0],
+        &none[..0],
         stops,
     );
     print_polished(answer, &stops[..], out)

@@ -1,6 +1,6 @@
 -- The question line by line, as far as it is read, and what the answer then tells. Assumes nothing.
 use mathlib.Core.Path.{_≡_, _∙_}
-use mathlib.Core.List.{List, _++_}
+use mathlib.Core.List.{List, [], _++_}
 use mathlib.Core.Option.{none, some, bind}
 use Prim.Native.Nat.{ℕ, _*_, _≤_, _<_}
 use native.Mathlib.Nat.{mul-le-mul}
@@ -42,7 +42,7 @@ module _ (t : List ℕ) (short : length t ≤ 60000) where
         more-left h = whole ∙ rw (header-read, tables-read, round-read, drop-cons t end 0 h)
 
         pub question-read : length t ≤ end →
-            read t ≡ some (record { k = h .k; allowance = h .allowance; trip = record { tables = T; depot = h .depot; end = h .end }; route = stops })
+            read t ≡ some (record { k = h .k; allowance = h .allowance; trip = record { tables = T; depot = h .depot; end = h .end; pairs = [] }; route = stops })
         unfolding question-of bind
         question-read h = whole ∙ rw (header-read, tables-read, round-read, drop-of-length-le t {i = end} h)
 

@@ -47,6 +47,7 @@ question-sound t q l e =
         tables = g-is .2;
         small-header = h-is .small;
         small-route = s-is .1;
+        no-pairs = refl;
         short = rw (← text) l;
       },
     )
@@ -82,6 +83,7 @@ question-complete q h =
       header-complete start (tabled (q .trip .tables) round) (h .some-location) (h .few-locations) (h .small-header),
       tables-complete (q .trip .tables) round (h .tables),
       last-line (ascii "round=") 30000 (q .route) (h .small-route) (few-stops q (h .short)),
+      ← h .no-pairs,
     )
 
 -- THE LAW: "at most 60,000 bytes, 96 locations. Numbers have 1 to 10 digits, no leading zero (0 itself is allowed), at most 4294967295; each line ends in LF."

@@ -1,4 +1,5 @@
 -- The text of a question of document 01's text program, and which questions a text can hold.
+use mathlib.Core.Path.{_≡_}
 use mathlib.Core.List.{List, [], _∷_, _++_}
 use Prim.Native.Nat.{ℕ, zero, suc, _≤_}
 use lib.ListN.{length, take, drop}
@@ -33,11 +34,12 @@ pub record HeldTables (T : Tables) : Type 0 where
   pub small-latest : Small (T .latest)
   pub small-service : Small (T .service)
 
--- What a text can hold: "at most 60,000 bytes, 96 locations".
+-- What a text can hold: "at most 60,000 bytes, 96 locations", and no pairs.
 pub record Held (q : Question) : Type 0 where
   pub some-location : 1 ≤ q .trip .tables .locations
   pub few-locations : q .trip .tables .locations ≤ 96
   pub tables : HeldTables (q .trip .tables)
   pub small-header : Small (q .k ∷ q .allowance ∷ q .trip .depot ∷ q .trip .end ∷ [])
   pub small-route : Small (q .route)
+  pub no-pairs : q .trip .pairs ≡ []
   pub short : length (text-of q) ≤ 60000

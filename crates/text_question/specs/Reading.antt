@@ -43,7 +43,7 @@ question-of t =
     bind (header t) (λ h.
     bind (tables-of (h .0 .locations) (h .1)) (λ g.
     bind (line-of (ascii "round=") 30000 (g .1)) (λ route.
-    ended (record { k = h .0 .k; allowance = h .0 .allowance; trip = record { tables = g .0; depot = h .0 .depot; end = h .0 .end }; route = route .0 }) (route .1))))
+    ended (record { k = h .0 .k; allowance = h .0 .allowance; trip = record { tables = g .0; depot = h .0 .depot; end = h .0 .end; pairs = [] }; route = route .0 }) (route .1))))
 
 unfoldable pub read : List ℕ → Option Question
 unfolding question-of

@@ -1,6 +1,6 @@
 -- What the answers of the code say: the question read, or none.
 use mathlib.Core.Path.{_≡_}
-use mathlib.Core.List.{List}
+use mathlib.Core.List.{List, []}
 use mathlib.Core.Option.{Option, none, some}
 use Prim.Native.Nat.{ℕ, _*_, _≤_}
 use lib.ListN.{length, take, drop}
@@ -25,7 +25,7 @@ front n T = tables n (take (n * n) (T .legs)) (take n (T .latest)) (take n (T .s
 abbrev pub question-told : Reading → Tables → (stops : List ℕ) → Option Question
 question-told R.Malformed T stops = none
 question-told (R.Question h count) T stops =
-    some (record { k = h .k; allowance = h .allowance; trip = record { tables = front (h .locations) T; depot = h .depot; end = h .end }; route = take count stops })
+    some (record { k = h .k; allowance = h .allowance; trip = record { tables = front (h .locations) T; depot = h .depot; end = h .end; pairs = [] }; route = take count stops })
 
 abbrev pub stop-count : Reading → ℕ
 stop-count R.Malformed = 0

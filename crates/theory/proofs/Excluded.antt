@@ -9,6 +9,7 @@ use lib.Dec.{lit≤}
 use lib.ListN.{length, getD}
 use Rattle.theory.specs.Scan.{Reply, scan-from}
 use Rattle.theory.specs.Moves.{Pattern, patterns, Rising, binomial, cut-sets, candidates}
+use Rattle.theory.specs.Pairs.{pairs-of, pairs-kept}
 use Rattle.theory.specs.Route.{Problem, count, tour-length, reconnected, timely, feasible}
 use Rattle.theory.specs.Polish.{Demand3, polish}
 use Rattle.theory.specs.Refusals.{Rule, any, cut-count, leg-table, deadline-list, leg-sizes, service-list, known-stops, stop-count, room, refusal}
@@ -47,7 +48,7 @@ Reply-to-T r q = Demand3 (T (far ∷ far ∷ far ∷ []) none) (patterns 3) 3 10
 
 -- "Unchanged on every round": the rival swaps the two stops.
 unchanged : (f : Bool) (e a : ℕ) → Reply-to-T (1 ∷ 2 ∷ []) (record { finished = f; examined = e; accepted = a; route = 1 ∷ 2 ∷ [] }) → ⊥
-unfolding Reply-to-T tour-length reconnected timely patterns binomial
+unfolding Reply-to-T tour-length reconnected timely pairs-kept pairs-of patterns binomial
 unchanged f e a d =
     improvable (T (far ∷ far ∷ far ∷ []) none) (patterns 3) 3 100 (1 ∷ 2 ∷ []) _ d (lit≤ tt) (0 ∷ 1 ∷ 2 ∷ []) refl
     (lit≤ tt, lit≤ tt, (lit≤ tt, lit≤ tt, (lit≤ tt, lit≤ tt, tt))) (record { order = 0 ∷ 2 ∷ 1 ∷ 3 ∷ []; mask = 0 })
@@ -68,7 +69,7 @@ unfolding Reply-to-T tour-length patterns binomial
 beyond f e a h d = let b : e ≤ 91 = d .bound in omega arith
 
 invented : (q : Reply (List ℕ)) → q ≡ polish (T (far ∷ far ∷ far ∷ []) none) 3 100 (1 ∷ 2 ∷ []) → (q .examined ≡ 11 → ⊥) → ⊥
-unfolding scan-from candidates cut-sets patterns tour-length reconnected timely
+unfolding scan-from candidates cut-sets patterns tour-length reconnected timely pairs-kept pairs-of
 invented q e n = n (ap (λ q. q .examined) e)
 
 -- "Refusing all": no rule of polishing applies to T.
@@ -94,15 +95,16 @@ U =
       service = λ a. 0;
       depot = 0;
       end = 0;
+      pairs = [];
     }
 
 two-improvements : polish U 3 1000 (1 ∷ 2 ∷ 3 ∷ []) ≡ record { finished = true; examined = 41; accepted = 2; route = 2 ∷ 3 ∷ 1 ∷ [] }
-unfolding U scan-from candidates cut-sets patterns tour-length reconnected timely
+unfolding U scan-from candidates cut-sets patterns tour-length reconnected timely pairs-kept
 two-improvements = refl
 
 -- "One improvement found, then counting idly": the rival turns the last two stops.
 one-improvement : (f : Bool) (e a : ℕ) → Demand3 U (patterns 3) 3 1000 (1 ∷ 2 ∷ 3 ∷ []) (record { finished = f; examined = e; accepted = a; route = 2 ∷ 1 ∷ 3 ∷ [] }) → ⊥
-unfolding U tour-length reconnected timely patterns binomial
+unfolding U tour-length reconnected timely pairs-kept patterns binomial
 one-improvement f e a d =
     improvable U (patterns 3) 3 1000 (1 ∷ 2 ∷ 3 ∷ []) _ d (lit≤ tt) (0 ∷ 1 ∷ 3 ∷ []) refl
     (lit≤ tt, lit≤ tt, (lit≤ tt, lit≤ tt, (lit≤ tt, lit≤ tt, tt))) (record { order = 0 ∷ 1 ∷ 2 ∷ 3 ∷ []; mask = 4 })

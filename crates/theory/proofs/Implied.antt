@@ -7,7 +7,8 @@ use Prim.Native.Nat.{ℕ, zero, suc}
 use native.Mathlib.Omega.{arith}
 use lib.Dec.{leb, ltb, eqb}
 use lib.ListN.{length}
-use Rattle.theory.specs.Refusals.{Rule, number, any, order, either, rules-of, first-in, refusal, known-stops, known-end, known-rounds, known-ends, round-lists, end-list}
+use Rattle.theory.specs.Refusals.{Rule, number, any, order, either, rules-of, first-in, refusal, known-stops, known-end, pair-list, known-rounds, known-ends, round-lists, end-list}
+use Rattle.theory.specs.Pairs.{pairs-of}
 use borrow.Author.Tests.{eqb-true, eq-eqb, not-true}
 use Rattle.theory.proofs.Judged.{and-true}
 
@@ -84,6 +85,13 @@ pub implied : (a b : ℕ) (t : Bool) (front back : List Rule) → (a ≡ 0 → �
 unfolding refusal
 implied a b true front back z o h = settled a b front back z (h refl) order o
 implied a b false front back z o h = idle b front back order
+
+-- ---- no pairs
+
+-- "Entries of before act as with an empty list": of that 29 is given nowhere.
+pub without-pairs : (front back : List Rule) (locations : ℕ) → refusal (front ++ (pair-list locations [] ∷ back)) ≡ refusal (front ++ back)
+unfolding refusal any pairs-of
+without-pairs front back locations = idle 29 front back order
 
 -- ---- the end harbour at the depot
 

@@ -9,7 +9,8 @@ use lib.ListN.{length, getD}
 use borrow.Author.Tests.{ltb-false, leb-false, ltb-true, eqb-true, not-false}
 use Rattle.theory.specs.Moves.{patterns, Rising}
 use Rattle.theory.specs.Tables.{Tables, LegTable, Times, Stops, Followable, Measurable, Clocked, Timed, Trip, CutSet}
-use Rattle.theory.specs.Refusals.{any, rises, cut-count, leg-table, deadline-list, leg-sizes, service-list, known-stops, known-end, stop-count, pattern-index, cut-positions, room}
+use Rattle.theory.specs.Refusals.{any, rises, cut-count, leg-table, deadline-list, leg-sizes, service-list, known-stops, known-end, stop-count, pattern-index, cut-positions, room, problem-rules}
+use Rattle.theory.proofs.Refusals.{Passes}
 
 pub and-true : (a b : Bool) → (a && b) ≡ true → (a ≡ true) × (b ≡ true)
 and-true true b e = (refl, e)
@@ -77,7 +78,7 @@ pub clocked : {T : Trip} {route : List ℕ} → Timed T route → Clocked (T .ta
 clocked t = record { followable = followed (t .measurable); times = t .times }
 
 -- A closed tour.
-pub closed : {T : Tables} {depot : ℕ} {route : List ℕ} → Clocked T depot route → Timed (record { tables = T; depot = depot; end = depot }) route
+pub closed : {T : Tables} {depot : ℕ} {route : List ℕ} → Clocked T depot route → Timed (record { tables = T; depot = depot; end = depot; pairs = [] }) route
 closed c = record { measurable = to-end (c .followable) (c .followable .depot-known); times = c .times }
 
 pub times-fine : (T : Tables) → deadline-list (T .locations) (T .latest) .1 ≡ false → service-list (T .locations) (T .service) .1 ≡ false → Times T
@@ -116,3 +117,10 @@ cuts-fine k n cuts a b e =
 
 pub room-fine : (needed lent : ℕ) → room needed lent .1 ≡ false → needed ≤ lent
 room-fine needed lent e = ltb-false lent needed e
+
+pub clocked-fine : (T : Tables) (depot : ℕ) (route : List ℕ) → Passes (problem-rules T depot route) → Clocked T depot route
+clocked-fine T depot route p =
+    record {
+      followable = followable-fine (T .locations) (T .legs) depot route (p .0) (p .1 .1 .0) (p .1 .1 .1 .1 .0) (p .1 .1 .1 .1 .1 .0);
+      times = times-fine T (p .1 .0) (p .1 .1 .1 .0);
+    }

@@ -76,8 +76,8 @@ pub late-unchanged : (P : Problem) (ps : List Pattern) (k A : ℕ) (r : List ℕ
     counts-of answer .late < length r′ → reply-of answer r′ .accepted ≡ 0
 late-unchanged P ps k A r answer r′ p l = by (decLt 0 (reply-of answer r′ .accepted))
   where
-    kept : 0 < reply-of answer r′ .accepted → Feasible P (reply-of answer r′ .route)
-    kept h = p .demand3 .changed h .0
+    kept : 0 < reply-of answer r′ .accepted → Timely (timetable-of P) (P .depot) (reply-of answer r′ .route)
+    kept h = p .demand3 .changed h .0 .1
 
     same : (a : Polished) → reply-of a r′ .route ≡ r′
     same (Polishing.Finished c) = refl

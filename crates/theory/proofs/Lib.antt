@@ -1,6 +1,7 @@
 pub mod Scan
 pub mod Runs
 pub mod Moves
+pub mod Pairs
 pub mod Route
 pub mod Polish
 pub mod Costs

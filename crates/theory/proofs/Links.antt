@@ -38,7 +38,7 @@ count-links x y a [] = refl
 count-links x y a (z ∷ l) = ap (λ n. cond (joins x y (a, z)) 1 0 + n) (count-links x y z l)
 
 abbrev counting : ℕ → ℕ → Problem → Problem
-counting x y P = record { leg = one-of x y; latest = P .latest; service = P .service; depot = P .depot; end = P .end }
+counting x y P = record { leg = one-of x y; latest = P .latest; service = P .service; depot = P .depot; end = P .end; pairs = P .pairs }
 
 count-tour : (x y : ℕ) (P : Problem) (r : List ℕ) → link-count x y (tour-links P r) ≡ tour-length (counting x y P) r
 unfolding tour-links tour-length

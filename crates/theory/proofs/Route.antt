@@ -12,7 +12,9 @@ use lib.ListN.{length, getD, drop, length-drop}
 use lib.Seq.{slice, length-slice}
 use Rattle.theory.specs.Moves.{upfrom, total, Pattern, Move, Rising}
 use Rattle.theory.specs.Route.{segments, reverses, reverse-if, placed, joined, reconnected, Problem, Timetable, timetable-of, arrival, late, every, timely, Timely, feasible, Feasible}
+use Rattle.theory.specs.Pairs.{pairs-kept}
 use Rattle.theory.proofs.Moves.{total-append}
+use Rattle.theory.proofs.Pairs.{pairs-kept-says, says-pairs-kept}
 
 -- ---- reconnecting keeps every sum over the stops
 
@@ -110,4 +112,7 @@ timely-iff B depot r =
     (λ k i h. ltb-false _ _ (not-true _ (e .0 k i h)), λ k. e .1 (λ i h. rw (le-ltb (B .latest (getD r i 0)) (arrival B depot r i) (k i h))))
 
 pub feasible-iff : (P : Problem) (r : List ℕ) → (feasible P r ≡ true) ↔ Feasible P r
-feasible-iff P r = timely-iff (timetable-of P) (P .depot) r
+feasible-iff P r =
+    let t = timely-iff (timetable-of P) (P .depot) r in
+    let e = and-eq-true-iff (pairs-kept (P .pairs) r) (timely (timetable-of P) (P .depot) r) in
+    (λ k. (pairs-kept-says (P .pairs) r (e .0 k .0), t .0 (e .0 k .1)), λ k. e .1 (says-pairs-kept (P .pairs) r (k .0), t .1 (k .1)))

@@ -1,5 +1,6 @@
 pub mod Scan
 pub mod Moves
+pub mod Pairs
 pub mod Route
 pub mod Polish
 pub mod Costs

@@ -2,11 +2,12 @@
 -- first number of the one order whose rule applies is given.
 use mathlib.Core.Bool.{Bool, true, false, cond, not, _&&_, _||_}
 use mathlib.Core.List.{List, [], _∷_, _++_}
-use Prim.Native.Nat.{ℕ, zero, suc, _*_}
+use Prim.Native.Nat.{ℕ, zero, suc, _*_, _%_}
 use lib.Dec.{leb, ltb, eqb}
 use lib.ListN.{length}
 use lib.Ieee.{Float, nan, inf, fin}
 use Rattle.theory.specs.Moves.{patterns, total}
+use Rattle.theory.specs.Pairs.{pairs-of}
 use Rattle.theory.specs.Tables.{Tables, Trip}
 
 abbrev pub Rule : Type 0
@@ -50,6 +51,13 @@ known-stops locations depot route = (4, leb locations depot || any (λ s. leb lo
 -- "24, end harbour not below the locations, after 4 and before 5."
 abbrev pub known-end : ℕ → ℕ → Rule
 known-end locations end = (24, leb locations end)
+
+-- "29, more than 64 pairs, a member without its partner or not below the locations, or both members equal."
+abbrev pub pair-list : ℕ → List ℕ → Rule
+pair-list locations pairs = (
+  29,
+  ltb 128 (length pairs) || not (eqb (length pairs % 2) 0) || any (λ x. leb locations x) pairs || any (λ p. eqb (p .0) (p .1)) (pairs-of pairs),
+)
 
 -- "5: a round or n above 512 .."
 abbrev pub stop-count : ℕ → Rule
@@ -155,3 +163,13 @@ abbrev pub trip-rules : Trip → List ℕ → List Rule
 trip-rules T route =
     table-rules (T .tables)
     ++ (known-stops (T .tables .locations) (T .depot) route ∷ known-end (T .tables .locations) (T .end) ∷ stop-count (length route) ∷ [])
+
+-- The same with its pairs: 29 "after 24 and before 5".
+abbrev pub paired-rules : Trip → List ℕ → List Rule
+paired-rules T route =
+    table-rules (T .tables)
+    ++ (known-stops (T .tables .locations) (T .depot) route
+    ∷ known-end (T .tables .locations) (T .end)
+    ∷ pair-list (T .tables .locations) (T .pairs)
+    ∷ stop-count (length route)
+    ∷ [])

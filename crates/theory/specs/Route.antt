@@ -6,6 +6,7 @@ use lib.Dec.{ltb, leb, eqb}
 use lib.ListN.{length, getD, take, drop}
 use lib.Seq.{slice}
 use Rattle.theory.specs.Moves.{Pattern, Move, total}
+use Rattle.theory.specs.Pairs.{pairs-kept, KeepsPairs}
 
 -- "Pieces are parts of the round": those from the position `from` on, cut at the positions listed; "cut p lies before position p".
 unfoldable pub segments : ℕ → List ℕ → List ℕ → List (List ℕ)
@@ -40,13 +41,14 @@ unfolding total
 count x r = total (λ y. cond (eqb x y) 1 0) r
 
 -- What "the polisher, and a rival planner" share beside k: "the leg table, the deadlines, the depot"; "each location gets a service time in seconds"; "each round
--- carries an end harbour beside its depot", and the rival "shares the end harbour".
+-- carries an end harbour beside its depot", and the rival "shares the end harbour"; "a list of up to 64 pairs says which location comes before which".
 pub record Problem : Type 0 where
   pub leg : ℕ → ℕ → ℕ
   pub latest : ℕ → ℕ
   pub service : ℕ → ℕ
   pub depot : ℕ
   pub end : ℕ
+  pub pairs : List (ℕ × ℕ)
 
 -- The legs from a along the stops.
 unfoldable pub path : (ℕ → ℕ → ℕ) → ℕ → List ℕ → ℕ
@@ -119,9 +121,9 @@ unfoldable pub on-time : Clock → ℕ → ℕ → List ℕ → Bool
 on-time C a t [] = true
 on-time C a t (x ∷ xs) = leb (t + C .step a x) (C .until x) && on-time C x (t + C .step a x) xs
 
--- What a route must keep to be taken: every deadline. The running form, and what it says.
+-- "A candidate must keep all deadlines and all pairs." The running form, and what it says.
 abbrev pub feasible : Problem → List ℕ → Bool
-feasible P r = timely (timetable-of P) (P .depot) r
+feasible P r = pairs-kept (P .pairs) r && timely (timetable-of P) (P .depot) r
 
 abbrev pub Feasible : Problem → List ℕ → Type 0
-Feasible P r = Timely (timetable-of P) (P .depot) r
+Feasible P r = KeepsPairs (P .pairs) r × Timely (timetable-of P) (P .depot) r

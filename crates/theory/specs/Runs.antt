@@ -4,6 +4,7 @@ use mathlib.Core.List.{List, [], _∷_, _++_}
 use Prim.Native.Nat.{ℕ}
 use lib.ListN.{length, getD}
 use Rattle.theory.specs.Moves.{patterns, cut-sets}
+use Rattle.theory.specs.Pairs.{pairs-of, pairs-kept}
 use Rattle.theory.specs.Route.{Problem, timely, tour-length}
 use Rattle.theory.specs.Tables.{tables, timetable-by}
 use Rattle.theory.specs.Polish.{polish}
@@ -16,18 +17,24 @@ pub data Ask : Type 0 where
   kept : (latest service route : List ℕ) → Ask
   T-with : (k allowance : ℕ) (latest service : List ℕ) → Ask
   T-ending-at : (end : ℕ) → Ask
+  T-with-pairs : (pairs : List ℕ) → Ask
+  pairs-kept-by : (pairs route : List ℕ) → Ask
   empty-round-to : (end : ℕ) → Ask
 
--- The text case of document 01, with the end harbour, deadlines and service times given.
-abbrev pub T-to : (end : ℕ) (latest service : List ℕ) → Problem
-T-to end latest service =
+-- The text case of document 01, with the end harbour, pairs, deadlines and service times given.
+abbrev pub T-keeping : (end : ℕ) (pairs latest service : List ℕ) → Problem
+T-keeping end pairs latest service =
     record {
       leg = λ a b. getD (getD ((0 ∷ 5 ∷ 1 ∷ []) ∷ (1 ∷ 0 ∷ 5 ∷ []) ∷ (5 ∷ 1 ∷ 0 ∷ []) ∷ []) a []) b 0;
       latest = λ a. getD latest a 0;
       service = λ a. getD service a 0;
       depot = 0;
       end = end;
+      pairs = pairs-of pairs;
     }
+
+abbrev pub T-to : (end : ℕ) (latest service : List ℕ) → Problem
+T-to end = T-keeping end []
 
 -- "T carries 0 there."
 abbrev pub T : (latest service : List ℕ) → Problem
@@ -52,6 +59,8 @@ answer (how-many-cut-sets k n) = length (cut-sets k n) ∷ []
 answer (kept l s r) = cond (timely (timetable-by (tables 2 (1 ∷ 1 ∷ 1 ∷ 1 ∷ []) l s)) 0 r) 1 0 ∷ []
 answer (T-with k a l s) = six-and-route (T l s) k a
 answer (T-ending-at e) = six-and-route (T-to e (far ∷ far ∷ far ∷ []) none) 3 100
+answer (T-with-pairs ps) = six-and-route (T-keeping 0 ps (far ∷ far ∷ far ∷ []) none) 3 100
+answer (pairs-kept-by ps r) = cond (pairs-kept (pairs-of ps) r) 1 0 ∷ []
 answer (empty-round-to e) = tour-length (T-to e (far ∷ far ∷ far ∷ []) none) [] ∷ []
 
 abbrev pub runs : List (Ask × List ℕ)
@@ -96,4 +105,11 @@ runs =
     ∷ (T-ending-at 1, 0 ∷ 11 ∷ 1 ∷ 11 ∷ 2 ∷ 2 ∷ 2 ∷ 1 ∷ [])
     ∷ (empty-round-to 1, 5 ∷ [])
     ∷ (T-with 3 100 (0 ∷ far ∷ far ∷ []) (9 ∷ 0 ∷ 0 ∷ []), 0 ∷ 11 ∷ 1 ∷ 15 ∷ 3 ∷ 2 ∷ 2 ∷ 1 ∷ [])
+    -- 1 before 2 leaves the round as it is, 2 before 1 is kept by the shorter one. A first visited again behind the second breaks the pair; a member alone, or the
+    -- depot at the start, does not.
+    ∷ (T-with-pairs (1 ∷ 2 ∷ []), 0 ∷ 7 ∷ 0 ∷ 15 ∷ 15 ∷ 2 ∷ 1 ∷ 2 ∷ [])
+    ∷ (T-with-pairs (2 ∷ 1 ∷ []), 0 ∷ 11 ∷ 1 ∷ 15 ∷ 3 ∷ 2 ∷ 2 ∷ 1 ∷ [])
+    ∷ (pairs-kept-by (1 ∷ 2 ∷ []) (1 ∷ 2 ∷ 1 ∷ []), 0 ∷ [])
+    ∷ (pairs-kept-by (1 ∷ 2 ∷ []) (2 ∷ []), 1 ∷ [])
+    ∷ (pairs-kept-by (0 ∷ 1 ∷ []) (1 ∷ []), 1 ∷ [])
     ∷ []

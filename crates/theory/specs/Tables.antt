@@ -4,6 +4,7 @@ use mathlib.Core.List.{List, [], _∷_, _++_, List·Memᴰ}
 use Prim.Native.Nat.{ℕ, suc, _+_, _-_, _*_, _^_, _≤_, _<_}
 use lib.ListN.{length, getD, take, drop}
 use Rattle.theory.specs.Moves.{Pattern, Rising, total, upfrom}
+use Rattle.theory.specs.Pairs.{pairs-of}
 use Rattle.theory.specs.Route.{Problem, Timetable, Clock, clock}
 
 -- What a caller lends beside the rounds: "one lent table, a whole number of seconds for each ordered pair of locations, row = from"; "each location has a
@@ -17,14 +18,16 @@ pub record Tables : Type 0 where
 abbrev pub tables : ℕ → List ℕ → List ℕ → List ℕ → Tables
 tables locations legs latest service = record { locations = locations; legs = legs; latest = latest; service = service }
 
--- What one boat's round is planned by: the tables, where it sets out, and where it ends. A closed tour ends at its depot.
+-- What one boat's round is planned by: the tables, where it sets out, where it ends, and the pairs that it keeps, their members end to end. A closed tour ends at
+-- its depot.
 pub record Trip : Type 0 where
   pub tables : Tables
   pub depot : ℕ
   pub end : ℕ
+  pub pairs : List ℕ
 
-abbrev pub trip : ℕ → List ℕ → List ℕ → List ℕ → (depot end : ℕ) → Trip
-trip locations legs latest service depot end = record { tables = tables locations legs latest service; depot = depot; end = end }
+abbrev pub trip : ℕ → List ℕ → List ℕ → List ℕ → (depot end : ℕ) → List ℕ → Trip
+trip locations legs latest service depot end pairs = record { tables = tables locations legs latest service; depot = depot; end = end; pairs = pairs }
 
 -- What the boats of a run are lent: rounds "whose stops lie end to end, with a length, a depot and a pin byte for each", and an end harbour for each.
 pub record Fleet : Type 0 where
@@ -45,11 +48,11 @@ clock-by T = clock (timetable-by T)
 
 -- Its timetable is the one above, by computation.
 abbrev pub problem : Trip → Problem
-problem T = let B = timetable-by (T .tables) in record { leg = B .leg; latest = B .latest; service = B .service; depot = T .depot; end = T .end }
+problem T = let B = timetable-by (T .tables) in record { leg = B .leg; latest = B .latest; service = B .service; depot = T .depot; end = T .end; pairs = pairs-of (T .pairs) }
 
 -- The same where no deadline is read.
 abbrev pub legs-only : ℕ → List ℕ → (depot end : ℕ) → Problem
-legs-only locations legs depot end = problem (trip locations legs [] [] depot end)
+legs-only locations legs depot end = problem (trip locations legs [] [] depot end [])
 
 pub record LegTable (locations : ℕ) (legs : List ℕ) : Type 0 where
   pub few : locations ≤ 1024

@@ -4,6 +4,7 @@ use crate::cases::ends;
 use crate::cases::nearby::Case as Listing;
 use crate::cases::polish::Case;
 use crate::every::{missed_case, Every};
+use crate::in_order::keeps_pairs;
 use crate::nearby::document_case as nearby_case;
 use crate::pairs::document::document_case as pair_case;
 use crate::polish::bounds::{late_text_case, served_text_case, text_case};
@@ -42,6 +43,18 @@ pub fn fault() -> Option<String> {
             "the text case to location 1",
             text_to_1() == ([0, 11, 1, 11, 2, 2], vec![2, 1]),
         ),
+        (
+            "the text case, 1 before 2",
+            text_with([1, 2]) == ([0, 7, 0, 15, 15, 2], vec![1, 2]),
+        ),
+        (
+            "the text case, 2 before 1",
+            text_with([2, 1]) == ([0, 11, 1, 15, 3, 2], vec![2, 1]),
+        ),
+        (
+            "every visit counts, and the depot is none",
+            !keeps_pairs(&[1, 2], &[1, 2, 1]) && keeps_pairs(&[0, 1], &[1]),
+        ),
         ("the pair loop", pair_loop()),
         (
             "the pair case by polishing",
@@ -74,6 +87,13 @@ pub fn fault() -> Option<String> {
 fn text_to_1() -> ([u64; 6], Vec<u64>) {
     let closed = text_case(100);
     numbers(ends::Case { closed, end: 1 }.expected())
+}
+
+/// With a pair.
+fn text_with(pair: [u32; 2]) -> ([u64; 6], Vec<u64>) {
+    let mut closed = text_case(100);
+    closed.tables.pairs = Some(pair.to_vec());
+    numbers(ends::Case { closed, end: 0 }.expected())
 }
 
 fn text(case: Case) -> ([u64; 6], Vec<u64>) {

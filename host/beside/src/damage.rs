@@ -2,7 +2,7 @@
 
 use crate::draw::some_place;
 use crate::random::Random;
-use crate::rules::{pattern_count, LONGEST_LEG, LONGEST_SERVICE, MOST_LOCATIONS};
+use crate::rules::{pattern_count, LONGEST_LEG, LONGEST_SERVICE, MOST_LOCATIONS, MOST_PAIRS};
 use crate::tables::Tables;
 
 pub fn wrong_k(random: &mut Random) -> usize {
@@ -42,6 +42,26 @@ pub fn unknown(random: &mut Random, tables: &Tables) -> u32 {
 pub fn a_stop(random: &mut Random, tables: &Tables, route: &mut [u32]) {
     let place = some_place(random, route.len());
     route[place] = unknown(random, tables);
+}
+
+/// Too many pairs, a member without its partner, one that is no location, or a pair of equal ones.
+pub fn pairs(random: &mut Random, tables: &mut Tables) {
+    let stranger = unknown(random, tables);
+    let pairs = tables.pairs.get_or_insert_with(Vec::new);
+    if pairs.is_empty() {
+        pairs.extend([0, 1]);
+    }
+    let place = some_place(random, pairs.len());
+    match random.below(5) {
+        0 => {
+            let members = 2 * MOST_PAIRS + random.pick([1, 2, 2, 4, 872]);
+            *pairs = [0, 1].into_iter().cycle().take(members).collect();
+        }
+        1 => drop(pairs.pop()),
+        2 => pairs[place] = stranger,
+        3 => pairs.extend([stranger, stranger]),
+        _ => pairs[place] = pairs[place ^ 1],
+    }
 }
 
 /// The legs' size, or the number of locations.

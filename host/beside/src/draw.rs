@@ -153,13 +153,19 @@ fn due_after(random: &mut Random, tables: &mut Tables, depot: u32, route: &[u32]
 
 /// Another order is on time; the one handed in often is not.
 fn due_after_another_order(random: &mut Random, tables: &mut Tables, depot: u32, route: &[u32]) {
+    let other = another_order(random, route);
+    due_after(random, tables, depot, &other, 1);
+}
+
+/// A few stops have changed places.
+pub fn another_order(random: &mut Random, route: &[u32]) -> Vec<u32> {
     let mut other = route.to_vec();
     let swaps = random.within(1, 3);
     for _ in 0..swaps.min(other.len()) {
         let (from, to) = (random.index(other.len()), random.index(other.len()));
         other.swap(from, to);
     }
-    due_after(random, tables, depot, &other, 1);
+    other
 }
 
 /// One stop is due exactly when it is reached, a second before or after, or at once.

@@ -31,8 +31,7 @@ impl Means {
         write!(out, "| {title} | {} | {:.3} |", rows.len(), mean(&to_rust))?;
         let to_old: Vec<f64> = rows.iter().filter_map(|row| row.ratios.1).collect();
         if !to_old.is_empty() {
-            let highest = to_old.iter().copied().fold(0.0, f64::max);
-            write!(out, " {:.3} | {highest:.3} |", mean(&to_old))?;
+            write!(out, " {:.3} | {:.3} |", mean(&to_old), highest(&to_old))?;
         }
         writeln!(out)
     }
@@ -47,9 +46,13 @@ impl Means {
     }
 }
 
-fn mean(ratios: &[f64]) -> f64 {
+pub fn mean(ratios: &[f64]) -> f64 {
     let logarithms: f64 = ratios.iter().map(|ratio| ratio.ln()).sum();
     (logarithms / ratios.len() as f64).exp()
+}
+
+pub fn highest(ratios: &[f64]) -> f64 {
+    ratios.iter().copied().fold(0.0, f64::max)
 }
 
 impl Display for Means {

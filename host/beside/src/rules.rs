@@ -9,6 +9,8 @@ pub const LONGEST_PIECE: usize = 512;
 pub const MOST_NEIGHBOURS: usize = 32;
 /// Patterns in a list.
 pub const MOST_ROWS: usize = 383;
+/// Pairs in a list.
+pub const MOST_PAIRS: usize = 64;
 /// Bytes of a text.
 pub const MOST_BYTES: usize = 60_000;
 /// Stops of a round whose first move is looked for.
@@ -58,6 +60,14 @@ pub fn rising(cuts: &[usize]) -> bool {
 /// 5: more than 512 stops.
 pub fn too_many_stops(stops: usize) -> bool {
     stops > MOST_STOPS
+}
+
+/// 29: more than 64 pairs, a member without its partner or not below the locations, or both members equal.
+pub fn bad_pairs(locations: usize, pairs: &[u32]) -> bool {
+    pairs.len() > 2 * MOST_PAIRS
+        || pairs.len() % 2 == 1
+        || pairs.iter().any(|&member| member as usize >= locations)
+        || pairs.chunks_exact(2).any(|pair| pair[0] == pair[1])
 }
 
 /// 27, of one pattern: an order that is no permutation of 0 to k with 0 first and k last, or a mask with a bit outside 1 to k - 1.

@@ -40,6 +40,8 @@ pub fn share(case: &Case) -> (Counted, f64) {
         &tables.service,
         case.depot,
         case.depot,
+        &[],
+        &[],
         &mut route,
     );
     let (scan::theory::Polished::Finished(counts) | scan::theory::Polished::Spent(counts)) =

@@ -1,6 +1,7 @@
-//! The lent tables: legs, deadlines and service times, what they say of a route, and what is refused of them.
+//! The lent tables: legs, deadlines, service times and pairs, what they say of a route, and what is refused of them.
 
-use crate::rules::{LONGEST_LEG, LONGEST_SERVICE, MOST_LOCATIONS};
+use crate::in_order::keeps_pairs;
+use crate::rules::{bad_pairs, LONGEST_LEG, LONGEST_SERVICE, MOST_LOCATIONS};
 
 #[derive(Clone, Debug, Default)]
 pub struct Tables {
@@ -8,16 +9,19 @@ pub struct Tables {
     pub legs: Vec<u32>,
     pub latest: Vec<u32>,
     pub service: Vec<u32>,
+    /// Members end to end. None where the entry that is called takes no pairs.
+    pub pairs: Option<Vec<u32>>,
 }
 
 impl Tables {
-    /// No deadline in force, no time spent at a stop.
+    /// No deadline in force, no time spent at a stop, and no pairs.
     pub fn of_legs(locations: usize, legs: Vec<u32>) -> Self {
         Self {
             locations,
             legs,
             latest: vec![u32::MAX; locations],
             service: vec![0; locations],
+            pairs: None,
         }
     }
 
@@ -55,6 +59,7 @@ impl Tables {
             legs,
             latest: more(&self.latest, u32::MAX),
             service: more(&self.service, 0),
+            pairs: self.pairs.clone(),
         };
         (both, self.locations as u32)
     }
@@ -94,6 +99,14 @@ impl Tables {
         late.iter().position(|&late| late).unwrap_or(late.len()) as u64
     }
 
+    pub fn pairs(&self) -> &[u32] {
+        self.pairs.as_deref().unwrap_or_default()
+    }
+
+    pub fn keeps_pairs(&self, route: &[u32]) -> bool {
+        keeps_pairs(self.pairs(), route)
+    }
+
     /// 2, of the legs alone: locations outside 1 to 1,024, or a table of another size.
     pub fn bad_legs_size(&self) -> bool {
         !(1..=MOST_LOCATIONS).contains(&self.locations)
@@ -125,6 +138,11 @@ impl Tables {
         ]
     }
 
+    /// 29.
+    pub fn bad_pairs(&self) -> bool {
+        bad_pairs(self.locations, self.pairs())
+    }
+
     /// 4: one of these not below the locations.
     pub fn unknown(&self, places: &[u32]) -> bool {
         places.iter().any(|&place| place as usize >= self.locations)
@@ -144,7 +162,11 @@ impl Tables {
             lines += &format!("legs={}\n", listed(row));
         }
         let (latest, service) = (listed(&self.latest), listed(&self.service));
-        lines + &format!("latest={latest}\nservice={service}\n")
+        lines += &format!("latest={latest}\nservice={service}\n");
+        if let Some(pairs) = &self.pairs {
+            lines += &format!("pairs={}\n", listed(pairs));
+        }
+        lines
     }
 }
 

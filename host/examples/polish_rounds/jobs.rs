@@ -1,7 +1,9 @@
 //! Rounds polished on several threads, told in their order. The library has no state between calls.
 
 use crate::question::Question;
-use mittenschist::{polish_route, polish_with_patterns, Polished, Refusal, Tables};
+use mittenschist::{
+    polish_route_with_pairs, polish_with_patterns_and_pairs, Polished, Refusal, Tables,
+};
 use std::collections::BTreeMap;
 use std::sync::atomic::{AtomicUsize, Ordering};
 use std::sync::mpsc::{self, Receiver, Sender};
@@ -38,20 +40,24 @@ fn work(question: &Question, next: &AtomicUsize, done: &Sender<(usize, Outcome)>
     }
 }
 
-/// One round in one call.
-fn polish(question: &Question, mut route: Vec<u32>) -> Outcome {
-    let tables = Tables {
+/// One round in one call. With no pairs the calls that take them are those that do not.
+fn polish(question: &Question, mut round: Vec<u32>) -> Outcome {
+    let tables = &Tables {
         locations: question.locations,
         legs: &question.legs,
         latest: &question.latest,
         service: &question.service,
     };
     let (k, allowance, harbours) = (question.k, question.allowance, question.harbours);
+    let (pairs, route) = (&question.pairs, &mut round);
     let polished = match &question.patterns {
-        None => polish_route(k, allowance, &tables, harbours, &mut route)?,
-        Some(list) => polish_with_patterns(list.lent(), allowance, &tables, harbours, &mut route)?,
+        None => polish_route_with_pairs(k, allowance, tables, harbours, pairs, route)?,
+        Some(list) => {
+            let rows = list.lent();
+            polish_with_patterns_and_pairs(rows, allowance, tables, harbours, pairs, route)?
+        }
     };
-    Ok((polished, route))
+    Ok((polished, round))
 }
 
 fn in_order(outcomes: Receiver<(usize, Outcome)>, mut tell: impl FnMut(Outcome)) {

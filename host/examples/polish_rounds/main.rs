@@ -1,5 +1,5 @@
-//! cargo run --release --example polish_rounds [--jobs N] [--patterns LIST] FILE: polishes each round of a file and says what was saved, and which stop is late
-//! if one is, a line for each round as it is done. The file has the form of the text program, with any number of lines `round=` at its
+//! cargo run --release --example polish_rounds [--jobs N] [--patterns LIST] [--pairs LIST] FILE: polishes each round of a file and says what was saved, which stop is
+//! late and which pair is not kept, if one is, a line for each round as it is done. The file has the form of the text program, with any number of lines `round=` at its
 //! end; see rounds.txt beside this file. Each round has the whole allowance. Exit 1 if the file is not of the form or a round is refused,
 //! 2 if the words are not understood.
 
@@ -10,19 +10,20 @@ mod options;
 mod question;
 
 use jobs::{polish_all, Outcome};
-use mittenschist::{Ending, PatternList, Polished};
+use mittenschist::{Ending, Pair, PatternList, Polished};
 use options::{Options, USAGE};
 use question::Question;
 use std::process::ExitCode;
 use std::{env, fs};
 
 fn main() -> ExitCode {
-    let (file, jobs, patterns) = match Options::parse(env::args().skip(1)) {
+    let (file, jobs, lists) = match Options::parse(env::args().skip(1)) {
         Ok(Options::Polish {
             file,
             jobs,
             patterns,
-        }) => (file, jobs, patterns),
+            pairs,
+        }) => (file, jobs, (patterns, pairs)),
         Ok(Options::Help) => {
             println!("{USAGE}");
             return ExitCode::SUCCESS;
@@ -32,7 +33,7 @@ fn main() -> ExitCode {
             return ExitCode::from(2);
         }
     };
-    match read(&file, patterns.as_deref()) {
+    match read(&file, lists.0.as_deref(), lists.1.as_deref()) {
         Ok(question) => {
             let refused = tell_all(&question, jobs, &mut |line| println!("{line}"));
             ExitCode::from(u8::from(refused))
@@ -44,16 +45,24 @@ fn main() -> ExitCode {
     }
 }
 
-fn read(file: &str, patterns: Option<&str>) -> Result<Question, String> {
-    let of = |file: &str, fault: String| format!("{file}: {fault}");
-    let text = fs::read_to_string(file).map_err(|fault| of(file, fault.to_string()))?;
-    let mut question = Question::parse(&text).map_err(|fault| of(file, fault))?;
+fn read(file: &str, patterns: Option<&str>, pairs: Option<&str>) -> Result<Question, String> {
+    let mut question = read_as(file, Question::parse)?;
     if let Some(list) = patterns {
-        let text = fs::read(list).map_err(|fault| of(list, fault.to_string()))?;
-        let loaded = PatternList::load(&text).map_err(|refused| of(list, refused.to_string()))?;
-        question.patterns = Some(loaded);
+        let load = |text: &str| PatternList::load(text.as_bytes());
+        let loaded = |text: &str| load(text).map_err(|refused| refused.to_string());
+        question.patterns = Some(read_as(list, loaded)?);
+    }
+    if let Some(list) = pairs {
+        question.pairs = read_as(list, question::pairs)?;
     }
     Ok(question)
+}
+
+/// What a file holds, or its name and what is wrong with it.
+fn read_as<T>(file: &str, parse: impl Fn(&str) -> Result<T, String>) -> Result<T, String> {
+    let text = fs::read_to_string(file).map_err(|fault| fault.to_string());
+    text.and_then(|text| parse(&text))
+        .map_err(|fault| format!("{file}: {fault}"))
 }
 
 /// Tells a line for each round and one for all; whether a round was refused.
@@ -72,7 +81,10 @@ fn told(question: &Question, outcome: Outcome) -> String {
     match outcome {
         Ok((polished, route)) => {
             let late = polished.late.map(|at| told_late(question, &route, at));
-            told_polished(&polished, &route) + &late.unwrap_or_default()
+            let broken = question.broken_pair(&route).map(told_broken);
+            told_polished(&polished, &route)
+                + &late.unwrap_or_default()
+                + &broken.unwrap_or_default()
         }
         Err(refusal) => format!("refused ({}): {refusal}", refusal.number()),
     }
@@ -84,6 +96,10 @@ fn told_late(question: &Question, route: &[u32], at: usize) -> String {
     let reached = question.reached(&route[..=at]);
     let due = question.latest[stop as usize];
     format!("; stop {number}, location {stop}, is the first that is late: reached at second {reached}, due by second {due}")
+}
+
+fn told_broken([first, second]: Pair) -> String {
+    format!("; location {second} comes before location {first}")
 }
 
 fn told_polished(polished: &Polished, route: &[u32]) -> String {
@@ -172,6 +188,18 @@ mod tests {
         assert!(!tell_all(&question, 1, &mut |line| told.push(line)));
         let first = "round 1: 23 s before, 5 s after, 18 s saved; finished after 11 candidates; order 2,1,3,4";
         assert_eq!(told[0], first);
+    }
+
+    /// The first round would have location 2 before location 1; the second breaks a pair, and no shorter order mends it.
+    #[test]
+    fn with_pairs() {
+        let mut question = Question::parse(include_str!("rounds.txt")).unwrap();
+        question.pairs = question::pairs("pair=1,2\npair=3,4\n").unwrap();
+        let mut told = Vec::new();
+        assert!(!tell_all(&question, 1, &mut |line| told.push(line)));
+        assert!(told[0].ends_with("order 3,4,1,2"));
+        assert!(told[1].ends_with("due by second 20; location 4 comes before location 3"));
+        assert!(told[2].ends_with("order 3,4"));
     }
 
     #[test]

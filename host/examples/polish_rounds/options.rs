@@ -2,12 +2,14 @@
 
 /// What is printed for `--help`, and after a word that is not understood.
 pub const USAGE: &str = "\
-usage: polish_rounds [--jobs N] [--patterns LIST] FILE
+usage: polish_rounds [--jobs N] [--patterns LIST] [--pairs LIST] FILE
 Polishes each round of a file and says what was saved and which stop is the first that is late, a line for each round in the file's order.
 FILE has the lines k=, allowance=, locations=, depot=, end=, a line legs= for each location, latest=, service=, and then any number of lines round=.
 Each round has the whole allowance. With --jobs N, N rounds are polished at a time.
 With --patterns LIST only the patterns of that file are tried, in their order: the lines k=, patterns= and, for each pattern, pattern= with the digits of its
-order, a comma and its mask; its k counts, not that of FILE.";
+order, a comma and its mask; its k counts, not that of FILE.
+With --pairs LIST each round keeps the pairs of that file: lines pair= with two locations and a comma between them, of which every visit of the first comes
+before every visit of the second. A round that is left as it was says which pair it does not keep.";
 
 #[derive(Debug, PartialEq)]
 pub enum Options {
@@ -17,19 +19,22 @@ pub enum Options {
         jobs: usize,
         /// A file of patterns.
         patterns: Option<String>,
+        /// A file of pairs.
+        pairs: Option<String>,
     },
 }
 
 impl Options {
     /// Says what is wrong where the words are not those of the usage.
     pub fn parse(words: impl Iterator<Item = String>) -> Result<Self, String> {
-        let (mut file, mut jobs, mut patterns) = (None, 1, None);
+        let (mut file, mut jobs, mut patterns, mut pairs) = (None, 1, None, None);
         let mut words = words;
         while let Some(word) = words.next() {
             match word.as_str() {
                 "--help" | "-h" => return Ok(Self::Help),
                 "--jobs" => jobs = jobs_of(words.next())?,
                 "--patterns" => patterns = Some(words.next().ok_or("--patterns wants a file")?),
+                "--pairs" => pairs = Some(words.next().ok_or("--pairs wants a file")?),
                 option if option.starts_with('-') => return Err(format!("no option {option}")),
                 _ if file.is_some() => {
                     return Err(format!("one file is enough: {word} is too much"))
@@ -42,6 +47,7 @@ impl Options {
             file,
             jobs,
             patterns,
+            pairs,
         })
     }
 }
@@ -63,28 +69,34 @@ mod tests {
     }
 
     fn polish(jobs: usize) -> Result<Options, String> {
-        let file = String::from("a.txt");
-        let patterns = None;
         Ok(Options::Polish {
-            file,
+            file: String::from("a.txt"),
             jobs,
-            patterns,
+            patterns: None,
+            pairs: None,
         })
     }
 
     #[test]
-    fn a_file_of_patterns() {
-        let Ok(Options::Polish { file, patterns, .. }) = parsed("--patterns b.txt a.txt") else {
+    fn files_of_patterns_and_pairs() {
+        let words = "--patterns b.txt a.txt --pairs c.txt";
+        let Ok(Options::Polish {
+            file,
+            patterns,
+            pairs,
+            ..
+        }) = parsed(words)
+        else {
             panic!("not understood");
         };
         assert_eq!(
-            (file.as_str(), patterns.as_deref()),
-            ("a.txt", Some("b.txt"))
+            (file.as_str(), patterns.as_deref(), pairs.as_deref()),
+            ("a.txt", Some("b.txt"), Some("c.txt"))
         );
-        assert_eq!(
-            parsed("a.txt --patterns"),
-            Err(String::from("--patterns wants a file"))
-        );
+        for option in ["--patterns", "--pairs"] {
+            let fault = format!("{option} wants a file");
+            assert_eq!(parsed(&format!("a.txt {option}")), Err(fault));
+        }
     }
 
     #[test]

@@ -1,6 +1,6 @@
-//! The file of rounds. Its form is judged here, the lengths of its rows too; its numbers are judged by the library.
+//! The files of rounds and of pairs. Their form is judged here, the lengths of rows too; their numbers are judged by the library.
 
-use mittenschist::{Harbours, PatternList};
+use mittenschist::{Harbours, Pair, PatternList};
 use std::str::{FromStr, Lines};
 
 pub struct Question {
@@ -14,6 +14,8 @@ pub struct Question {
     pub rounds: Vec<Vec<u32>>,
     /// The patterns that are tried, where they are not all of them.
     pub patterns: Option<PatternList>,
+    /// The pairs that each round is to keep.
+    pub pairs: Vec<Pair>,
 }
 
 /// The lines not yet read, and the number of the one that was read last.
@@ -23,6 +25,17 @@ struct Reader<'t> {
 }
 
 impl<'t> Reader<'t> {
+    fn new(text: &'t str) -> Self {
+        Self {
+            lines: text.lines(),
+            number: 0,
+        }
+    }
+
+    fn is_at_the_end(&self) -> bool {
+        self.lines.clone().next().is_none()
+    }
+
     /// What follows `name=` in the next line.
     fn value(&mut self, name: &str) -> Result<&'t str, String> {
         self.number += 1;
@@ -65,10 +78,7 @@ impl<'t> Reader<'t> {
 
 impl Question {
     pub fn parse(text: &str) -> Result<Self, String> {
-        let mut reader = Reader {
-            lines: text.lines(),
-            number: 0,
-        };
+        let mut reader = Reader::new(text);
         let k = reader.number("k")?;
         let allowance = reader.number("allowance")?;
         let locations = reader.number("locations")?;
@@ -90,6 +100,7 @@ impl Question {
             service: reader.row("service", locations)?,
             rounds: rounds(&mut reader)?,
             patterns: None,
+            pairs: Vec::new(),
         })
     }
 
@@ -105,14 +116,35 @@ impl Question {
         legs.chain(service).map(u64::from).sum()
     }
 
+    /// The first pair that these stops do not keep: a visit of its second comes before one of its first.
+    pub fn broken_pair(&self, stops: &[u32]) -> Option<Pair> {
+        let broken = |&&[first, second]: &&Pair| {
+            let from = stops.iter().position(|&stop| stop == second);
+            from.is_some_and(|from| stops[from..].contains(&first))
+        };
+        self.pairs.iter().find(broken).copied()
+    }
+
     fn leg(&self, from: u32, to: u32) -> u32 {
         self.legs[from as usize * self.locations + to as usize]
     }
 }
 
+/// The lines `pair=`, each with two locations.
+pub fn pairs(text: &str) -> Result<Vec<Pair>, String> {
+    let mut reader = Reader::new(text);
+    let mut pairs = Vec::new();
+    while !reader.is_at_the_end() {
+        let members = reader.numbers("pair")?;
+        let fault = |_| format!("line {}: pair= wants two locations", reader.number);
+        pairs.push(Pair::try_from(members).map_err(fault)?);
+    }
+    Ok(pairs)
+}
+
 fn rounds(reader: &mut Reader) -> Result<Vec<Vec<u32>>, String> {
     let mut rounds = Vec::new();
-    while reader.lines.clone().next().is_some() {
+    while !reader.is_at_the_end() {
         rounds.push(reader.numbers("round")?);
     }
     if rounds.is_empty() {
@@ -126,7 +158,21 @@ fn rounds(reader: &mut Reader) -> Result<Vec<Vec<u32>>, String> {
 
 #[cfg(test)]
 mod tests {
-    use super::Question;
+    use super::{pairs, Question};
+
+    #[test]
+    fn pairs_line_by_line() {
+        assert_eq!(pairs(""), Ok(Vec::new()));
+        assert_eq!(pairs("pair=1,2\npair=2,0\n"), Ok(vec![[1, 2], [2, 0]]));
+        let fault = |text| pairs(text).unwrap_err();
+        assert_eq!(
+            fault("pair=1,2\npair=1\n"),
+            "line 2: pair= wants two locations"
+        );
+        assert_eq!(fault("pair=1,2,3"), "line 1: pair= wants two locations");
+        assert_eq!(fault("pair=1,x"), "line 1: no number in range: \"x\"");
+        assert_eq!(fault("pair=1,2\n\n"), "line 2: expected pair=");
+    }
 
     #[test]
     fn says_which_line_is_wrong() {

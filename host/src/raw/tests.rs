@@ -388,3 +388,98 @@ fn lists_of_nothing() {
     };
     assert_eq!((loaded, polish(1), polish(2)), (10, 1, 26));
 }
+
+/// No pairs are none, with a null pointer too; one that is wrong is refused behind an end that is no location.
+#[test]
+fn pairs_that_are_none() {
+    let legs = [0, 5, 7, 0];
+    let (latest, service) = ([0; 2], [0; 2]);
+    let mut result = [9; 6];
+    // SAFETY: as said above.
+    let mut polish = |end, pairs: &[u32]| unsafe {
+        mittenschist_polish_route_with_pairs(
+            2,
+            1,
+            2,
+            legs.as_ptr(),
+            4,
+            latest.as_ptr(),
+            2,
+            service.as_ptr(),
+            2,
+            0,
+            end,
+            if pairs.is_empty() {
+                null()
+            } else {
+                pairs.as_ptr()
+            },
+            pairs.len(),
+            null_mut(),
+            0,
+            result.as_mut_ptr(),
+            6,
+        )
+    };
+    let returned = [polish(2, &[0]), polish(1, &[0]), polish(1, &[])];
+    assert_eq!((returned, result), ([24, 29, 0], [0, 0, 0, 5, 5, 0]));
+}
+
+#[test]
+fn lists_and_rounds_of_nothing_with_no_pairs() {
+    let (legs, latest, service) = (LEGS.as_ptr(), LATEST.as_ptr(), SERVICE.as_ptr());
+    // SAFETY: as said above.
+    let returned = unsafe {
+        [
+            mittenschist_polish_with_patterns_and_pairs(
+                2,
+                null(),
+                0,
+                null(),
+                0,
+                1,
+                1,
+                legs,
+                1,
+                latest,
+                1,
+                service,
+                1,
+                0,
+                0,
+                null(),
+                0,
+                null_mut(),
+                0,
+                null_mut(),
+                0,
+            ),
+            mittenschist_run_list_k_opt_with_pairs(
+                2,
+                1,
+                1,
+                legs,
+                1,
+                latest,
+                1,
+                service,
+                1,
+                null_mut(),
+                0,
+                null(),
+                0,
+                null(),
+                0,
+                null(),
+                0,
+                null(),
+                0,
+                null(),
+                0,
+                null_mut(),
+                0,
+            ),
+        ]
+    };
+    assert_eq!(returned, [26, 0]);
+}

@@ -5,6 +5,7 @@
 #![forbid(unsafe_code)]
 
 mod first_move;
+mod most_pairs;
 mod moves;
 mod nearby;
 mod one_route;

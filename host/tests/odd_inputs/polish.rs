@@ -1,7 +1,8 @@
 use crate::one_route::{Asked, Slices, PLACES};
 use crate::pools::{self, List, Tables};
+use crate::support::in_order::keeps_pairs;
 use crate::support::lent::Lent;
-use crate::support::rules::{bad_k, first_refusal, too_many_stops};
+use crate::support::rules::{bad_k, bad_pairs, first_refusal, too_many_stops};
 use crate::support::{kept, number, on_small_stack};
 use mittenschist::{raw, Harbours, Patterns, Polished, Refusal};
 
@@ -11,6 +12,8 @@ struct Case<'c> {
     end: Option<u32>,
     /// The patterns, where they are not all of them; there is an end then.
     list: Option<&'c List>,
+    /// Members of pairs, end to end, where there is a list of them; there is an end then.
+    pairs: Option<&'c [u32]>,
 }
 
 impl Case<'_> {
@@ -27,6 +30,7 @@ impl Case<'_> {
             (23, tables.bad_service()),
             (4, tables.unknown(&[self.asked.depot], route)),
             (24, tables.unknown_end(self.end)),
+            (29, bad_pairs(tables.locations, self.pairs.unwrap_or(&[]))),
             (5, too_many_stops(route.len())),
             (21, room < PLACES),
         ])
@@ -40,6 +44,7 @@ impl Case<'_> {
         };
         assert_eq!(numbers[2] == 0, numbers[3] == numbers[4]);
         assert!(numbers[4] <= numbers[3]);
+        assert!(numbers[2] == 0 || keeps_pairs(self.pairs.unwrap_or(&[]), &route));
         let Harbours { depot, end } = self.harbours();
         let length = |route| self.asked.tables.length(depot, end, route);
         assert_eq!(numbers[3], length(self.asked.route));
@@ -56,26 +61,37 @@ impl Case<'_> {
             route,
             result,
         } = lent;
-        match (self.end, self.list) {
-            (None, _) => raw::polish_route(
+        let (orders, masks) = match self.list {
+            Some(list) => (&list.orders[..], &list.masks[..]),
+            None => (&[][..], &[][..]),
+        };
+        let mut orders = Lent::new("orders", orders);
+        let mut masks = Lent::new("masks", masks);
+        let mut pairs = Lent::new("pairs", self.pairs.unwrap_or(&[]));
+        let (rows, bits, members) = (orders.slice(), masks.slice(), pairs.slice());
+        let returned = match (self.end, self.list, self.pairs) {
+            (None, ..) => raw::polish_route(
                 k, allowance, locations, legs, latest, service, depot, route, result,
             ),
-            (Some(end), None) => raw::polish_route_to_end(
+            (Some(end), None, None) => raw::polish_route_to_end(
                 k, allowance, locations, legs, latest, service, depot, end, route, result,
             ),
-            (Some(end), Some(list)) => {
-                let mut orders = Lent::new("orders", &list.orders);
-                let mut masks = Lent::new("masks", &list.masks);
-                let (rows, bits) = (orders.slice(), masks.slice());
-                let returned = raw::polish_with_patterns(
-                    k, rows, bits, allowance, locations, legs, latest, service, depot, end, route,
-                    result,
-                );
-                kept(&orders);
-                kept(&masks);
-                returned
-            }
-        }
+            (Some(end), None, Some(_)) => raw::polish_route_with_pairs(
+                k, allowance, locations, legs, latest, service, depot, end, members, route, result,
+            ),
+            (Some(end), Some(_), None) => raw::polish_with_patterns(
+                k, rows, bits, allowance, locations, legs, latest, service, depot, end, route,
+                result,
+            ),
+            (Some(end), Some(_), Some(_)) => raw::polish_with_patterns_and_pairs(
+                k, rows, bits, allowance, locations, legs, latest, service, depot, end, members,
+                route, result,
+            ),
+        };
+        kept(&orders);
+        kept(&masks);
+        kept(&pairs);
+        returned
     }
 
     fn harbours(&self) -> Harbours {
@@ -87,16 +103,30 @@ impl Case<'_> {
     }
 
     fn safe(&self, route: &mut [u32]) -> Result<Polished, Refusal> {
-        let (k, allowance, tables) = (self.k, self.asked.allowance, self.asked.tables.lent());
+        let (k, allowance, tables) = (self.k, self.asked.allowance, &self.asked.tables.lent());
         let harbours = self.harbours();
-        let Some(List { orders, masks }) = self.list else {
-            return mittenschist::polish_route(k, allowance, &tables, harbours, route);
-        };
-        let patterns = Patterns { k, orders, masks };
-        mittenschist::polish_with_patterns(patterns, allowance, &tables, harbours, route)
+        let patterns = self
+            .list
+            .map(|List { orders, masks }| Patterns { k, orders, masks });
+        match (patterns, self.pairs.map(pools::in_pairs)) {
+            (None, None) => mittenschist::polish_route(k, allowance, tables, harbours, route),
+            (None, Some(pairs)) => {
+                mittenschist::polish_route_with_pairs(k, allowance, tables, harbours, &pairs, route)
+            }
+            (Some(patterns), None) => {
+                mittenschist::polish_with_patterns(patterns, allowance, tables, harbours, route)
+            }
+            (Some(patterns), Some(pairs)) => mittenschist::polish_with_patterns_and_pairs(
+                patterns, allowance, tables, harbours, &pairs, route,
+            ),
+        }
     }
 
+    /// Of whole pairs: the safe functions take no others.
     fn check_safe(&self) {
+        if self.pairs.is_some_and(|members| members.len() % 2 == 1) {
+            return;
+        }
         let mut route = Lent::new("route", self.asked.route);
         let answer = self.safe(route.slice());
         assert_eq!(number(answer), self.refusal(PLACES));
@@ -138,6 +168,7 @@ fn every_end(k: usize, allowance: u64, tables: &Tables, route: &[u32], room: usi
                 asked,
                 end,
                 list: None,
+                pairs: None,
             };
             case.check();
             case.check_safe();
@@ -145,31 +176,61 @@ fn every_end(k: usize, allowance: u64, tables: &Tables, route: &[u32], room: usi
     }
 }
 
-/// Every list with every k; the tables and routes of some refusals behind those of a list, and good ones.
+/// Every list with every k.
 fn every_list() {
-    let tables = &pools::tables()[..3];
     for k in pools::CUT_COUNTS {
         for list in &pools::lists() {
-            for tables in tables {
-                for route in [&[][..], &[2, 1], &[1, u32::MAX], &[0; 512], &[0; 513]] {
-                    for (end, room) in [(1, 6), (0, 7), (3, 6), (1, 5)] {
-                        let asked = Asked {
-                            allowance: 9,
-                            tables,
-                            depot: 0,
-                            route,
-                            room,
-                        };
-                        let case = Case {
-                            k,
-                            asked,
-                            end: Some(end),
-                            list: Some(list),
-                        };
-                        case.check();
-                        case.check_safe();
-                    }
-                }
+            every_way(k, Some(list), None);
+        }
+    }
+}
+
+/// All pairs with all patterns for some k, and with lists, of which the first is refused.
+fn every_pair_list() {
+    let lists = pools::lists();
+    let some = |k| {
+        lists
+            .iter()
+            .filter(move |list| list.rules(k).iter().all(|rule| !rule.1))
+    };
+    for pairs in &pools::pairs() {
+        for k in pools::CUT_COUNTS {
+            every_way(k, None, Some(pairs));
+        }
+        for list in lists.iter().take(1).chain(some(3)) {
+            every_way(3, Some(list), Some(pairs));
+        }
+    }
+}
+
+/// The tables and routes of some refusals behind those of a list, and good ones.
+fn every_way(k: usize, list: Option<&List>, pairs: Option<&[u32]>) {
+    for tables in &pools::tables()[..3] {
+        for route in [
+            &[][..],
+            &[2, 1],
+            &[1, 2, 1],
+            &[1, u32::MAX],
+            &[0; 512],
+            &[0; 513],
+        ] {
+            for (end, room) in [(1, 6), (0, 7), (3, 6), (1, 5)] {
+                let asked = Asked {
+                    allowance: 9,
+                    tables,
+                    depot: 0,
+                    route,
+                    room,
+                };
+                let case = Case {
+                    k,
+                    asked,
+                    end: Some(end),
+                    list,
+                    pairs,
+                };
+                case.check();
+                case.check_safe();
             }
         }
     }
@@ -187,10 +248,12 @@ fn every_call() {
 fn numbers_in_order() {
     every_call();
     every_list();
+    every_pair_list();
 }
 
 #[test]
 fn on_128_kib() {
     on_small_stack(every_call);
     on_small_stack(every_list);
+    on_small_stack(every_pair_list);
 }

@@ -1,7 +1,9 @@
 //! What the calls are handed, some of it in range.
 
+use mittenschist::Pair;
+
 use crate::support::rules::{
-    bad_k, bad_row, bad_rows, LONGEST_LEG, LONGEST_SERVICE, MOST_LOCATIONS, MOST_ROWS,
+    bad_k, bad_row, bad_rows, LONGEST_LEG, LONGEST_SERVICE, MOST_LOCATIONS, MOST_PAIRS, MOST_ROWS,
 };
 
 pub const CUT_COUNTS: [usize; 8] = [0, 1, 2, 3, 4, 5, 6, usize::MAX];
@@ -166,6 +168,35 @@ pub fn cuts() -> Vec<Vec<usize>> {
         vec![0, 1, 2, 3, 4, 5],
         vec![7; 1000],
     ]
+}
+
+/// Members of pairs, end to end, for three locations: good ones first, doubled and contradictory ones among them.
+pub fn pairs() -> Vec<Vec<u32>> {
+    let many = |members: usize| [0, 1].into_iter().cycle().take(members).collect();
+    vec![
+        vec![],
+        vec![1, 2],
+        vec![2, 1],
+        vec![0, 1],
+        vec![1, 2, 1, 2],
+        vec![1, 2, 2, 1],
+        many(2 * MOST_PAIRS),
+        vec![1],
+        vec![1, 2, 0],
+        vec![1, 3],
+        vec![u32::MAX, 0],
+        vec![0, 1, 2, 2],
+        vec![3, 3],
+        many(2 * MOST_PAIRS + 1),
+        many(2 * MOST_PAIRS + 2),
+        vec![u32::MAX; 1000],
+    ]
+}
+
+/// As the safe functions take them; a member without its partner is left out.
+pub fn in_pairs(members: &[u32]) -> Vec<Pair> {
+    let pairs = members.chunks_exact(2);
+    pairs.map(|pair| [pair[0], pair[1]]).collect()
 }
 
 /// A list of patterns, for some k or for none.

@@ -1,6 +1,6 @@
 use crate::pools::{self, Tables};
 use crate::support::lent::{filled, Lent};
-use crate::support::rules::{bad_k, first_refusal, MOST_ROUNDS, MOST_STOPS};
+use crate::support::rules::{bad_k, bad_pairs, first_refusal, MOST_ROUNDS, MOST_STOPS};
 use crate::support::{kept, kept_beyond, number, on_small_stack, written};
 use mittenschist::raw;
 
@@ -87,6 +87,8 @@ struct Case<'c> {
     allowance: u64,
     tables: &'c Tables,
     rounds: &'c Rounds,
+    /// Members of pairs, end to end, where there is a list of them; there are ends then.
+    pairs: Option<&'c [u32]>,
     room: usize,
 }
 
@@ -100,6 +102,10 @@ impl Case<'_> {
             (23, self.tables.bad_service()),
             (4, self.tables.unknown(&rounds.depots, &rounds.stops)),
             (24, self.tables.unknown(&[], rounds.ends())),
+            (
+                29,
+                bad_pairs(self.tables.locations, self.pairs.unwrap_or(&[])),
+            ),
             (5, rounds.bad()),
             (21, room < 4 * rounds.lengths.len()),
         ])
@@ -115,35 +121,28 @@ impl Case<'_> {
         let mut depots = Lent::new("depots", &self.rounds.depots);
         let mut ends = Lent::new("ends", self.rounds.ends());
         let mut pins = Lent::new("pins", &self.rounds.pins);
+        let mut pairs = Lent::new("pairs", self.pairs.unwrap_or(&[]));
         let mut result = Lent::new("result", &before);
-        let returned = match self.rounds.ends {
-            None => raw::run_list_k_opt(
-                self.k,
-                self.allowance,
-                self.tables.locations,
-                legs.slice(),
-                latest.slice(),
-                service.slice(),
-                stops.slice(),
-                lengths.slice(),
-                depots.slice(),
-                pins.slice(),
-                result.slice(),
-            ),
-            Some(_) => raw::run_list_k_opt_to_ends(
-                self.k,
-                self.allowance,
-                self.tables.locations,
-                legs.slice(),
-                latest.slice(),
-                service.slice(),
-                stops.slice(),
-                lengths.slice(),
-                depots.slice(),
-                ends.slice(),
-                pins.slice(),
-                result.slice(),
-            ),
+        let returned = {
+            let (k, allowance, locations) = (self.k, self.allowance, self.tables.locations);
+            let (legs, latest, service) = (legs.slice(), latest.slice(), service.slice());
+            let (stops, lengths, pins) = (stops.slice(), lengths.slice(), pins.slice());
+            let (depots, ends, pairs) = (depots.slice(), ends.slice(), pairs.slice());
+            let result = result.slice();
+            match (&self.rounds.ends, self.pairs) {
+                (_, Some(_)) => raw::run_list_k_opt_with_pairs(
+                    k, allowance, locations, legs, latest, service, stops, lengths, depots, ends,
+                    pins, pairs, result,
+                ),
+                (None, _) => raw::run_list_k_opt(
+                    k, allowance, locations, legs, latest, service, stops, lengths, depots, pins,
+                    result,
+                ),
+                (Some(_), _) => raw::run_list_k_opt_to_ends(
+                    k, allowance, locations, legs, latest, service, stops, lengths, depots, ends,
+                    pins, result,
+                ),
+            }
         };
         assert_eq!(returned, self.refusal(self.room));
         kept(&legs);
@@ -153,6 +152,7 @@ impl Case<'_> {
         kept(&depots);
         kept(&ends);
         kept(&pins);
+        kept(&pairs);
         if returned != 0 {
             kept(&stops);
             return kept(&result);
@@ -172,7 +172,11 @@ impl Case<'_> {
         }
     }
 
+    /// Of whole pairs: the safe function takes no others.
     fn check_safe(&self) {
+        if self.pairs.is_some_and(|members| members.len() % 2 == 1) {
+            return;
+        }
         let mut stops = Lent::new("stops", &self.rounds.stops);
         let rounds = mittenschist::Rounds {
             stops: stops.slice(),
@@ -181,8 +185,13 @@ impl Case<'_> {
             ends: self.rounds.ends(),
             pins: &self.rounds.pins,
         };
-        let tables = self.tables.lent();
-        let answer = mittenschist::run_list_k_opt(self.k, self.allowance, &tables, rounds);
+        let (k, allowance, tables) = (self.k, self.allowance, self.tables.lent());
+        let answer = match self.pairs.map(pools::in_pairs) {
+            None => mittenschist::run_list_k_opt(k, allowance, &tables, rounds),
+            Some(pairs) => {
+                mittenschist::run_list_k_opt_with_pairs(k, allowance, &tables, rounds, &pairs)
+            }
+        };
         if let Ok(replies) = &answer {
             assert_eq!(replies.len(), self.rounds.lengths.len());
         } else {
@@ -197,21 +206,39 @@ fn every_call() {
     for k in pools::CUT_COUNTS {
         for tables in &pools::tables() {
             for rounds in &rounds() {
-                let places = 4 * rounds.lengths.len();
-                for room in [0, places.saturating_sub(1), places, places + 3] {
-                    for allowance in [0, 1, 90] {
-                        let case = Case {
-                            k,
-                            allowance,
-                            tables,
-                            rounds,
-                            room,
-                        };
-                        case.check();
-                        case.check_safe();
-                    }
+                every_room(k, tables, rounds, None);
+            }
+        }
+    }
+}
+
+/// Every list of pairs with the tables and rounds of some refusals before and behind it, and good ones.
+fn every_pair_list() {
+    for pairs in &pools::pairs() {
+        for k in [1, 3] {
+            for tables in &pools::tables()[..3] {
+                for rounds in &rounds() {
+                    every_room(k, tables, rounds, Some(pairs));
                 }
             }
+        }
+    }
+}
+
+fn every_room(k: usize, tables: &Tables, rounds: &Rounds, pairs: Option<&[u32]>) {
+    let places = 4 * rounds.lengths.len();
+    for room in [0, places.saturating_sub(1), places, places + 3] {
+        for allowance in [0, 1, 90] {
+            let case = Case {
+                k,
+                allowance,
+                tables,
+                rounds,
+                pairs,
+                room,
+            };
+            case.check();
+            case.check_safe();
         }
     }
 }
@@ -219,9 +246,11 @@ fn every_call() {
 #[test]
 fn numbers_in_order() {
     every_call();
+    every_pair_list();
 }
 
 #[test]
 fn on_128_kib() {
     on_small_stack(every_call);
+    on_small_stack(every_pair_list);
 }

@@ -1,7 +1,9 @@
-//! Lent memory with canaries, and document 01's refusals, as the harness in beside/ has them.
+//! Lent memory with canaries, the refusals and what it is to keep pairs, as the harness in beside/ has them.
 
 #![allow(dead_code)]
 
+#[path = "../../beside/src/in_order.rs"]
+pub mod in_order;
 #[path = "../../beside/src/lent.rs"]
 pub mod lent;
 #[path = "../../beside/src/rules.rs"]

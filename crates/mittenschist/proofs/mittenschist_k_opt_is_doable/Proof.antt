@@ -2,9 +2,8 @@
 use mathlib.Core.Path.{refl}
 use Rattle.theory.proofs.LastRule.{early}
 use Rattle.theory.specs.Answers.{doable-answer}
-use Rattle.move_calls.specs.Entries.{doable-rules}
-use Rattle.mittenschist.specs.Promises.{doable-values}
-use Rattle.mittenschist.proofs.Written.{answer-written}
+use Rattle.move_calls.specs.Entries.{doable-rules, doable-values}
+use Rattle.entry_results.proofs.Written.{answer-written}
 use borrow.Author.Needs.{needs}
 use Rattle.mittenschist.proofs.mittenschist_k_opt_is_doable.Statement.{statement}
 use Rattle.mittenschist.proofs.mittenschist_k_opt_is_doable.Tie as tie

@@ -1,4 +1,5 @@
 -- `pair_loop::pair_loop` meets its contract. Assumes nothing.
+use mathlib.Core.List.{[]}
 use Rattle.theory.specs.Tables.{Trip, trip}
 use Rattle.pair_loop.proofs.Answer.{timed-after, late-asked, told}
 use borrow.Author.Needs.{needs}
@@ -7,7 +8,7 @@ use Rattle.pair_loop.proofs.pair_loop.Statement.{statement}
 use Rattle.pair_loop.proofs.pair_loop.Tie as tie
 
 abbrev lent : tie.Start → Trip
-lent s = trip (s .args .locations) (s .args .legs .now) (s .args .latest .now) (s .args .service .now) (s .args .depot) (s .args .depot)
+lent s = trip (s .args .locations) (s .args .legs .now) (s .args .latest .now) (s .args .service .now) (s .args .depot) (s .args .depot) []
 
 route-length-requires : tie.Need-route-length-requires
 route-length-requires c κs = search needs

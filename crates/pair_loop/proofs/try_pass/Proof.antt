@@ -1,5 +1,6 @@
 -- `pair_loop::try_pass` meets its contract. The invariant: what is left of the pass makes the pass of what stands. Assumes nothing.
 use mathlib.Core.Path.{_≡_, refl, sym, _∙_}
+use mathlib.Core.List.{[]}
 use Prim.Native.Nat.{_+_, _-_, _≤_, _<_}
 use lib.ListN.{length}
 use Rattle.theory.specs.Route.{Problem}
@@ -16,17 +17,17 @@ use Rattle.pair_loop.proofs.try_pass.Tie as tie
 
 abbrev Inv-loop : tie.InvT-loop
 Inv-loop allowance locations legs latest service depot route₀ passed₀ i₀ route passed i =
-    Going allowance (trip locations legs latest service depot depot) passed route
+    Going allowance (trip locations legs latest service depot depot []) passed route
     × (length route ≡ length route₀)
     × (i ≤ length route₀)
-    × (pass-left (problem (trip locations legs latest service depot depot)) allowance (length route₀) (reply-so-far passed route) i
-    ≡ pass (problem (trip locations legs latest service depot depot)) allowance (length route₀) (reply-so-far passed₀ route₀))
+    × (pass-left (problem (trip locations legs latest service depot depot [])) allowance (length route₀) (reply-so-far passed route) i
+    ≡ pass (problem (trip locations legs latest service depot depot [])) allowance (length route₀) (reply-so-far passed₀ route₀))
 
 abbrev μ-loop : tie.MeasureT-loop
 μ-loop allowance locations legs latest service depot route₀ passed₀ i₀ route passed i = length route₀ - i
 
 abbrev P : tie.Start Inv-loop μ-loop → Problem
-P s = problem (trip (s .args .locations) (s .args .legs .now) (s .args .latest .now) (s .args .service .now) (s .args .depot) (s .args .depot))
+P s = problem (trip (s .args .locations) (s .args .legs .now) (s .args .latest .now) (s .args .service .now) (s .args .depot) (s .args .depot) [])
 
 loop-holds : tie.Need-loop-holds Inv-loop μ-loop
 loop-holds c =

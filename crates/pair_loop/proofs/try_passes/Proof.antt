@@ -1,5 +1,6 @@
 -- `pair_loop::try_passes` meets its contract. The invariant: the passes from what stands make those from the start. Assumes nothing.
 use mathlib.Core.Path.{_≡_, refl, _∙_}
+use mathlib.Core.List.{[]}
 use Prim.Native.Nat.{_-_}
 use lib.ListN.{length}
 use Rattle.theory.specs.Route.{Problem}
@@ -15,15 +16,15 @@ use Rattle.pair_loop.proofs.try_passes.Tie as tie
 
 abbrev Inv-loop : tie.InvT-loop
 Inv-loop allowance locations legs latest service depot route₀ so-far₀ route so-far =
-    Going allowance (trip locations legs latest service depot depot) so-far route
+    Going allowance (trip locations legs latest service depot depot []) so-far route
     × (length route ≡ length route₀)
-    × (passes (problem (trip locations legs latest service depot depot)) allowance (length route₀) allowance (reply-so-far so-far route) ≡ pair-loop (problem (trip locations legs latest service depot depot)) allowance route₀)
+    × (passes (problem (trip locations legs latest service depot depot [])) allowance (length route₀) allowance (reply-so-far so-far route) ≡ pair-loop (problem (trip locations legs latest service depot depot [])) allowance route₀)
 
 abbrev μ-loop : tie.MeasureT-loop
 μ-loop allowance locations legs latest service depot route₀ so-far₀ route so-far = allowance - so-far .examined
 
 abbrev P : tie.Start Inv-loop μ-loop → Problem
-P s = problem (trip (s .args .locations) (s .args .legs .now) (s .args .latest .now) (s .args .service .now) (s .args .depot) (s .args .depot))
+P s = problem (trip (s .args .locations) (s .args .legs .now) (s .args .latest .now) (s .args .service .now) (s .args .depot) (s .args .depot) [])
 
 loop-holds : tie.Need-loop-holds Inv-loop μ-loop
 loop-holds c =

@@ -1,5 +1,6 @@
 -- `pair_loop::try_sweep` meets its contract. The invariant: what is left of the row makes the row of what stands. Assumes nothing.
 use mathlib.Core.Path.{_≡_, refl, sym, ap, _∙_}
+use mathlib.Core.List.{[]}
 use mathlib.Core.Bool.{cond}
 use mathlib.Core.Logic.{⊎-elim}
 use Prim.Native.Nat.{_+_, _-_, _≤_, _<_}
@@ -17,7 +18,7 @@ use Rattle.pair_loop.proofs.try_sweep.Tie as tie
 
 abbrev Inv-loop : tie.InvT-loop
 Inv-loop allowance locations legs latest service depot i route₀ examined₀ accepted₀ a b j₀ route examined accepted j =
-    Timed (trip locations legs latest service depot depot) route
+    Timed (trip locations legs latest service depot depot []) route
     × (length route ≡ length route₀)
     × (i < j)
     × (j ≤ length route₀)
@@ -25,15 +26,15 @@ Inv-loop allowance locations legs latest service depot i route₀ examined₀ ac
     × (accepted ≤ examined)
     × (a < locations)
     × (b < locations)
-    × (sweep-left (problem (trip locations legs latest service depot depot)) allowance (length route₀) a b i (so-far examined accepted route) j
-    ≡ sweep (problem (trip locations legs latest service depot depot)) allowance (length route₀) (so-far examined₀ accepted₀ route₀) i)
+    × (sweep-left (problem (trip locations legs latest service depot depot [])) allowance (length route₀) a b i (so-far examined accepted route) j
+    ≡ sweep (problem (trip locations legs latest service depot depot [])) allowance (length route₀) (so-far examined₀ accepted₀ route₀) i)
 
 abbrev μ-loop : tie.MeasureT-loop
 μ-loop allowance locations legs latest service depot i route₀ examined₀ accepted₀ a b j₀ route examined accepted j =
     length route₀ - j
 
 abbrev P : tie.Start Inv-loop μ-loop → Problem
-P s = problem (trip (s .args .locations) (s .args .legs .now) (s .args .latest .now) (s .args .service .now) (s .args .depot) (s .args .depot))
+P s = problem (trip (s .args .locations) (s .args .legs .now) (s .args .latest .now) (s .args .service .now) (s .args .depot) (s .args .depot) [])
 
 -- The row from what was handed in.
 from-start : (s : tie.Start Inv-loop μ-loop) →

@@ -1,4 +1,5 @@
 -- `pair_reversal::try_pair` meets its contract: one case for each end. Assumes nothing.
+use mathlib.Core.List.{[]}
 use Prim.Native.Nat.{_≤_}
 use native.Mathlib.Omega.{arith}
 use borrow.Author.Needs.{needs}
@@ -14,7 +15,7 @@ use Rattle.pair_reversal.proofs.try_pair.Statement.{statement}
 use Rattle.pair_reversal.proofs.try_pair.Tie as tie
 
 abbrev P : tie.Start → Problem
-P s = problem (trip (s .args .locations) (s .args .legs .now) (s .args .latest .now) (s .args .service .now) (s .args .depot) (s .args .depot))
+P s = problem (trip (s .args .locations) (s .args .legs .now) (s .args .latest .now) (s .args .service .now) (s .args .depot) (s .args .depot) [])
 
 mul-c : tie.Need-mul-c
 mul-c c = search needs

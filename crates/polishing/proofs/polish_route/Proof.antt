@@ -33,9 +33,9 @@ part-polish-rows-end-2 c = search needs
 polish-rows-requires : tie.Need-polish-rows-requires
 polish-rows-requires c κs =
     let p = c .before .before .before .before .before .before .before .part-of .ensures .holds in
-    let s = c .before .before .before .before .before .before .before .before .before .before .before .before in
+    let s = c .before .before .before .before .before .before .before .before .before .before .before .before .before .before in
     rw (c .before .before .before .before .before .before .orders .ensures, c .before .before .before .before .before .masks .ensures)
-    (record { least = s .pre .least; most = s .pre .most; timed = s .pre .timed; patterns = p .rows; not-empty = p .not-empty })
+    (record { least = s .pre .least; most = s .pre .most; timed = s .pre .timed; patterns = p .rows; not-empty = p .not-empty; lent = s .pre .lent })
 
 same-length : tie.Need-same-length
 same-length c = search needs

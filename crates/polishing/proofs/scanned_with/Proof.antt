@@ -8,33 +8,33 @@ use Rattle.polishing.proofs.scanned_with.Statement.{statement}
 use Rattle.polishing.proofs.scanned_with.Tie as tie
 
 abbrev lent : tie.Start → Trip
-lent s = trip (s .args .locations) (s .args .legs .now) (s .args .latest .now) (s .args .service .now) (s .args .depot) (s .args .end)
+lent s = trip (s .args .locations) (s .args .legs .now) (s .args .latest .now) (s .args .service .now) (s .args .depot) (s .args .end) (s .args .pairs .now)
 
 add-if1 : tie.Need-add-if1
 add-if1 c = search needs
 
 returns : tie.Need-returns
 returns c =
-    let s = c .before .before .before .before .before .before .before in
-    no-cut-set (s .args .k) (lent s) (s .args .orders .now) (s .args .masks .now) (s .args .route .now) (s .args .allowance) (s .pre) (c .if1 .taken)
+    let s = c .before .before .before .before .before .before .before .before .before in
+    no-cut-set (s .args .k) (lent s) (s .args .orders .now) (s .args .masks .now) (s .args .members .now) (s .args .route .now) (s .args .allowance) (s .pre) (c .if1 .taken)
 
 fill-rows-requires : tie.Need-fill-rows-requires
 fill-rows-requires c κs =
-    let s = c .before .before .before .before .before .before .before .before in
+    let s = c .before .before .before .before .before .before .before .before .before .before in
     record { least = s .pre .least; most = s .pre .most; patterns = s .pre .patterns; places = refl }
 
 scan-cut-sets-requires : tie.Need-scan-cut-sets-requires
 scan-cut-sets-requires c κs =
-    let s = c .before .before .before .before .before .before .before .before .before .before .before in
-    scannable (s .args .k) (lent s) (s .args .orders .now) (s .args .masks .now) (s .args .route .now) (s .args .allowance) (s .pre) _ (omega (arith, c .before .before .before .before .if1 .left)) (c .before .before .fill-rows .ensures)
+    let s = c .before .before .before .before .before .before .before .before .before .before .before .before .before in
+    scannable (s .args .k) (lent s) (s .args .orders .now) (s .args .masks .now) (s .args .members .now) (s .args .route .now) (s .args .allowance) (s .pre) _ (omega (arith, c .before .before .before .before .if1 .left)) (c .before .before .fill-rows .ensures)
 
 same-length : tie.Need-same-length
 same-length c = search needs
 
 returns-2 : tie.Need-returns-2
 returns-2 c =
-    let s = c .before .before .before .before .before .before .before .before .before .before .before .before .before .before in
-    scanned-so (s .args .k) (lent s) (s .args .orders .now) (s .args .masks .now) (s .args .route .now) (s .args .allowance) (s .pre) (c .before .before .scan-cut-sets .ensures)
+    let s = c .before .before .before .before .before .before .before .before .before .before .before .before .before .before .before .before in
+    scanned-so (s .args .k) (lent s) (s .args .orders .now) (s .args .masks .now) (s .args .members .now) (s .args .route .now) (s .args .allowance) (s .pre) (c .before .before .scan-cut-sets .ensures)
 
 pub scanned-with-spec : {M : Type 1} → statement M
 scanned-with-spec =

@@ -1,6 +1,6 @@
 -- `refusal_rules::polish_refusal` meets its contract: the question, and then the room. Assumes nothing.
 use mathlib.Core.Path.{refl, _∙_}
-use mathlib.Core.List.{_∷_}
+use mathlib.Core.List.{[], _∷_}
 use Rattle.theory.specs.Tables.{trip}
 use Rattle.theory.specs.Refusals.{cut-count, trip-rules}
 use Rattle.theory.proofs.LastRule.{early}
@@ -22,7 +22,7 @@ returns : tie.Need-returns
 unfolding early
 returns c =
     let s = c .before .before .before .before .before .before .before in
-    c .first .ensures ∙ then-room (cut-count (s .args .k) ∷ trip-rules (trip (s .args .locations) (s .args .legs .now) (s .args .latest .now) (s .args .service .now) (s .args .depot) (s .args .end)) (s .args .route .now)) refl 6 (s .args .lent) _ _ (c .before .before .question-refusal .ensures) (c .before .check-room .ensures)
+    c .first .ensures ∙ then-room (cut-count (s .args .k) ∷ trip-rules (trip (s .args .locations) (s .args .legs .now) (s .args .latest .now) (s .args .service .now) (s .args .depot) (s .args .end) []) (s .args .route .now)) refl 6 (s .args .lent) _ _ (c .before .before .question-refusal .ensures) (c .before .check-room .ensures)
 
 pub polish-refusal-spec : {M : Type 1} → statement M
 polish-refusal-spec =

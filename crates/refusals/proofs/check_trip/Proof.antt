@@ -1,5 +1,6 @@
 -- `refusals::check_trip` meets its contract: the tables, then the depot and the route, then the end harbour, then the number of stops. Assumes nothing.
 use mathlib.Core.Path.{ap, _∙_}
+use mathlib.Core.List.{[]}
 use Rattle.theory.specs.Tables.{trip}
 use Rattle.theory.specs.Refusals.{either}
 use borrow.Author.Needs.{needs}
@@ -34,7 +35,7 @@ returns c =
     let n = c .before .before .before in
     c .first3 .ensures
     ∙ ap (either _) (c .before .first2 .ensures ∙ ap (either _) (c .before .before .first .ensures))
-    ∙ trip-parts (trip (s .args .locations) (s .args .legs .now) (s .args .latest .now) (s .args .service .now) (s .args .depot) (s .args .end)) (s .args .route .now) _ _ _ _ (n .before .before .before .check-tables .ensures) (n .before .before .check-known-stops .ensures) (n .before .check-known-end .ensures) (n .check-stop-count .ensures)
+    ∙ trip-parts (trip (s .args .locations) (s .args .legs .now) (s .args .latest .now) (s .args .service .now) (s .args .depot) (s .args .end) []) (s .args .route .now) _ _ _ _ (n .before .before .before .check-tables .ensures) (n .before .before .check-known-stops .ensures) (n .before .check-known-end .ensures) (n .check-stop-count .ensures)
 
 pub check-trip-spec : {M : Type 1} → statement M
 check-trip-spec =

@@ -11,11 +11,11 @@ use Rattle.run.proofs.run_list_k_opt_in_phase.Statement.{statement}
 use Rattle.run.proofs.run_list_k_opt_in_phase.Tie as tie
 
 abbrev Inv-loop : tie.InvT-loop
-Inv-loop k allowance locations legs latest service stops₀ lengths depots ends pins result₀ left₀ at₀ i₀ stops result left at i =
-    Running k allowance (tables locations legs latest service) (fleet stops₀ lengths depots ends pins) result₀ stops result left at i
+Inv-loop k allowance locations legs latest service stops₀ lengths depots ends pins pairs members result₀ left₀ at₀ i₀ stops result left at i =
+    Running k allowance (tables locations legs latest service) (fleet stops₀ lengths depots ends pins) pairs result₀ stops result left at i
 
 abbrev μ-loop : tie.MeasureT-loop
-μ-loop k allowance locations legs latest service stops₀ lengths depots ends pins result₀ left₀ at₀ i₀ stops result left at i = length lengths - i
+μ-loop k allowance locations legs latest service stops₀ lengths depots ends pins pairs members result₀ left₀ at₀ i₀ stops result left at i = length lengths - i
 
 abbrev lent : tie.Start Inv-loop μ-loop → Tables
 lent s = tables (s .args .locations) (s .args .legs .now) (s .args .latest .now) (s .args .service .now)
@@ -25,8 +25,8 @@ boats s = fleet (s .args .stops .now) (s .args .lengths .now) (s .args .depots .
 
 loop-holds : tie.Need-loop-holds Inv-loop μ-loop
 loop-holds c =
-    let s = c .before .before .before .before .before .before .before .before .before in
-    begins (s .args .k) (s .args .allowance) (lent s) (boats s) (s .args .result .now)
+    let s = c .before .before .before .before .before .before .before .before .before .before .before in
+    begins (s .args .k) (s .args .allowance) (lent s) (boats s) (s .args .pairs .now) (s .args .result .now)
 
 mul-behind : tie.Need-mul-behind Inv-loop μ-loop
 mul-behind c = search needs
@@ -36,9 +36,9 @@ shared-slice-read-behind c = search needs
 
 add-behind : tie.Need-add-behind Inv-loop μ-loop
 add-behind c =
-    let s = c .before .before .before .before .before .before .before .before .before .before .before .before in
+    let s = c .before .before .before .before .before .before .before .before .before .before .before .before .before .before in
     let l = c .before .before .loop in
-    let g = round-room (s .args .k) (s .args .allowance) (lent s) (boats s) (s .args .result .now) (s .pre) (l .stops) (l .result) (l .left) (l .at) (l .i) (l .inv) (c .before .loop-test .taken) in
+    let g = round-room (s .args .k) (s .args .allowance) (lent s) (boats s) (s .args .pairs .now) (s .args .result .now) (s .pre .runnable) (l .stops) (l .result) (l .left) (l .at) (l .i) (l .inv) (c .before .loop-test .taken) in
     omega (arith, g, s .good)
 
 mul-depot : tie.Need-mul-depot Inv-loop μ-loop
@@ -58,9 +58,9 @@ shared-slice-read-pin c = search needs
 
 mul-route : tie.Need-mul-route Inv-loop μ-loop
 mul-route c =
-    let s = c .before .before .before .before .before .before .before .before .before .before .before .before .before .before .before in
+    let s = c .before .before .before .before .before .before .before .before .before .before .before .before .before .before .before .before .before in
     let l = c .before .before .before .before .before .loop in
-    let g = round-room (s .args .k) (s .args .allowance) (lent s) (boats s) (s .args .result .now) (s .pre) (l .stops) (l .result) (l .left) (l .at) (l .i) (l .inv) (c .before .before .before .before .loop-test .taken) in
+    let g = round-room (s .args .k) (s .args .allowance) (lent s) (boats s) (s .args .pairs .now) (s .args .result .now) (s .pre .runnable) (l .stops) (l .result) (l .left) (l .at) (l .i) (l .inv) (c .before .before .before .before .loop-test .taken) in
     omega (arith, g, s .good)
 
 sub-route : tie.Need-sub-route Inv-loop μ-loop
@@ -71,16 +71,16 @@ part-route-start c = search needs
 
 part-route-end : tie.Need-part-route-end Inv-loop μ-loop
 part-route-end c =
-    let s = c .before .before .before .before .before .before .before .before .before .before .before .before .before .before .before in
+    let s = c .before .before .before .before .before .before .before .before .before .before .before .before .before .before .before .before .before in
     let l = c .before .before .before .before .before .loop in
-    round-room (s .args .k) (s .args .allowance) (lent s) (boats s) (s .args .result .now) (s .pre) (l .stops) (l .result) (l .left) (l .at) (l .i) (l .inv) (c .before .before .before .before .loop-test .taken)
+    round-room (s .args .k) (s .args .allowance) (lent s) (boats s) (s .args .pairs .now) (s .args .result .now) (s .pre .runnable) (l .stops) (l .result) (l .left) (l .at) (l .i) (l .inv) (c .before .before .before .before .loop-test .taken)
 
 run-round-requires : tie.Need-run-round-requires Inv-loop μ-loop
 run-round-requires c κs =
-    let s = c .before .before .before .before .before .before .before .before .before .before .before .before .before .before .before .before in
+    let s = c .before .before .before .before .before .before .before .before .before .before .before .before .before .before .before .before .before .before in
     let l = c .before .before .before .before .before .before .loop in
     let q : l .at + getD (s .args .lengths .now) (l .i) 0 - l .at ≡ getD (s .args .lengths .now) (l .i) 0 = omega arith in
-    rw q (polishable (s .args .k) (s .args .allowance) (lent s) (boats s) (s .args .result .now) (s .pre) (l .stops) (l .result) (l .left) (l .at) (l .i) (l .inv) (c .before .before .before .before .before .loop-test .taken))
+    rw q (polishable (s .args .k) (s .args .allowance) (lent s) (boats s) (s .args .pairs .now) (s .args .result .now) (s .pre .runnable) (l .stops) (l .result) (l .left) (l .at) (l .i) (l .inv) (c .before .before .before .before .before .loop-test .taken) (s .pre .lent))
 
 mul-row : tie.Need-mul-row Inv-loop μ-loop
 mul-row c = search needs
@@ -117,13 +117,13 @@ loop-less c = search needs
 
 loop-again : tie.Need-loop-again Inv-loop μ-loop
 loop-again c =
-    let s = c .before .before .before .before .before .before .before .before .before .before .before .before .before .before .before .before .before .before .before .before .before .before .before .before in
+    let s = c .before .before .before .before .before .before .before .before .before .before .before .before .before .before .before .before .before .before .before .before .before .before .before .before .before .before in
     let l = c .before .before .before .before .before .before .before .before .before .before .before .before .before .before .loop in
     let q : l .at + getD (s .args .lengths .now) (l .i) 0 - l .at ≡ getD (s .args .lengths .now) (l .i) 0 = omega arith in
     let p : 4 * l .i + 4 - 4 * l .i ≡ 4 = omega arith in
     let r = rw q at (c .before .before .before .before .before .before .before .run-round .ensures) in
     let n = rw p at (c .before .before .before .put-state .ensures) in
-    rw (q, p, c .examined .ensures) (turn (s .args .k) (s .args .allowance) (lent s) (boats s) (s .args .result .now) (s .pre) (l .stops) (l .result) (l .left) (l .at) (l .i) (l .inv) (c .before .before .before .before .before .before .before .before .before .before .before .before .before .loop-test .taken) (c .before .before .before .before .before .before .before .run-round .result) _ _ r n)
+    rw (q, p, c .examined .ensures) (turn (s .args .k) (s .args .allowance) (lent s) (boats s) (s .args .pairs .now) (s .args .result .now) (s .pre .runnable) (l .stops) (l .result) (l .left) (l .at) (l .i) (l .inv) (c .before .before .before .before .before .before .before .before .before .before .before .before .before .loop-test .taken) (c .before .before .before .before .before .before .before .run-round .result) _ _ r n)
 
 same-length : tie.Need-same-length Inv-loop μ-loop
 same-length c = search needs
@@ -133,9 +133,9 @@ same-length-2 c = search needs
 
 returns : tie.Need-returns Inv-loop μ-loop
 returns c =
-    let s = c .before .before .before .before .before .before .before .before .before .before .before in
+    let s = c .before .before .before .before .before .before .before .before .before .before .before .before .before in
     let l = c .before .loop in
-    Turn.ends (s .args .k) (s .args .allowance) (lent s) (boats s) (s .args .result .now) (s .pre) (l .stops) (l .result) (l .left) (l .at) (l .i) (l .inv) (c .loop-test .left)
+    Turn.ends (s .args .k) (s .args .allowance) (lent s) (boats s) (s .args .pairs .now) (s .args .result .now) (s .pre .runnable) (l .stops) (l .result) (l .left) (l .at) (l .i) (l .inv) (c .loop-test .left)
 
 pub run-list-k-opt-in-phase-spec : {M : Type 1} → statement M
 run-list-k-opt-in-phase-spec =

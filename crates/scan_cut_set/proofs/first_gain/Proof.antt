@@ -6,9 +6,31 @@ use Rattle.costs.proofs.Segments.{last-cut}
 use Rattle.deadline_dues.proofs.Filling.{no-stays}
 use Rattle.deadline_dues.proofs.Held.{reached-held, reached-dues}
 use Rattle.scan_cut_set.specs.Gain.{below}
-use Rattle.scan_cut_set.proofs.Gain.{dues-read, head-timed, clock-told, tabled, told-late, chains, none-below, due-rows, first-due-gain}
+use Rattle.scan_cut_set.proofs.Gain.{dues-read, head-timed, clock-told, tabled, told-late, tellable, none-before, chains, none-below, due-rows, first-due-gain}
 use Rattle.scan_cut_set.proofs.first_gain.Statement.{statement}
 use Rattle.scan_cut_set.proofs.first_gain.Tie as tie
+
+sub-if1 : tie.Need-sub-if1
+sub-if1 c = search needs
+
+mul-if1 : tie.Need-mul-if1
+mul-if1 c = search needs
+
+shared-slice-read-if1 : tie.Need-shared-slice-read-if1
+shared-slice-read-if1 c = search needs
+
+returns : tie.Need-returns
+returns c =
+    let p = c .before .before .before .before .before .before .before .before .before .pre in
+    record {
+      within = omega arith;
+      first = λ ps w l. none-before p (c .if1 .taken) ps w l;
+      padded = p .padded;
+      held = p .held;
+      behind = p .behind;
+      marks = p .marks;
+      marks-behind = p .marks-behind;
+    }
 
 fill-joint-requires : tie.Need-fill-joint-requires
 fill-joint-requires c κs = search needs
@@ -18,7 +40,7 @@ standing-cost-requires c κs = search needs
 
 late-behind-requires : tie.Need-late-behind-requires
 late-behind-requires c κs =
-    let s = c .before .before .before .before .before .before .before .before .before in
+    let s = c .before .before .before .before .before .before .before .before .before .before .before .before .before in
     let k = s .pre .searchable .cut-set in
     record { not-empty = omega (arith, k .least); within = omega (arith, last-cut (s .args .cuts .now) (s .args .route .now) k, k .short, s .pre .latenesses .places); places = s .pre .latenesses .places }
 
@@ -26,23 +48,25 @@ threshold-requires : tie.Need-threshold-requires
 threshold-requires c κs = search needs
 
 next-shorter-requires : tie.Need-next-shorter-requires
-next-shorter-requires c κs = let s = c .before .before .before .before .before .before .before .before .before .before .before .before in chains (tabled (s .pre .searchable) (s .pre .patterned) (s .pre .allowed) (c .before .before .before .before .before .fill-joint .ensures)) 0 (omega arith)
+next-shorter-requires c κs = let s = c .before .before .before .before .before .before .before .before .before .before .before .before .before .before .before .before in chains (tabled (s .pre .searchable) (s .pre .patterned) (s .pre .allowed) (c .before .before .before .before .before .fill-joint .ensures)) 0 (omega arith)
 
-returns : tie.Need-returns
-returns c =
-    let s = c .before .before .before .before .before .before .before .before .before .before .before .before .before .before in
+returns-2 : tie.Need-returns-2
+returns-2 c =
+    let s = c .before .before .before .before .before .before .before .before .before .before .before .before .before .before .before .before .before .before in
     let j = c .before .before .before .before .before .before .before .fill-joint .ensures in
     record {
       within = omega arith;
-      first = λ ps w l. none-below (tabled (s .pre .searchable) w l j) (told-late (s .pre) (c .before .before .before .before .late-behind .ensures)) (s .pre .early) _ _ (c .if1 .taken) ((c .before .before .before .threshold .ensures) ∙ ap (λ n. below n (c .before .before .before .before .late-behind .result)) (c .before .before .before .before .before .standing-cost .ensures)) (c .before .next-shorter .ensures);
+      first = λ ps w l. none-below (tabled (s .pre .searchable) w l j) (told-late (s .pre) (c .before .before .before .before .late-behind .ensures)) (s .pre .early) (s .pre .front) (s .pre .back) (c .before .before .before .before .before .before .before .before .before .if1 .left) _ _ (c .if2 .taken) ((c .before .before .before .threshold .ensures) ∙ ap (λ n. below n (c .before .before .before .before .late-behind .result)) (c .before .before .before .before .before .standing-cost .ensures)) (c .before .next-shorter .ensures);
       padded = j .padded;
       held = s .pre .held;
       behind = s .pre .behind;
+      marks = s .pre .marks;
+      marks-behind = s .pre .marks-behind;
     }
 
 time-states-requires : tie.Need-time-states-requires
 time-states-requires c κs =
-    let s = c .before .before .before .before .before .before .before .before .before .before .before .before .before .before .before .before in
+    let s = c .before .before .before .before .before .before .before .before .before .before .before .before .before .before .before .before .before .before .before .before in
     let g = s .pre .searchable in
     record {
       reachable = record { read = dues-read g; cut-set = g .cut-set; held = s .pre .held; behind = s .pre .behind };
@@ -50,49 +74,60 @@ time-states-requires c κs =
       brief = no-stays 9;
     }
 
+mark-states-requires : tie.Need-mark-states-requires
+mark-states-requires c κs = tellable (c .before .before .before .before .before .before .before .before .before .before .before .before .before .before .before .before .before .before .before .before .before .before .pre)
+
 head-clock-requires : tie.Need-head-clock-requires
-head-clock-requires c κs = head-timed (c .before .before .before .before .before .before .before .before .before .before .before .before .before .before .before .before .before .pre .searchable)
+head-clock-requires c κs = head-timed (c .before .before .before .before .before .before .before .before .before .before .before .before .before .before .before .before .before .before .before .before .before .before .before .pre .searchable)
 
 sub-m : tie.Need-sub-m
-sub-m c = omega (arith, c .before .before .before .before .before .before .before .before .before .before .before .before .before .before .before .before .before .before .pre .searchable .cut-set .least)
+sub-m c = omega (arith, c .before .before .before .before .before .before .before .before .before .before .before .before .before .before .before .before .before .before .before .before .before .before .before .before .pre .searchable .cut-set .least)
 
 first-due-requires : tie.Need-first-due-requires
 first-due-requires c κs =
-    let s = c .before .before .before .before .before .before .before .before .before .before .before .before .before .before .before .before .before .before .before .before .before in
+    let s = c .before .before .before .before .before .before .before .before .before .before .before .before .before .before .before .before .before .before .before .before .before .before .before .before .before .before .before .before in
     let g = s .pre .searchable in
-    let h = c .before .before .before .head-clock .ensures in
-    let w = c .before .before .before .before .time-states .ensures in
+    let h = c .before .before .before .before .head-clock .ensures in
+    let w = c .before .before .before .before .before .before .before .time-states .ensures in
     let e = clock-told g h in
-    rw e (due-rows (tabled g (s .pre .patterned) (s .pre .allowed) (c .before .before .before .before .before .before .before .before .before .before .before .before .before .before .fill-joint .ensures)) _ _ (w .served) (w .reached .places) _ _ (omega (arith, e, h .early)) (c .before .before .before .before .before .before .before .before .next-shorter .ensures))
+    rw e (due-rows (tabled g (s .pre .patterned) (s .pre .allowed) (c .before .before .before .before .before .before .before .before .before .before .before .before .before .before .before .before .before .fill-joint .ensures)) _ _ _ (w .served) (w .reached .places) (c .before .before .before .before .before .mark-states .ensures .places) _ _ (omega (arith, e, h .early)) (c .before .before .before .before .before .before .before .before .before .before .before .next-shorter .ensures))
 
-returns-2 : tie.Need-returns-2
-returns-2 c =
-    let s = c .before .before .before .before .before .before .before .before .before .before .before .before .before .before .before .before .before .before .before .before .before .before in
+returns-3 : tie.Need-returns-3
+returns-3 c =
+    let s = c .before .before .before .before .before .before .before .before .before .before .before .before .before .before .before .before .before .before .before .before .before .before .before .before .before .before .before .before .before in
     let g = s .pre .searchable in
-    let j = c .before .before .before .before .before .before .before .before .before .before .before .before .before .before .before .fill-joint .ensures in
-    let w = c .before .before .before .before .before .time-states .ensures in
-    let d = rw (clock-told g (c .before .before .before .before .head-clock .ensures)) at (c .first-due .ensures) in
-    let late = c .before .before .before .before .before .before .before .before .before .before .before .before .late-behind in
+    let j = c .before .before .before .before .before .before .before .before .before .before .before .before .before .before .before .before .before .before .fill-joint .ensures in
+    let w = c .before .before .before .before .before .before .before .before .time-states .ensures in
+    let told = c .before .before .before .before .before .before .mark-states .ensures in
+    let d = rw (clock-told g (c .before .before .before .before .before .head-clock .ensures)) at (c .first-due .ensures) in
+    let late = c .before .before .before .before .before .before .before .before .before .before .before .before .before .before .before .late-behind in
     record {
       within = c .first-due .ensures .within;
-      first = λ ps u l. first-due-gain (tabled g u l j) (told-late (s .pre) (late .ensures)) (s .pre .early) _ _ (w .served) (reached-dues (w .reached) (g .cut-set)) _ _ ((c .before .before .before .before .before .before .before .before .before .before .before .threshold .ensures) ∙ ap (λ n. below n (late .result)) (c .before .before .before .before .before .before .before .before .before .before .before .before .before .standing-cost .ensures)) d;
+      first = λ ps u l. first-due-gain (tabled g u l j) (told-late (s .pre) (late .ensures)) (s .pre .early) (s .pre .front) (s .pre .back) (c .before .before .before .before .before .before .before .before .before .before .before .before .before .before .before .before .before .before .before .before .if1 .left) _ _ _ (w .served) (reached-dues (w .reached) (g .cut-set)) (told .is _ (s .pre .lent) (s .pre .marks) .0) _ _ ((c .before .before .before .before .before .before .before .before .before .before .before .before .before .before .threshold .ensures) ∙ ap (λ n. below n (late .result)) (c .before .before .before .before .before .before .before .before .before .before .before .before .before .before .before .before .standing-cost .ensures)) d;
       padded = j .padded;
       held = reached-held (w .reached) (g .cut-set);
       behind = omega (arith, w .reached .reach);
+      marks = told .is _ (s .pre .lent) (s .pre .marks) .1;
+      marks-behind = told .behind;
     }
 
 pub first-gain-spec : {M : Type 1} → statement M
 first-gain-spec =
     tie.close
     (tie.spec
+    sub-if1
+    mul-if1
+    shared-slice-read-if1
+    returns
     fill-joint-requires
     standing-cost-requires
     late-behind-requires
     threshold-requires
     next-shorter-requires
-    returns
+    returns-2
     time-states-requires
+    mark-states-requires
     head-clock-requires
     sub-m
     first-due-requires
-    returns-2)
+    returns-3)

@@ -16,23 +16,23 @@ use Rattle.scan_stretch.proofs.scan_last_cuts.Statement.{statement}
 use Rattle.scan_stretch.proofs.scan_last_cuts.Tie as tie
 
 abbrev Inv-loop : tie.InvT-loop
-Inv-loop locations legs latest service depot end rows patterns route forward backward stayed lateness cuts₀ joint₀ left entries exits inside low dues₀ zero examined₀ cuts joint dues examined =
-    ((ps : List Pattern) → Listed (length cuts₀) patterns rows ps → Going (trip locations legs latest service depot end) ps route cuts₀ left cuts joint dues examined)
+Inv-loop locations legs latest service depot end pairs members rows patterns route forward backward stayed lateness since cuts₀ joint₀ left entries exits inside low dues₀ held₀ zero examined₀ cuts joint dues held examined =
+    ((ps : List Pattern) → Listed (length cuts₀) patterns rows ps → Going (trip locations legs latest service depot end pairs) ps members route cuts₀ left cuts joint dues held examined)
     × PreparedNow locations legs depot route cuts₀ rows patterns entries exits inside low
 
 abbrev μ-loop : tie.MeasureT-loop
-μ-loop locations legs latest service depot end rows patterns route forward backward stayed lateness cuts₀ joint₀ left entries exits inside low dues₀ zero examined₀ cuts joint dues examined = length route + 1 - last-cut cuts
+μ-loop locations legs latest service depot end pairs members rows patterns route forward backward stayed lateness since cuts₀ joint₀ left entries exits inside low dues₀ held₀ zero examined₀ cuts joint dues held examined = length route + 1 - last-cut cuts
 
 prepare-requires : tie.Need-prepare-requires Inv-loop μ-loop
-prepare-requires c κs = preparable (c .before .before .before .before .before .before .before .before .before .before .pre .hopeful) (c .before .before .before .before .before .before .before .before .before .before .pre .first)
+prepare-requires c κs = preparable (c .before .before .before .before .before .before .before .before .before .before .before .before .pre .hopeful) (c .before .before .before .before .before .before .before .before .before .before .before .before .pre .first)
 
 loop-holds : tie.Need-loop-holds Inv-loop μ-loop
-loop-holds c = (λ ps w. starts-bare (c .before .before .before .before .before .before .before .before .before .before .before .pre .hopeful) ps (c .before .before .before .before .before .before .before .before .before .before .before .args .left), c .prepare .ensures)
+loop-holds c = (λ ps w. starts-bare (c .before .before .before .before .before .before .before .before .before .before .before .before .before .pre .hopeful) ps (c .before .before .before .before .before .before .before .before .before .before .before .before .before .args .left), c .prepare .ensures)
 
 take-step-requires : tie.Need-take-step-requires Inv-loop μ-loop
 take-step-requires c κs =
-    let s = c .before .before .before .before .before .before .before .before .before .before .before .before .before .before .before .before .before .before .before .before in
-    let l = c .before .before .before .before .before .before .before .before .loop in
+    let s = c .before .before .before .before .before .before .before .before .before .before .before .before .before .before .before .before .before .before .before .before .before .before .before in
+    let l = c .before .before .before .before .before .before .before .before .before .loop in
     let h = s .pre .hopeful in
     let g = l .inv .0 (h .list) (h .listed) in
     record { triable = triable-on g h; prepared = prepared-on g h (l .inv .1); zero-places = refl; zero-is = zero-at 21 }
@@ -42,16 +42,16 @@ enum-known-step c = search needs
 
 same-length : tie.Need-same-length Inv-loop μ-loop
 same-length c =
-    let s = c .before .before .before .before .before .before .before .before .before .before .before .before .before .before .before .before .before .before .before .before .before .before .before .before .before .before in
-    let l = c .before .before .before .before .before .before .before .before .before .before .before .before .before .before .loop in
+    let s = c .before .before .before .before .before .before .before .before .before .before .before .before .before .before .before .before .before .before .before .before .before .before .before .before .before .before .before .before .before in
+    let l = c .before .before .before .before .before .before .before .before .before .before .before .before .before .before .before .loop in
     let t = c .before .before .before .before .before .take-step in
     let h = s .pre .hopeful in
-    t .kept .1 .1 .1 .1 .1 .1 .1 .1 .1 .1 .1 .1 .1 .0 ∙ l .inv .0 (h .list) (h .listed) .many
+    t .kept .1 .1 .1 .1 .1 .1 .1 .1 .1 .1 .1 .1 .1 .1 .1 .1 .0 ∙ l .inv .0 (h .list) (h .listed) .many
 
 returns : tie.Need-returns Inv-loop μ-loop
 returns c =
-    let s = c .before .before .before .before .before .before .before .before .before .before .before .before .before .before .before .before .before .before .before .before .before .before .before .before .before .before in
-    let l = c .before .before .before .before .before .before .before .before .before .before .before .before .before .before .loop in
+    let s = c .before .before .before .before .before .before .before .before .before .before .before .before .before .before .before .before .before .before .before .before .before .before .before .before .before .before .before .before .before in
+    let l = c .before .before .before .before .before .before .before .before .before .before .before .before .before .before .before .loop in
     let t = c .before .before .before .before .before .take-step in
     let h = s .pre .hopeful in
     record {
@@ -64,8 +64,8 @@ enum-known-step-2 c = search needs
 
 loop-less : tie.Need-loop-less Inv-loop μ-loop
 loop-less c =
-    let s = c .before .before .before .before .before .before .before .before .before .before .before .before .before .before .before .before .before .before .before .before .before .before .before .before .before .before in
-    let l = c .before .before .before .before .before .before .before .before .before .before .before .before .before .before .loop in
+    let s = c .before .before .before .before .before .before .before .before .before .before .before .before .before .before .before .before .before .before .before .before .before .before .before .before .before .before .before .before .before in
+    let l = c .before .before .before .before .before .before .before .before .before .before .before .before .before .before .before .loop in
     let t = c .before .before .before .before .before .take-step in
     let h = s .pre .hopeful in
     let g = l .inv .0 (h .list) (h .listed) in
@@ -73,8 +73,8 @@ loop-less c =
 
 loop-again : tie.Need-loop-again Inv-loop μ-loop
 loop-again c =
-    let s = c .before .before .before .before .before .before .before .before .before .before .before .before .before .before .before .before .before .before .before .before .before .before .before .before .before .before in
-    let l = c .before .before .before .before .before .before .before .before .before .before .before .before .before .before .loop in
+    let s = c .before .before .before .before .before .before .before .before .before .before .before .before .before .before .before .before .before .before .before .before .before .before .before .before .before .before .before .before .before in
+    let l = c .before .before .before .before .before .before .before .before .before .before .before .before .before .before .before .loop in
     let t = c .before .before .before .before .before .take-step in
     (λ ps w. (rw (c .before .step2 .given .1) at (t .ensures (s .args .cuts .now) ps w (l .inv .0 ps w))) .0, l .inv .1)
 

@@ -6,9 +6,9 @@
 use beside::cases::polish::Case;
 use beside::lists::rows::Rows;
 use beside::polish::measured::{self, CANDIDATES, KINDS, SIZES};
-use mittenschist::raw;
+use beside::turns::{self, polished, ratio};
 use std::hint::black_box;
-use std::time::{Duration, Instant};
+use std::time::Duration;
 
 /// Turns of each side; the best counts, since other work may share the machine.
 const TURNS: usize = 15;
@@ -24,59 +24,17 @@ fn main() {
 
 /// Six numbers of a call.
 fn call(case: &Case, rows: Option<&Rows>) -> [u64; 6] {
-    let mut result = [0; 6];
-    let mut route = case.route.clone();
-    let (locations, depot) = (case.tables.locations, case.depot);
-    let (legs, latest, service) = (&case.tables.legs, &case.tables.latest, &case.tables.service);
-    let refused = match rows {
-        None => raw::polish_route_to_end(
-            case.k,
-            case.allowance,
-            locations,
-            legs,
-            latest,
-            service,
-            depot,
-            depot,
-            &mut route,
-            &mut result,
-        ),
-        Some(Rows { orders, masks }) => raw::polish_with_patterns(
-            case.k,
-            orders,
-            masks,
-            case.allowance,
-            locations,
-            legs,
-            latest,
-            service,
-            depot,
-            depot,
-            &mut route,
-            &mut result,
-        ),
-    };
-    assert_eq!(refused, 0);
-    result
+    polished(case, rows, &mut Vec::new())
 }
 
 /// Best times of so many calls of each side, in turn.
 fn timed(case: &Case, sides: [Option<&Rows>; 2], calls: u32) -> [Duration; 2] {
-    let mut best = [Duration::MAX; 2];
-    for _ in 0..TURNS {
-        for (best, rows) in best.iter_mut().zip(sides) {
-            let start = Instant::now();
-            for _ in 0..calls {
-                black_box(call(black_box(case), rows));
-            }
-            *best = start.elapsed().min(*best);
+    let [mut first, mut second] = sides.map(|rows| {
+        move || {
+            black_box(call(black_box(case), rows));
         }
-    }
-    best.map(|time| time / calls)
-}
-
-fn ratio(one: Duration, other: Duration) -> f64 {
-    one.as_secs_f64() / other.as_secs_f64()
+    });
+    turns::timed(TURNS, calls, [&mut first, &mut second])
 }
 
 fn whole_lists() {

@@ -49,6 +49,9 @@ fn searches() {
         let end = u32::from(seed % 10);
         say_ended(seed, end);
         ran_to(seed, &[end, 9 - end]);
+        let pairs = filled(65535 - seed, 9, 4);
+        say_kept(seed, end, &pairs);
+        ran_keeping(seed, &[end, 9 - end], &pairs);
         listed(seed);
     }
     refused_searches();
@@ -77,6 +80,10 @@ fn refused_searches() {
     ran(1, 8);
     say_ended(1, 10);
     ran_to(1, &[0]);
+    // Behind 24, before 5.
+    say_kept(1, 10, &[3, 3]);
+    say_kept(1, 9, &[3, 3]);
+    ran_keeping(1, &[0], &[3, 4, 5]);
     listed(29);
 }
 
@@ -128,6 +135,7 @@ fn tables(seed: u16) -> Tables {
         legs: filled(seed, 99, LOCATIONS * LOCATIONS),
         latest: filled(seed, 799, LOCATIONS),
         service: filled(seed, service_of(seed), LOCATIONS),
+        pairs: None,
     }
 }
 
@@ -169,18 +177,34 @@ fn say_polished(case: &polish::Case) {
 }
 
 /// Seven stops from location 0 to an end harbour.
-fn say_ended(seed: u16, end: u32) {
+fn ending(seed: u16, end: u32, pairs: Option<Vec<u32>>) -> ends::Case {
+    let tables = Tables {
+        pairs,
+        ..tables(seed)
+    };
     let closed = polish::Case {
         k: cuts_of(seed),
         allowance: allowance_of(seed),
-        tables: tables(seed),
+        tables,
         depot: 0,
         route: filled(seed, 9, 7),
         room: polish::RESULT_PLACES + 1,
     };
-    let reply = ends::Case { closed, end }.expected();
+    ends::Case { closed, end }
+}
+
+fn say_ending(name: &str, case: &ends::Case) {
+    let reply = case.expected();
     let result = seen(&reply, 1, polish::RESULT_PLACES, 7, RESULT);
-    say("ended", &reply, &result, "route", &reply.lent[0].1);
+    say(name, &reply, &result, "route", &reply.lent[0].1);
+}
+
+fn say_ended(seed: u16, end: u32) {
+    say_ending("ended", &ending(seed, end, None));
+}
+
+fn say_kept(seed: u16, end: u32, pairs: &[u32]) {
+    say_ending("kept", &ending(seed, end, Some(pairs.to_vec())));
 }
 
 fn say_paired(seed: u16, room: usize) {
@@ -215,21 +239,36 @@ fn ran(seed: u16, last: usize) {
 }
 
 /// Two rounds, each to its own end.
-fn ran_to(seed: u16, ends: &[u32]) {
-    let case = run::Case {
+fn running_to(seed: u16, ends: &[u32], pairs: Option<Vec<u32>>) -> run::Case {
+    let tables = Tables {
+        pairs,
+        ..tables(seed)
+    };
+    run::Case {
         k: cuts_of(seed),
         allowance: allowance_of(seed),
-        tables: tables(seed),
+        tables,
         stops: filled(seed, 9, 11),
         lengths: vec![6, 5],
         depots: vec![0, 1],
         ends: Some(ends.to_vec()),
         pins: vec![0, 0],
         room: 9,
-    };
+    }
+}
+
+fn say_ran(name: &str, case: &run::Case) {
     let reply = case.expected();
     let result = seen(&reply, 1, 8, case.room, RESULT);
-    say("ran", &reply, &result, "stops", &reply.lent[0].1);
+    say(name, &reply, &result, "stops", &reply.lent[0].1);
+}
+
+fn ran_to(seed: u16, ends: &[u32]) {
+    say_ran("ran", &running_to(seed, ends, None));
+}
+
+fn ran_keeping(seed: u16, ends: &[u32], pairs: &[u32]) {
+    say_ran("run kept", &running_to(seed, ends, Some(pairs.to_vec())));
 }
 
 fn listed(seed: u16) {

@@ -1,4 +1,4 @@
-//! One call of polishing to an end harbour: what is handed in, and what is refused of it.
+//! One call of polishing to an end harbour, with pairs or without: what is handed in, and what is refused of it.
 
 use super::polish::{self, RESULT_PLACES};
 use crate::rules::{bad_k, first_refusal, too_many_stops};
@@ -29,6 +29,7 @@ impl Case {
             service,
             (4, case.unknown_place()),
             (24, case.tables.unknown(&[self.end])),
+            (29, case.tables.bad_pairs()),
             (5, too_many_stops(case.route.len())),
             (21, case.room < RESULT_PLACES),
         ])

@@ -22,7 +22,7 @@ pub struct Case {
     pub stops: Vec<u32>,
     pub lengths: Vec<usize>,
     pub depots: Vec<u32>,
-    /// None where each round ends at its depot: another entry is called then.
+    /// None where each round ends at its depot: another entry is called then. With pairs there are ends.
     pub ends: Option<Vec<u32>>,
     pub pins: Vec<u8>,
     /// Length of the lent result.
@@ -67,9 +67,15 @@ impl Case {
             service,
             (4, self.unknown_place()),
             (24, self.tables.unknown(self.ends())),
+            (29, self.tables.bad_pairs()),
             (5, self.bad_rounds()),
             (21, self.room < self.lengths.len() * NUMBERS_A_ROUND),
         ])
+    }
+
+    /// Whether each round ends at its depot.
+    pub fn closed(&self) -> bool {
+        self.ends() == self.depots
     }
 
     pub fn ends(&self) -> &[u32] {

@@ -28,7 +28,7 @@ pub fn some_end(random: &mut Random, tables: &Tables, depot: u32) -> u32 {
 }
 
 /// About as many candidates as the Rust examines until it is finished or has examined some.
-fn near_the_whole(random: &mut Random, case: &Case) -> u64 {
+pub fn near_the_whole(random: &mut Random, case: &Case) -> u64 {
     let most = if case.closed.route.len() > 64 {
         200
     } else {

@@ -2,13 +2,13 @@
 //! tours alone. It is asked over a table with one more location, which is left like the depot and reached like the end; and short calls of
 //! polishing are answered by a scan written from the documents as well (`plain`), which must agree with it.
 
-mod damage;
+pub mod damage;
 mod deltas;
 pub mod generate;
 mod lengths;
 pub mod plain;
 mod replies;
-mod runs;
+pub mod runs;
 mod short;
 
 use crate::trial::{Family, Source};

@@ -1,5 +1,5 @@
 //! The scan of document 01 with document 02's length, written from their words: every cut set in dictionary order with every pattern in index order,
-//! the first candidate that is shorter and keeps every deadline is taken, and the scan begins again.
+//! the first candidate that is shorter and keeps every deadline and every pair is taken, and the scan begins again.
 
 use crate::cases::ends::Case;
 use crate::oracle::polish::Counts;
@@ -38,7 +38,7 @@ fn improved(
             counts.examined += 1;
             let candidate = rejoined(route, &cuts, pattern);
             let shorter = case.length(&candidate) < case.length(route);
-            if shorter && in_time(case, &candidate) {
+            if shorter && in_time(case, &candidate) && case.closed.tables.keeps_pairs(&candidate) {
                 return Some(candidate);
             }
         }

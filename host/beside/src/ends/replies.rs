@@ -1,10 +1,10 @@
-//! Both replies to a call of polishing to an end harbour.
+//! Both replies to a call of polishing to an end harbour, with pairs or without.
 
 use super::plain;
 use crate::cases::ends::Case;
+use crate::one_route;
 use crate::oracle::polish::{polish, Counts};
 use crate::trial::{Reply, Trial, NO_ANSWER};
-use crate::{ffi, one_route};
 
 /// Calls that are answered by the plain scan too: up to so many stops.
 const SHORT: usize = 6;
@@ -20,6 +20,18 @@ impl Case {
         Ok(by_rust)
     }
 
+    /// How it was handed in, and whether it was changed.
+    fn paired_kind(&self, changed: bool) -> &'static str {
+        let kept = self.closed.tables.keeps_pairs(&self.closed.route);
+        match (self.closed.tables.pairs().is_empty(), kept, changed) {
+            (true, ..) => "no pairs",
+            (_, true, false) => "pairs kept",
+            (_, true, true) => "pairs kept and changed",
+            (_, false, false) => "pairs not kept",
+            (_, false, true) => "pairs not kept and mended",
+        }
+    }
+
     fn by_the_documents(&self) -> (Counts, Vec<u32>) {
         plain::polish(self, &plain::all_patterns(self.closed.k))
     }
@@ -31,24 +43,15 @@ impl Trial for Case {
     }
 
     fn given(&self) -> Result<Reply, String> {
-        let case = &self.closed;
-        one_route::given(case, |lent| {
-            ffi::polish_route_to_end(
-                case.k,
-                case.allowance,
-                case.tables.locations,
-                lent.legs,
-                lent.latest,
-                lent.service,
-                case.depot,
-                self.end,
-                lent.route,
-                lent.result,
-            )
+        one_route::given(&self.closed, |lent| {
+            one_route::polish(&self.closed, self.end, None, lent)
         })
     }
 
     fn kind(&self, expected: &Reply) -> &'static str {
+        if self.closed.tables.pairs.is_some() {
+            return self.paired_kind(expected.number(1, 2) > 0);
+        }
         let back = self.end == self.closed.depot;
         match (expected.number(1, 0), expected.number(1, 2)) {
             (0, 0) if back => "back at the depot",

@@ -8,7 +8,7 @@ use crate::run::damage::{damage, with_a_round};
 use crate::run::generate::random_run;
 use crate::trial::{damaged, Drawn};
 
-fn to_ends(random: &mut Random, mut case: Case) -> Case {
+pub fn to_ends(random: &mut Random, mut case: Case) -> Case {
     let depots = case.depots.iter();
     let ends = depots.map(|&depot| some_end(random, &case.tables, depot));
     case.ends = Some(ends.collect());
@@ -28,11 +28,17 @@ pub const SETS: u64 = 1 << NUMBERS.len();
 pub fn draw_damaged(random: &mut Random, index: u64) -> Drawn {
     let case = with_a_round(random_run(random));
     let case = to_ends(random, case);
-    damaged(case, &NUMBERS, index, |case, number| match number {
+    damaged(case, &NUMBERS, index, |case, number| {
+        damage_run(random, case, number)
+    })
+}
+
+pub fn damage_run(random: &mut Random, case: &mut Case, number: u32) {
+    match number {
         24 => damage_ends(random, case),
         5 if random.one_in(3) => another_number(random, case),
         _ => damage(random, case, number),
-    })
+    }
 }
 
 fn damage_ends(random: &mut Random, case: &mut Case) {

@@ -1,9 +1,9 @@
 //! Calls that are refused: a good one, damaged in one or more ways.
 
 use super::generate::some_rows;
+use super::polish::Case;
 use super::rows::Rows;
-use crate::damage::unknown;
-use crate::polish::damage::damage;
+use crate::ends::damage::damage_ended;
 use crate::random::Random;
 use crate::rules::MOST_ROWS;
 use crate::trial::{damaged, Drawn};
@@ -17,15 +17,18 @@ pub const SETS: u64 = 1 << NUMBERS.len();
 pub fn draw(random: &mut Random, index: u64) -> Drawn {
     let case = some_rows(random);
     damaged(case, &NUMBERS, index, |case, number| {
-        let k = case.ended.closed.k;
-        match number {
-            28 => a_useless_row(random, &mut case.rows, k),
-            27 => a_bad_row(random, &mut case.rows, k),
-            26 => the_count(random, &mut case.rows, k),
-            24 => case.ended.end = unknown(random, &case.ended.closed.tables),
-            _ => damage(random, &mut case.ended.closed, number),
-        }
+        damage_list(random, case, number)
     })
+}
+
+pub fn damage_list(random: &mut Random, case: &mut Case, number: u32) {
+    let k = case.ended.closed.k;
+    match number {
+        28 => a_useless_row(random, &mut case.rows, k),
+        27 => a_bad_row(random, &mut case.rows, k),
+        26 => the_count(random, &mut case.rows, k),
+        _ => damage_ended(random, &mut case.ended, number),
+    }
 }
 
 /// One that changes nothing, or one that stands elsewhere.

@@ -2,8 +2,8 @@
 //! order polishing is compared with it, with other lists with the scan written from the documents (`ends::plain`). Texts are read by a reader of
 //! the harness.
 
-mod damage;
-mod generate;
+pub mod damage;
+pub mod generate;
 mod polish;
 pub mod rows;
 mod text;

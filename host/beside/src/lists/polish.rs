@@ -8,9 +8,10 @@ use crate::lent::Lent;
 use crate::oracle::polish::Counts;
 use crate::rules::{bad_k, first_refusal, too_many_stops};
 use crate::trial::{Reply, Trial};
-use crate::{ffi, one_route, oracle};
+use crate::{one_route, oracle};
 use std::fmt::{Display, Formatter, Result as Written};
 
+#[derive(Clone)]
 pub struct Case {
     pub ended: ends::Case,
     pub rows: Rows,
@@ -35,6 +36,7 @@ impl Case {
             service,
             (4, case.unknown_place()),
             (24, case.tables.unknown(&[self.ended.end])),
+            (29, case.tables.bad_pairs()),
             (5, too_many_stops(case.route.len())),
             (21, case.room < RESULT_PLACES),
         ])
@@ -68,20 +70,8 @@ impl Trial for Case {
         let mut orders = Lent::new("orders", &self.rows.orders);
         let mut masks = Lent::new("masks", &self.rows.masks);
         let reply = one_route::given(case, |lent| {
-            ffi::polish_with_patterns(
-                case.k,
-                orders.slice(),
-                masks.slice(),
-                case.allowance,
-                case.tables.locations,
-                lent.legs,
-                lent.latest,
-                lent.service,
-                case.depot,
-                end,
-                lent.route,
-                lent.result,
-            )
+            let rows = (&*orders.slice(), &*masks.slice());
+            one_route::polish(case, end, Some(rows), lent)
         });
         orders.kept()?;
         masks.kept()?;

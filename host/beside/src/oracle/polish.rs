@@ -1,6 +1,6 @@
 //! The unchanged `polish_route`.
 
-use super::fleet::{stops, Access, Fleet, Quiet, Yard};
+use super::fleet::{stops, Access, Fleet, Marks, Quiet, Yard};
 use super::list_k_opt::{polish_route, ListKOptAccess};
 use crate::cases::polish::Case;
 use crate::scope::{SolverScope, StepControlPolicy};
@@ -25,7 +25,7 @@ pub fn polish(case: &Case, allowance: u64, route: &mut [u32]) -> Counts {
     counts
 }
 
-/// Whether the Rust holds a route to be on time.
+/// Whether the Rust holds a route to keep every deadline and every pair.
 pub fn feasible(tables: &Tables, depot: u32, route: &[u32]) -> bool {
     Access.route_feasible(&fleet(tables, &[depot]), 0, &stops(route))
 }
@@ -35,12 +35,21 @@ fn fleet<'c>(tables: &'c Tables, depots: &'c [u32]) -> Fleet<'c> {
         tables,
         depots,
         rounds: Vec::new(),
+        marks: None,
     }
 }
 
 /// As above, on the numbers that the Rust takes.
 pub fn polish_stops(case: &Case, allowance: u64, route: &mut Vec<usize>) -> Counts {
     polish_with(case.k, allowance, &case.tables, case.depot, route)
+}
+
+/// As above, with pairs judged as a host that is in a hurry would: for timing.
+pub fn polish_marked(case: &Case, allowance: u64, route: &mut Vec<usize>) -> Counts {
+    let depots = [case.depot];
+    let mut fleet = fleet(&case.tables, &depots);
+    fleet.marks = Some(Marks::of(&case.tables));
+    polish_fleet(case.k, allowance, fleet, route)
 }
 
 pub(super) fn polish_with(
@@ -50,9 +59,13 @@ pub(super) fn polish_with(
     depot: u32,
     route: &mut Vec<usize>,
 ) -> Counts {
-    let depots = [depot];
+    polish_fleet(k, allowance, fleet(tables, &[depot]), route)
+}
+
+fn polish_fleet(k: usize, allowance: u64, fleet: Fleet, route: &mut Vec<usize>) -> Counts {
+    let depot = fleet.depots[0] as usize;
     let yard = Yard {
-        fleet: fleet(tables, &depots),
+        fleet,
         pins: &[],
         reached: Cell::new(0),
     };
@@ -62,7 +75,7 @@ pub(super) fn polish_with(
         k,
         StepControlPolicy { allowance },
         &mut solver_scope,
-        depot as usize,
+        depot,
         route,
     );
     Counts {

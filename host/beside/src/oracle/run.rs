@@ -45,23 +45,27 @@ pub type Ran = (Vec<u32>, Vec<u64>);
 
 /// What the library's run is held to.
 pub fn run(case: &Case, allowance: u64) -> Ran {
-    match case.k {
-        _ if case.ends.is_some() => run_by_polishing(case, allowance),
-        2 => run_by_polishing(case, allowance),
-        _ => run_by_rust(case, allowance),
+    match by_the_rust(case) {
+        false => run_by_polishing(case, allowance),
+        true => run_by_rust(case, allowance),
     }
 }
 
 /// The candidates that it examines in all.
 pub fn examined(case: &Case, allowance: u64) -> u64 {
-    match case.k {
-        k if k == 2 || case.ends.is_some() => run_by_polishing(case, allowance)
+    match by_the_rust(case) {
+        false => run_by_polishing(case, allowance)
             .1
             .chunks(NUMBERS_A_ROUND)
             .map(|round| round[1])
             .sum(),
-        _ => run_quietly(case, allowance),
+        true => run_quietly(case, allowance),
     }
+}
+
+/// Whether the Rust's own run is asked: it knows closed tours alone, and takes the pair loop for two cuts.
+fn by_the_rust(case: &Case) -> bool {
+    case.k > 2 && case.closed()
 }
 
 /// Each round polished in turn with what is left of the allowance, whichever k.
@@ -161,6 +165,7 @@ fn yard(case: &Case) -> Yard<'_> {
         tables: &case.tables,
         depots: &case.depots,
         rounds,
+        marks: None,
     };
     Yard {
         fleet,

@@ -10,7 +10,7 @@ pub mod planted;
 mod replies;
 mod short;
 mod shortest;
-mod stretches;
+pub mod stretches;
 
 use crate::trial::{Family, Source};
 

@@ -40,16 +40,22 @@ pub fn route_of(random: &mut Random, k: usize, stops: usize) -> Case {
     }
 }
 
-/// One candidate before the end of each cut set of the first pass, at its end, and one after it; and around the end of the scan.
+/// With each of the allowances below.
 pub fn around_each_cut_set(case: &Case, patterns: u64, visit: Visit) {
-    let examined = polish(case, u64::MAX, &mut case.route.clone()).examined;
-    let ends = (0..=examined / patterns).map(|sets| sets * patterns);
-    for end in ends.chain([examined]) {
-        for allowance in end.saturating_sub(1)..=end + 1 {
-            visit(Box::new(Case {
-                allowance,
-                ..case.clone()
-            }));
-        }
+    for case in at_allowances(case, patterns) {
+        visit(Box::new(case));
     }
+}
+
+/// One candidate before the end of each cut set of the first pass, at its end, and one after it; and around the end of the scan.
+pub fn at_allowances(case: &Case, patterns: u64) -> impl Iterator<Item = Case> + '_ {
+    let examined = polish(case, u64::MAX, &mut case.route.clone()).examined;
+    let ends = (0..=examined / patterns).map(move |sets| sets * patterns);
+    let around = |end: u64| end.saturating_sub(1)..=end + 1;
+    ends.chain([examined])
+        .flat_map(around)
+        .map(|allowance| Case {
+            allowance,
+            ..case.clone()
+        })
 }

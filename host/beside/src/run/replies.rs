@@ -14,9 +14,7 @@ impl Trial for Case {
             return Reply::new(code, [("stops", bits(&self.stops)), ("result", result)]);
         }
         let ran = oracle::run::run(self, self.allowance);
-        if self.k > 2
-            && self.ends.is_none()
-            && ran != oracle::run::run_by_polishing(self, self.allowance)
+        if self.k > 2 && self.closed() && ran != oracle::run::run_by_polishing(self, self.allowance)
         {
             code = NO_ANSWER;
         }
@@ -36,34 +34,27 @@ impl Trial for Case {
         let mut pins = Lent::new("pins", &self.pins);
         let mut result = Lent::new("result", &room);
         let mut ends = Lent::new("ends", self.ends());
-        let code = match self.ends {
-            None => ffi::run_list_k_opt(
-                self.k,
-                self.allowance,
-                self.tables.locations,
-                legs.slice(),
-                latest.slice(),
-                service.slice(),
-                stops.slice(),
-                lengths.slice(),
-                depots.slice(),
-                pins.slice(),
-                result.slice(),
-            ),
-            Some(_) => ffi::run_list_k_opt_to_ends(
-                self.k,
-                self.allowance,
-                self.tables.locations,
-                legs.slice(),
-                latest.slice(),
-                service.slice(),
-                stops.slice(),
-                lengths.slice(),
-                depots.slice(),
-                ends.slice(),
-                pins.slice(),
-                result.slice(),
-            ),
+        let mut pairs = Lent::new("pairs", self.tables.pairs());
+        let code = {
+            let (k, allowance, locations) = (self.k, self.allowance, self.tables.locations);
+            let (legs, latest, service) = (legs.slice(), latest.slice(), service.slice());
+            let (stops, lengths, pins) = (stops.slice(), lengths.slice(), pins.slice());
+            let (depots, ends, pairs) = (depots.slice(), ends.slice(), pairs.slice());
+            let result = result.slice();
+            match (&self.ends, &self.tables.pairs) {
+                (_, Some(_)) => ffi::run_list_k_opt_with_pairs(
+                    k, allowance, locations, legs, latest, service, stops, lengths, depots, ends,
+                    pins, pairs, result,
+                ),
+                (None, _) => ffi::run_list_k_opt(
+                    k, allowance, locations, legs, latest, service, stops, lengths, depots, pins,
+                    result,
+                ),
+                (Some(_), _) => ffi::run_list_k_opt_to_ends(
+                    k, allowance, locations, legs, latest, service, stops, lengths, depots, ends,
+                    pins, result,
+                ),
+            }
         };
         legs.kept()?;
         latest.kept()?;
@@ -72,6 +63,7 @@ impl Trial for Case {
         depots.kept()?;
         ends.kept()?;
         pins.kept()?;
+        pairs.kept()?;
         Ok(Reply::new(code, [stops.written()?, result.written()?]))
     }
 

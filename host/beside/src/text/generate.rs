@@ -59,6 +59,7 @@ fn written_to(ended: &ends::Case) -> Vec<u8> {
         legs,
         latest,
         service,
+        ..
     } = &case.tables;
     let mut text = format!(
         "k={}\nallowance={allowance}\nlocations={locations}\ndepot={}\nend={}\n",

@@ -83,6 +83,7 @@ fn read(text: &[u8]) -> Option<Case> {
             legs,
             latest,
             service,
+            pairs: None,
         },
         depot,
         route,

@@ -18,10 +18,10 @@ array-share-prefix-old : tie.Need-array-share-prefix-old
 array-share-prefix-old c = search needs
 
 slice-aggregate-keep-or-put-back : tie.Need-slice-aggregate-keep-or-put-back
-slice-aggregate-keep-or-put-back c = copy-size (c .before .before .before .before .before .before .before .before .before .before .before .before .before .args .route .now) _ _ (c .before .before .before .before .before .before .copy-in .ensures)
+slice-aggregate-keep-or-put-back c = copy-size (c .before .before .before .before .before .before .before .before .before .before .before .before .before .before .before .args .route .now) _ _ (c .before .before .before .before .before .before .copy-in .ensures)
 
 keep-or-put-back-requires : tie.Need-keep-or-put-back-requires
-keep-or-put-back-requires c κs = sym (copy-size (c .before .before .before .before .before .before .before .before .before .before .before .before .before .before .args .route .now) _ _ (c .before .before .before .before .before .before .before .copy-in .ensures)) ∙ sym (c .before .before .before .before .polish-round .kept .1 .1 .1 .1 .1 .1 .1 .1 .0)
+keep-or-put-back-requires c κs = sym (copy-size (c .before .before .before .before .before .before .before .before .before .before .before .before .before .before .before .before .args .route .now) _ _ (c .before .before .before .before .before .before .before .copy-in .ensures)) ∙ sym (c .before .before .before .before .polish-round .kept .1 .1 .1 .1 .1 .1 .1 .1 .1 .1 .0)
 
 state-after-requires : tie.Need-state-after-requires
 state-after-requires c κs = search needs
@@ -31,7 +31,7 @@ same-length c = search needs
 
 returns : tie.Need-returns
 returns c =
-    ends (c .before .before .before .before .before .before .before .before .before .before .before .before .before .before .before .before .before .before .args .route .now) _ (c .before .before .before .before .before .before .before .before .polish-round .result) _ _ _ _ (c .before .before .before .before .before .before .before .before .polish-round .ensures .reply) (copied (c .before .before .before .before .before .before .before .before .before .before .before .before .before .before .before .before .before .before .args .route .now) _ _ (c .before .before .before .before .before .before .before .before .before .before .before .copy-in .ensures)) (c .before .before .before .keep-or-put-back .ensures)
+    ends (c .before .before .before .before .before .before .before .before .before .before .before .before .before .before .before .before .before .before .before .before .args .route .now) _ (c .before .before .before .before .before .before .before .before .polish-round .result) _ _ _ _ (c .before .before .before .before .before .before .before .before .polish-round .ensures .reply) (copied (c .before .before .before .before .before .before .before .before .before .before .before .before .before .before .before .before .before .before .before .before .args .route .now) _ _ (c .before .before .before .before .before .before .before .before .before .before .before .copy-in .ensures)) (c .before .before .before .keep-or-put-back .ensures)
     (c .state-after .ensures)
 
 pub polish-or-put-back-spec : {M : Type 1} → statement M

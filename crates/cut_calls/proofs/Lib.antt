@@ -1,0 +1,4 @@
+pub mod ReconnectionReply
+pub mod NextCutSet
+pub mod ReconnectReply
+pub mod FindMoveReply

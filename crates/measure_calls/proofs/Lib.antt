@@ -1,0 +1,3 @@
+pub mod RouteLengthReply
+pub mod DeltaReply
+pub mod FeasibleReply

@@ -1,0 +1,2 @@
+pub mod PolishReply
+pub mod PairLoopReply
