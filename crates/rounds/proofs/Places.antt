@@ -6,19 +6,15 @@ use native.Mathlib.Omega.{arith}
 use lib.ListN.{length, getD, take, drop, length-map, length-take, length-drop, List·getD-append, List·getD-map}
 use lib.Seq.{take-at, drop-at, drop-drop, ext-getD, getD-append-add}
 use Rattle.theory.specs.Moves.{total, upfrom}
-use Rattle.theory.specs.Tables.{Tables, Fleet, trip}
+use Rattle.theory.specs.Tables.{Tables, Fleet}
 use Rattle.theory.specs.declared.RoundState.{RoundState}
 use Rattle.theory.specs.declared.RoundState.the-variants as State
 use Rattle.theory.proofs.Moves.{length-upfrom}
-use Rattle.theory.proofs.Route.{total-same, total-shift}
-use Rattle.rounds.specs.Rounds.{Given, Outcome, round-at, given, rounds, in-turn, routes, rows, examined-in}
+use Rattle.rounds.specs.Rounds.{Given, unasked, Outcome, round-at, given, rounds, in-turn, routes, rows}
 
--- What stands for no outcome, and for no round.
+-- What stands for no outcome.
 abbrev pub none : Outcome
 none = record { state = State.NotReached; route = [] }
-
-abbrev pub unasked : Given
-unasked = record { trip = trip 0 [] [] [] 0 0 []; pin = 0; route = [] }
 
 -- ---- the numbers
 
@@ -76,19 +72,24 @@ within (l ∷ ls) (suc i) h = omega (arith, within ls i (omega arith))
 
 -- ---- the rounds
 
+-- What is listed for each of n indices stands at its own.
+pub listed-at : {X : Type 0} (f : ℕ → X) (d : X) (n i : ℕ) → i < n → getD (map f (upfrom 0 n)) i d ≡ f i
+unfolding upfrom
+listed-at {X} f d n i h = let e : 0 + i ≡ i = omega arith in rw e at (by 0 n i h)
+  where
+    by : (a n i : ℕ) → i < n → getD (map f (upfrom a n)) i d ≡ f (a + i)
+    by a zero i h = absurd (omega arith)
+    by a (suc n) zero h =
+        let e : a ≡ a + 0 = omega arith in
+        rw (← e)
+    by a (suc n) (suc i) h =
+        let e : suc a + i ≡ a + suc i = omega arith in
+        rw (← e) (by (suc a) n i (omega arith))
+
 module _ (T : Tables) (pairs : List ℕ) (F : Fleet) where
   pub given-at : (i : ℕ) → i < length (F .lengths) → getD (rounds T pairs F) i unasked ≡ given T pairs F i
-  unfolding rounds upfrom
-  given-at i h = let e : 0 + i ≡ i = omega arith in rw e at (by 0 (length (F .lengths)) i h)
-    where
-      by : (f n i : ℕ) → i < n → getD (map (given T pairs F) (upfrom f n)) i unasked ≡ given T pairs F (f + i)
-      by f zero i h = absurd (omega arith)
-      by f (suc n) zero h =
-          let e : f ≡ f + 0 = omega arith in
-          rw (← e)
-      by f (suc n) (suc i) h =
-          let e : suc f + i ≡ f + suc i = omega arith in
-          rw (← e) (by (suc f) n i (omega arith))
+  unfolding rounds
+  given-at i h = listed-at (given T pairs F) unasked (length (F .lengths)) i h
 
   pub how-many : length (rounds T pairs F) ≡ length (F .lengths)
   unfolding rounds

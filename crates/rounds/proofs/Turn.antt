@@ -1,19 +1,18 @@
 -- What holds of a round after its turn, by its definition alone. Assumes nothing.
-use mathlib.Core.Path.{_≡_, refl, sym, ap, _∙_}
-use mathlib.Core.Bool.{Bool, true, false, cond, _&&_, and-eq-true-iff}
+use mathlib.Core.Path.{_≡_, refl, sym, _∙_}
+use mathlib.Core.Bool.{Bool, true, false, cond, _&&_, and-eq-true-iff, true≢false}
 use mathlib.Core.Logic.{⊎-elim}
 use mathlib.Core.List.{List, [], _∷_}
-use Prim.Native.Nat.{ℕ, zero, suc, _+_, _*_, min, _≤_, _<_}
+use Prim.Native.Nat.{ℕ, zero, suc, min, _≤_, _<_}
 use native.Mathlib.Nat.{mul-le-mul}
 use native.Mathlib.Omega.{arith}
 use lib.Dec.{eqb, ltb, leb}
-use lib.ListN.{length, getD}
-use borrow.Author.Tests.{leb-true, le-ltb}
+use lib.ListN.{length}
+use borrow.Author.Tests.{leb-true, leb-false, le-ltb, lt-ltb}
 use Rattle.theory.specs.Scan.{Search, Reply, scan-from}
 use Rattle.theory.specs.Moves.{Move, patterns, candidates, cut-sets, total, binomial}
-use Rattle.theory.specs.Route.{Problem, count, Feasible, tour-length}
+use Rattle.theory.specs.Route.{Problem, Feasible, tour-length}
 use Rattle.theory.specs.Polish.{search-of, polish, KOptimal, Demand3}
-use Rattle.theory.specs.Answers.{round-values}
 use Rattle.theory.specs.declared.RoundState.{RoundState}
 use Rattle.theory.specs.declared.RoundState.the-variants as State
 use Rattle.theory.proofs.Scan.{fair}
@@ -22,11 +21,7 @@ use Rattle.theory.proofs.Polish.{polish-demand3, same-total}
 use Rattle.theory.proofs.Stops.{as-many}
 use Rattle.run_numbers.specs.States.{state-after, number-of, examined-of, Finished}
 use Rattle.rounds.specs.Rounds.{Outcome}
-use Rattle.rounds.specs.Turn.{kept, take-turn, TookTurn}
-
--- The candidates that a round accepted.
-abbrev pub accepted-of : RoundState → ℕ
-accepted-of s = getD (round-values s) 2 0
+use Rattle.rounds.specs.Turn.{accepted-of, kept, take-turn}
 
 module _ (P : Problem) (k given : ℕ) (r : List ℕ) where
   -- Of a reply to the route.
@@ -110,6 +105,11 @@ turn-length P k given pin r h = as-many r (take-turn P k given pin r .route) (tu
 
 -- ---- a round that is polished
 
+started-after : (f : Bool) (e a : ℕ) → 3 ≤ number-of (state-after f e a)
+started-after false e a = omega arith
+started-after true e zero = omega arith
+started-after true e (suc a) = omega arith
+
 pub examined-after : (f : Bool) (e a : ℕ) → examined-of (state-after f e a) ≡ e
 examined-after false e a = refl
 examined-after true e zero = refl
@@ -154,6 +154,11 @@ module _ (P : Problem) (k given pin : ℕ) (r : List ℕ) (part : (eqb pin 0 && 
       let q = polish P k given r in
       rw polished (examined-after (q .finished) (q .examined) (q .accepted))
 
+  pub started : 3 ≤ number-of (take-turn P k given pin r .state)
+  started =
+      let q = polish P k given r in
+      rw polished (started-after (q .finished) (q .examined) (q .accepted))
+
   -- It examines the smaller of what it is given and what its finished polishing counts.
   pub turn-fair : (b : ℕ) → polish P k b r .finished ≡ true → min given (polish P k b r .examined) ≤ examined-of (take-turn P k given pin r .state)
   turn-fair b f = rw examined-is (fair (search-of P (patterns k) k (length r)) given b r f)
@@ -165,3 +170,27 @@ module _ (P : Problem) (k given pin : ℕ) (r : List ℕ) (part : (eqb pin 0 && 
       let S = search-of P (patterns k) k (length r) in
       let f : polish P k given r .finished ≡ false = rw z (halts S r (S .moves) (some-candidate k (length r) l m (leb-true 4 (length r) (p .1)))) in
       rw (polished, f)
+
+-- ---- a round that is passed over
+
+module _ (P : Problem) (k pin : ℕ) (r : List ℕ) (part : (eqb pin 0 && leb 4 (length r)) ≡ false) where
+  over : (a : ℕ) → take-turn P k a pin r ≡ record { state = cond (eqb pin 0) State.Short State.Pinned; route = r }
+  unfolding take-turn
+  over a = by (eqb pin 0) (leb 4 (length r)) refl part
+    where
+      by : (free long : Bool) → leb 4 (length r) ≡ long → (free && long) ≡ false →
+          _≡_ {A = Outcome} (cond free (cond (ltb (length r) 4) (record { state = State.Short; route = r }) (kept (polish P k a r))) (record { state = State.Pinned; route = r }))
+          (record { state = cond free State.Short State.Pinned; route = r })
+      by false long e h = refl
+      by true true e h = absurd (true≢false h)
+      by true false e h = rw (lt-ltb (length r) 4 (leb-false 4 (length r) e))
+
+  pub same-over : (a b : ℕ) → take-turn P k a pin r ≡ take-turn P k b pin r
+  same-over a b = over a ∙ sym (over b)
+
+  pub passed-over : (a : ℕ) → (number-of (take-turn P k a pin r .state) ≤ 2) × (examined-of (take-turn P k a pin r .state) ≡ 0) × (accepted-of (take-turn P k a pin r .state) ≡ 0)
+  passed-over a = rw (over a) (by (eqb pin 0))
+    where
+      by : (free : Bool) → (number-of (cond free State.Short State.Pinned) ≤ 2) × (examined-of (cond free State.Short State.Pinned) ≡ 0) × (accepted-of (cond free State.Short State.Pinned) ≡ 0)
+      by true = (omega arith, refl, refl)
+      by false = (omega arith, refl, refl)

@@ -3,7 +3,7 @@ use mathlib.Core.List.{List, [], _∷_, map, flatMap}
 use Prim.Native.Nat.{ℕ, _+_, _*_}
 use lib.ListN.{length, getD, take, drop}
 use Rattle.theory.specs.Moves.{total, upfrom}
-use Rattle.theory.specs.Tables.{Tables, Trip, Fleet}
+use Rattle.theory.specs.Tables.{Tables, Trip, Fleet, trip}
 use Rattle.theory.specs.declared.RoundState.{RoundState}
 
 -- The stops of round i follow those of the rounds before it.
@@ -15,6 +15,10 @@ pub record Given : Type 0 where
   pub trip : Trip
   pub pin : ℕ
   pub route : List ℕ
+
+-- What stands for no round.
+abbrev pub unasked : Given
+unasked = record { trip = trip 0 [] [] [] 0 0 []; pin = 0; route = [] }
 
 -- One list of pairs for all of them.
 abbrev pub trip-of : Tables → (pairs : List ℕ) → Fleet → ℕ → Trip

@@ -4,14 +4,19 @@ use mathlib.Core.Bool.{cond}
 use mathlib.Core.List.{List}
 use Prim.Native.Nat.{ℕ}
 use lib.Dec.{eqb, ltb}
-use lib.ListN.{length}
+use lib.ListN.{length, getD}
 use Rattle.theory.specs.Scan.{Reply}
 use Rattle.theory.specs.Route.{Problem}
 use Rattle.theory.specs.Polish.{polish}
+use Rattle.theory.specs.Answers.{round-values}
 use Rattle.theory.specs.declared.RoundState.{RoundState}
 use Rattle.theory.specs.declared.RoundState.the-variants as State
 use Rattle.run_numbers.specs.States.{state-after}
 use Rattle.rounds.specs.Rounds.{Outcome}
+
+-- The candidates that a round accepted.
+abbrev pub accepted-of : RoundState → ℕ
+accepted-of s = getD (round-values s) 2 0
 
 -- Of a reply, with whatever it accepted.
 abbrev pub kept : Reply (List ℕ) → Outcome

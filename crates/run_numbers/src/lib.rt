@@ -6,7 +6,7 @@ ghost use mathlib.Core.List.{_∷_, _++_};
 ghost use Prim.Native.Nat.{_≤_};
 ghost use lib.ListN.{length, drop};
 ghost use Rattle.theory.specs.Answers.{round-values};
-ghost use Rattle.run_numbers.specs.States.{state-after, examined-of};
+ghost use Rattle.run_numbers.specs.States.{state-after, examined-of, kept-values};
 
 // After its polishing.
 pub fn state_after(finished: bool, examined: u64, accepted: u64) -> RoundState
@@ -60,4 +60,13 @@ pub fn put_state(state: RoundState, result: &mut [u64])
         }
         RoundState::Spent(tally) => put_four(5, tally.examined, tally.accepted, 0, result),
     }
+}
+
+// The four numbers of a round that keeps its changes where it is spent: applied is accepted in every state.
+pub fn put_kept_state(state: RoundState, result: &mut [u64])
+    requires { ⌜ 4 ≤ length (now result) ⌝ }
+    ensures { λ _. ⌜ now (result .exit) ≡ kept-values state ++ drop 4 (now (result .entry)) ⌝ }
+{
+    put_state(state, result);
+    result[3] = result[2];
 }
