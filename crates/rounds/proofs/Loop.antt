@@ -45,13 +45,13 @@ total-more ls i h = rw (add-one i) (by ls i h)
     by (l ∷ ls) (suc i) h = omega (arith, by ls i (omega arith))
 
 module _ (outcome : ℕ → Given → Outcome) (passed-on : ℕ → Given → ℕ) (values : RoundState → List ℕ)
-    (T : Tables) (pairs : List ℕ) (F : Fleet) (result₀ : List ℕ) (first : ℕ) where
+    (T : Tables) (F : Fleet) (pairs : List ℕ) (result₀ : List ℕ) (first : ℕ) where
   -- The rounds from i on.
   abbrev pub rest-from : ℕ → List Given
-  rest-from i = map (given T pairs F) (upfrom i (length (F .lengths) - i))
+  rest-from i = map (given T F pairs) (upfrom i (length (F .lengths) - i))
 
   abbrev pub whole : List Outcome
-  whole = in-turn outcome passed-on first (rounds T pairs F)
+  whole = in-turn outcome passed-on first (rounds T F pairs)
 
   -- Before round i, whose stops begin at `at`: what is done, and then what is left done with the number n, is the whole.
   pub record Running (stops result : List ℕ) (n at i : ℕ) : Type 0 where
@@ -79,7 +79,7 @@ module _ (outcome : ℕ → Given → Outcome) (passed-on : ℕ → Given → �
         result-done = rw z;
       }
 
-  pub rest-cons : (i : ℕ) → i < length (F .lengths) → rest-from i ≡ given T pairs F i ∷ rest-from (i + 1)
+  pub rest-cons : (i : ℕ) → i < length (F .lengths) → rest-from i ≡ given T F pairs i ∷ rest-from (i + 1)
   unfolding upfrom
   rest-cons i h =
       let e : length (F .lengths) - i ≡ suc (length (F .lengths) - (i + 1)) = omega arith in
@@ -103,22 +103,22 @@ module _ (outcome : ℕ → Given → Outcome) (passed-on : ℕ → Given → �
 
       -- The first of the rounds that are left, and the others.
       abbrev others : List Outcome
-      others = in-turn outcome passed-on (passed-on n (given T pairs F i)) (rest-from (i + 1))
+      others = in-turn outcome passed-on (passed-on n (given T F pairs i)) (rest-from (i + 1))
 
-      routes-next : outcome n (given T pairs F i) .route ++ routes others ≡ routes (in-turn outcome passed-on n (rest-from i))
+      routes-next : outcome n (given T F pairs i) .route ++ routes others ≡ routes (in-turn outcome passed-on n (rest-from i))
       unfolding in-turn routes flatMap
       routes-next = rw (rest-cons i more)
 
-      rows-next : values (outcome n (given T pairs F i) .state) ++ rows values others ≡ rows values (in-turn outcome passed-on n (rest-from i))
+      rows-next : values (outcome n (given T F pairs i) .state) ++ rows values others ≡ rows values (in-turn outcome passed-on n (rest-from i))
       unfolding in-turn rows flatMap
       rows-next = rw (rest-cons i more)
 
-      pub turn : (y z : List ℕ) → y ≡ outcome n (given T pairs F i) .route → z ≡ values (outcome n (given T pairs F i) .state) ++ drop 4 (take 4 (drop (4 * i) result)) →
-          Running (back stops at (getD (F .lengths) i 0) y) (back result (4 * i) 4 z) (passed-on n (given T pairs F i)) (at + getD (F .lengths) i 0) (i + 1)
+      pub turn : (y z : List ℕ) → y ≡ outcome n (given T F pairs i) .route → z ≡ values (outcome n (given T F pairs i) .state) ++ drop 4 (take 4 (drop (4 * i) result)) →
+          Running (back stops at (getD (F .lengths) i 0) y) (back result (4 * i) 4 z) (passed-on n (given T F pairs i)) (at + getD (F .lengths) i 0) (i + 1)
       turn y z r p =
           let m = getD (F .lengths) i 0 in
-          let o = outcome n (given T pairs F i) in
-          let l : length y ≡ getD (F .lengths) i 0 = ap length r ∙ sized n (given T pairs F i) ∙ size in
+          let o = outcome n (given T F pairs i) in
+          let l : length y ≡ getD (F .lengths) i 0 = ap length r ∙ sized n (given T F pairs i) ∙ size in
           let w : length (take 4 (drop (4 * i) result)) ≤ 4 = simp length-take (omega arith) in
           let e : z ≡ values (o .state) = p ∙ rw (drop-of-length-le (take 4 (drop (4 * i) result)) w) (append-nil (values (o .state))) in
           let c : length z ≡ 4 = ap length e ∙ four (o .state) in

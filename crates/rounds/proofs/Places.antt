@@ -86,18 +86,18 @@ listed-at {X} f d n i h = let e : 0 + i ≡ i = omega arith in rw e at (by 0 n i
         let e : suc a + i ≡ a + suc i = omega arith in
         rw (← e) (by (suc a) n i (omega arith))
 
-module _ (T : Tables) (pairs : List ℕ) (F : Fleet) where
-  pub given-at : (i : ℕ) → i < length (F .lengths) → getD (rounds T pairs F) i unasked ≡ given T pairs F i
+module _ (T : Tables) (F : Fleet) (pairs : List ℕ) where
+  pub given-at : (i : ℕ) → i < length (F .lengths) → getD (rounds T F pairs) i unasked ≡ given T F pairs i
   unfolding rounds
-  given-at i h = listed-at (given T pairs F) unasked (length (F .lengths)) i h
+  given-at i h = listed-at (given T F pairs) unasked (length (F .lengths)) i h
 
-  pub how-many : length (rounds T pairs F) ≡ length (F .lengths)
+  pub how-many : length (rounds T F pairs) ≡ length (F .lengths)
   unfolding rounds
-  how-many = length-map (upfrom 0 (length (F .lengths))) (given T pairs F) ∙ length-upfrom 0 (length (F .lengths))
+  how-many = length-map (upfrom 0 (length (F .lengths))) (given T F pairs) ∙ length-upfrom 0 (length (F .lengths))
 
-  pub lengths-are : total (λ n. n) (F .lengths) ≡ length (F .stops) → map (λ (g : Given). length (g .route)) (rounds T pairs F) ≡ F .lengths
+  pub lengths-are : total (λ n. n) (F .lengths) ≡ length (F .stops) → map (λ (g : Given). length (g .route)) (rounds T F pairs) ≡ F .lengths
   lengths-are e =
-      let gs = rounds T pairs F in
+      let gs = rounds T F pairs in
       let l : length (map (λ (g : Given). length (g .route)) gs) ≡ length (F .lengths) = length-map gs (λ (g : Given). length (g .route)) ∙ how-many in
       ext-getD 0 _ (F .lengths) l
       (λ i h.

@@ -21,15 +21,15 @@ abbrev pub unasked : Given
 unasked = record { trip = trip 0 [] [] [] 0 0 []; pin = 0; route = [] }
 
 -- One list of pairs for all of them.
-abbrev pub trip-of : Tables → (pairs : List ℕ) → Fleet → ℕ → Trip
-trip-of T pairs F i = record { tables = T; depot = getD (F .depots) i 0; end = getD (F .ends) i 0; pairs = pairs }
+abbrev pub trip-of : Tables → Fleet → (pairs : List ℕ) → ℕ → Trip
+trip-of T F pairs i = record { tables = T; depot = getD (F .depots) i 0; end = getD (F .ends) i 0; pairs = pairs }
 
-abbrev pub given : Tables → (pairs : List ℕ) → Fleet → ℕ → Given
-given T pairs F i = record { trip = trip-of T pairs F i; pin = getD (F .pins) i 0; route = round-at (F .lengths) (F .stops) i }
+abbrev pub given : Tables → Fleet → (pairs : List ℕ) → ℕ → Given
+given T F pairs i = record { trip = trip-of T F pairs i; pin = getD (F .pins) i 0; route = round-at (F .lengths) (F .stops) i }
 
-unfoldable pub rounds : Tables → (pairs : List ℕ) → Fleet → List Given
+unfoldable pub rounds : Tables → Fleet → (pairs : List ℕ) → List Given
 unfolding upfrom
-rounds T pairs F = map (given T pairs F) (upfrom 0 (length (F .lengths)))
+rounds T F pairs = map (given T F pairs) (upfrom 0 (length (F .lengths)))
 
 -- What is handed back of a round.
 pub record Outcome : Type 0 where

@@ -29,12 +29,12 @@ tables-of q = tables 5 (flatten (q .legs)) (replicate 12 4294967295) []
 -- Four numbers a round, and then the stops.
 unfoldable pub answer : Ask → List ℕ
 unfolding rounds in-shares routes rows flatten
-answer q = let os = in-shares (q .k) (q .allowance) (rounds (tables-of q) (q .pairs) (fleet (q .stops) (q .lengths) [] [] (q .pins))) in rows kept-values os ++ routes os
+answer q = let os = in-shares (q .k) (q .allowance) (rounds (tables-of q) (fleet (q .stops) (q .lengths) [] [] (q .pins)) (q .pairs)) in rows kept-values os ++ routes os
 
 -- What each round is given.
 unfoldable pub givens : Ask → List ℕ
 unfolding rounds given-to upfrom flatten
-givens q = map (given-to (q .k) (q .allowance) (rounds (tables-of q) (q .pairs) (fleet (q .stops) (q .lengths) [] [] (q .pins)))) (upfrom 0 (length (q .lengths)))
+givens q = map (given-to (q .k) (q .allowance) (rounds (tables-of q) (fleet (q .stops) (q .lengths) [] [] (q .pins)) (q .pairs))) (upfrom 0 (length (q .lengths)))
 
 -- "Two rounds of 4, k = 3, zero legs", 70 candidates each.
 abbrev two : ℕ → Ask

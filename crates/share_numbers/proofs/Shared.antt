@@ -26,17 +26,17 @@ total-upto g h (suc n) e =
     let z : 0 + n ≡ n = omega arith in
     omega (arith, rw z at (total-last g 0 n), rw z at (total-last h 0 n), total-upto g h n (λ j l. e j (omega arith)), e n (omega arith))
 
-module _ (k A : ℕ) (T : Tables) (pairs : List ℕ) (F : Fleet) (result : List ℕ) (least : 2 ≤ k) (most : k ≤ 5)
+module _ (k A : ℕ) (T : Tables) (F : Fleet) (pairs : List ℕ) (result : List ℕ) (least : 2 ≤ k) (most : k ≤ 5)
     (end-to-end : total (λ n. n) (F .lengths) ≡ length (F .stops)) where
   abbrev gs : List Given
-  gs = rounds T pairs F
+  gs = rounds T F pairs
 
   abbrev os : List Outcome
   os = in-shares k A gs
 
   many : length os ≡ length (F .lengths)
   unfolding in-shares
-  many = length-map (upfrom 0 (length gs)) _ ∙ length-upfrom 0 (length gs) ∙ how-many T pairs F
+  many = length-map (upfrom 0 (length gs)) _ ∙ length-upfrom 0 (length gs) ∙ how-many T F pairs
 
   lengths : map (λ (o : Outcome). length (o .route)) os ≡ F .lengths
   unfolding dispatch
@@ -44,7 +44,7 @@ module _ (k A : ℕ) (T : Tables) (pairs : List ℕ) (F : Fleet) (result : List 
       ap (map (λ (o : Outcome). length (o .route))) (dispatch-is k A gs)
       ∙ same-lengths (shared-turn k (each A (takers gs))) (left-after k (each A (takers gs)))
       (λ n g. turn-length (problem (g .trip)) k (n + own (each A (takers gs)) g) (g .pin) (g .route) least) gs (remainder A (takers gs))
-      ∙ lengths-are T pairs F end-to-end
+      ∙ lengths-are T F pairs end-to-end
 
   -- The outcome of round i.
   module _ (i : ℕ) (h : i < length (F .lengths)) where
@@ -53,15 +53,15 @@ module _ (k A : ℕ) (T : Tables) (pairs : List ℕ) (F : Fleet) (result : List 
 
     mine : getD os i none ≡ turn-of k (given-to k A gs i) (getD gs i unasked)
     unfolding in-shares
-    mine = listed-at (λ (i : ℕ). turn-of k (given-to k A gs i) (getD gs i unasked)) none (length gs) i (omega (arith, how-many T pairs F, h))
+    mine = listed-at (λ (i : ℕ). turn-of k (given-to k A gs i) (getD gs i unasked)) none (length gs) i (omega (arith, how-many T F pairs, h))
 
     share-within : share-of A gs i ≤ given-to k A gs i
     unfolding given-to
     share-within = omega arith
 
-  pub shared : (stops′ result′ : List ℕ) → stops′ ≡ routes (in-shares k A (rounds T pairs F)) →
-      result′ ≡ rows kept-values (in-shares k A (rounds T pairs F)) ++ drop (4 * length (F .lengths)) result →
-      Shared k A T pairs F result stops′ result′
+  pub shared : (stops′ result′ : List ℕ) → stops′ ≡ routes (in-shares k A (rounds T F pairs)) →
+      result′ ≡ rows kept-values (in-shares k A (rounds T F pairs)) ++ drop (4 * length (F .lengths)) result →
+      Shared k A T F pairs result stops′ result′
   shared stops′ result′ s n =
       let rest = drop (4 * length (F .lengths)) result in
       let number : (i : ℕ) → i < length (F .lengths) → state-in result′ i ≡ number-of (getD os i none .state) =
@@ -83,10 +83,10 @@ module _ (k A : ℕ) (T : Tables) (pairs : List ℕ) (F : Fleet) (result : List 
         stops-are = s;
         result-is = n;
         each-round = λ i h.
-            rw (given-at T pairs F i h)
+            rw (given-at T F pairs i h)
             at (round-shared k (share-of A gs i) (given-to k A gs i) (getD gs i unasked) least most (share-within i h) (state-in result′ i) (examined-at result′ i)
             (accepted-at result′ i) (applied-at result′ i) (round-at (F .lengths) stops′ i) (rw (mine i h) at (number i h)) (rw (mine i h) at (examined i h))
             (rw (mine i h) at (accepted i h)) (applied i h) (rw (mine i h) at (route i h)));
         left-is = λ i h. rw (sum i h) (left-sum k A gs least i);
-        within = rw (sum (length (F .lengths)) (omega arith), ← (how-many T pairs F)) (examined-within k A gs least);
+        within = rw (sum (length (F .lengths)) (omega arith), ← (how-many T F pairs)) (examined-within k A gs least);
       }

@@ -36,12 +36,12 @@ pub record RoundShared (k share given : ℕ) (g : Given) (state examined accepte
 
 -- Stops and result by the definition, the places of the result beyond those written kept; what is promised of each round, by its row of the result and its stops; what is left over
 -- before round i is what the shares of those before it exceed what they examined by; and "together they examine at most the allowance".
-pub record Shared (k allowance : ℕ) (T : Tables) (pairs : List ℕ) (F : Fleet) (result stops′ result′ : List ℕ) : Type 0 where
-  pub stops-are : stops′ ≡ routes (in-shares k allowance (rounds T pairs F))
-  pub result-is : result′ ≡ rows kept-values (in-shares k allowance (rounds T pairs F)) ++ drop (4 * length (F .lengths)) result
+pub record Shared (k allowance : ℕ) (T : Tables) (F : Fleet) (pairs : List ℕ) (result stops′ result′ : List ℕ) : Type 0 where
+  pub stops-are : stops′ ≡ routes (in-shares k allowance (rounds T F pairs))
+  pub result-is : result′ ≡ rows kept-values (in-shares k allowance (rounds T F pairs)) ++ drop (4 * length (F .lengths)) result
   pub each-round : (i : ℕ) → i < length (F .lengths) →
-      RoundShared k (share-of allowance (rounds T pairs F) i) (given-to k allowance (rounds T pairs F) i) (given T pairs F i) (state-in result′ i)
+      RoundShared k (share-of allowance (rounds T F pairs) i) (given-to k allowance (rounds T F pairs) i) (given T F pairs i) (state-in result′ i)
       (examined-at result′ i) (accepted-at result′ i) (applied-at result′ i) (round-at (F .lengths) stops′ i)
   pub left-is : (i : ℕ) → i ≤ length (F .lengths) →
-      left-over k allowance (rounds T pairs F) i + examined-in result′ i ≡ total (share-of allowance (rounds T pairs F)) (upfrom 0 i)
+      left-over k allowance (rounds T F pairs) i + examined-in result′ i ≡ total (share-of allowance (rounds T F pairs)) (upfrom 0 i)
   pub within : examined-in result′ (length (F .lengths)) ≤ allowance
