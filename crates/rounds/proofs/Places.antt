@@ -32,10 +32,10 @@ module _ (values : RoundState → List ℕ) (four : (s : RoundState) → length 
     unfolding rows flatMap
     regroup = append-assoc (values (o .state)) (rows values os) rest
 
-    first-row : (p : ℕ) → p < 4 → getD (rows values (o ∷ os) ++ rest) p 0 ≡ getD (values (o .state)) p 0
+    pub first-row : (p : ℕ) → p < 4 → getD (rows values (o ∷ os) ++ rest) p 0 ≡ getD (values (o .state)) p 0
     first-row p l = ap (λ (x : List ℕ). getD x p 0) regroup ∙ of-four (values (o .state)) (rows values os ++ rest) p (four (o .state)) l
 
-    later-row : (i p : ℕ) → getD (rows values (o ∷ os) ++ rest) (4 * suc i + p) 0 ≡ getD (rows values os ++ rest) (4 * i + p) 0
+    pub later-row : (i p : ℕ) → getD (rows values (o ∷ os) ++ rest) (4 * suc i + p) 0 ≡ getD (rows values os ++ rest) (4 * i + p) 0
     later-row i p = ap (λ (x : List ℕ). getD x (4 * suc i + p) 0) regroup ∙ after-four (values (o .state)) (rows values os ++ rest) i p (four (o .state))
 
   pub value-at : (os : List Outcome) (rest : List ℕ) (i p : ℕ) → i < length os → p < 4 →

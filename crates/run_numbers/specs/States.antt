@@ -22,6 +22,14 @@ number-of s = getD (round-values s) 0 0
 abbrev pub examined-of : RoundState → ℕ
 examined-of s = getD (round-values s) 1 0
 
+abbrev pub is-spent : RoundState → Bool
+is-spent State.NotReached = false
+is-spent State.Pinned = false
+is-spent State.Short = false
+is-spent (State.Unchanged e) = false
+is-spent (State.Changed t) = false
+is-spent (State.Spent t) = true
+
 -- The same four where a spent round keeps its changes: "its applied number is its accepted number" (document 02).
 abbrev pub kept-values : RoundState → List ℕ
 kept-values State.NotReached = round-values State.NotReached

@@ -6,7 +6,7 @@ ghost use mathlib.Core.List.{_∷_, _++_};
 ghost use Prim.Native.Nat.{_≤_};
 ghost use lib.ListN.{length, drop};
 ghost use Rattle.theory.specs.Answers.{round-values};
-ghost use Rattle.run_numbers.specs.States.{state-after, examined-of, kept-values};
+ghost use Rattle.run_numbers.specs.States.{state-after, examined-of, is-spent, kept-values};
 
 // After its polishing.
 pub fn state_after(finished: bool, examined: u64, accepted: u64) -> RoundState
@@ -32,6 +32,19 @@ pub fn examined(state: RoundState) -> u64
         RoundState::Unchanged(examined) => examined,
         RoundState::Changed(tally) => tally.examined,
         RoundState::Spent(tally) => tally.examined,
+    }
+}
+
+pub fn is_spent(state: RoundState) -> bool
+    ensures { λ r. ⌜ r ≡ is-spent state ⌝ }
+{
+    match state {
+        RoundState::NotReached => false,
+        RoundState::Pinned => false,
+        RoundState::Short => false,
+        RoundState::Unchanged(_) => false,
+        RoundState::Changed(_) => false,
+        RoundState::Spent(_) => true,
     }
 }
 
