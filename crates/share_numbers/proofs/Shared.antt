@@ -17,14 +17,7 @@ use Rattle.share_numbers.specs.Shares.{takers, each, remainder, share-of
 use Rattle.share_numbers.specs.Shared.{RoundShared, Shared}
 use Rattle.share_numbers.proofs.EachRound.{round-shared}
 use Rattle.share_numbers.proofs.Running.{dispatch-is}
-use Rattle.share_numbers.proofs.Sums.{total-last, left-sum, examined-within}
-
-total-upto : (g h : ℕ → ℕ) (n : ℕ) → ((j : ℕ) → j < n → g j ≡ h j) → total g (upfrom 0 n) ≡ total h (upfrom 0 n)
-unfolding total upfrom
-total-upto g h zero e = refl
-total-upto g h (suc n) e =
-    let z : 0 + n ≡ n = omega arith in
-    omega (arith, rw z at (total-last g 0 n), rw z at (total-last h 0 n), total-upto g h n (λ j l. e j (omega arith)), e n (omega arith))
+use Rattle.share_numbers.proofs.Sums.{total-upto, left-sum, examined-within}
 
 module _ (k A : ℕ) (T : Tables) (F : Fleet) (pairs : List ℕ) (result : List ℕ) (least : 2 ≤ k) (most : k ≤ 5)
     (end-to-end : total (λ n. n) (F .lengths) ≡ length (F .stops)) where

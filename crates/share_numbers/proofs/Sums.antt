@@ -26,6 +26,13 @@ total-last g f (suc n) =
     let e : f + suc n ≡ suc f + n = omega arith in
     rw e (omega (arith, total-last g (suc f) n))
 
+pub total-upto : (g h : ℕ → ℕ) (n : ℕ) → ((j : ℕ) → j < n → g j ≡ h j) → total g (upfrom 0 n) ≡ total h (upfrom 0 n)
+unfolding total upfrom
+total-upto g h zero e = refl
+total-upto g h (suc n) e =
+    let z : 0 + n ≡ n = omega arith in
+    omega (arith, rw z at (total-last g 0 n), rw z at (total-last h 0 n), total-upto g h n (λ j l. e j (omega arith)), e n (omega arith))
+
 not-zero : (n : ℕ) → eqb (suc n) 0 ≡ false
 not-zero n = ne-eqb (suc n) 0 (λ z. omega arith)
 

@@ -4,7 +4,7 @@ use mathlib.Core.List.{List, [], _∷_, map}
 use Prim.Native.Nat.{ℕ, zero, suc, _+_, _-_, _/_, _%_}
 use lib.Dec.{eqb, leb}
 use lib.ListN.{length, getD, take}
-use Rattle.theory.specs.Moves.{upfrom}
+use Rattle.theory.specs.Moves.{total, upfrom}
 use Rattle.theory.specs.Tables.{problem}
 use Rattle.run_numbers.specs.States.{examined-of}
 use Rattle.rounds.specs.Rounds.{Given, unasked, Outcome, in-turn}
@@ -58,9 +58,17 @@ in-shares k allowance gs = map (λ i. turn-of k (given-to k allowance gs i) (get
 
 -- ---- the running form
 
+-- Told by the pin and the number of stops.
+abbrev pub own-by : (each pin stops : ℕ) → ℕ
+own-by each pin stops = cond (eqb pin 0 && leb 4 stops) each 0
+
+unfoldable pub takers-by : (pins lengths : List ℕ) → (n : ℕ) → ℕ
+unfolding total upfrom
+takers-by pins lengths n = total (λ i. own-by 1 (getD pins i 0) (getD lengths i 0)) (upfrom 0 n)
+
 -- One round after the other: what is left over goes on from each to the next, and at the start it is the remainder.
 abbrev pub own : (each : ℕ) → Given → ℕ
-own each g = cond (takes-part g) each 0
+own each g = own-by each (g .pin) (length (g .route))
 
 abbrev pub shared-turn : (k each left : ℕ) → Given → Outcome
 shared-turn k each left g = turn-of k (left + own each g) g

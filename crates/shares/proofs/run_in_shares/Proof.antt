@@ -1,0 +1,35 @@
+-- `shares::run_in_shares` meets its contract. Assumes nothing.
+use mathlib.Core.Path.{sym}
+use Rattle.run.proofs.Paired.{fillable, with-words}
+use borrow.Author.Needs.{needs}
+use Rattle.shares.proofs.run_in_shares.Statement.{statement}
+use Rattle.shares.proofs.run_in_shares.Tie as tie
+
+fill-members-requires : tie.Need-fill-members-requires
+fill-members-requires c κs = fillable (c .before .before .before .before .before .before .before .before .before .before .before .pre)
+
+slice-aggregate-share-rounds : tie.Need-slice-aggregate-share-rounds
+slice-aggregate-share-rounds c = search needs
+
+share-rounds-requires : tie.Need-share-rounds-requires
+share-rounds-requires c κs = with-words (c .before .before .before .before .before .before .before .before .before .before .before .before .before .before .before .pre) (c .before .before .before .fill-members .ensures)
+
+same-length : tie.Need-same-length
+same-length c = search needs
+
+same-length-2 : tie.Need-same-length-2
+same-length-2 c = search needs
+
+returns : tie.Need-returns
+returns c = search needs
+
+pub run-in-shares-spec : {M : Type 1} → statement M
+run-in-shares-spec =
+    tie.close
+    (tie.spec
+    fill-members-requires
+    slice-aggregate-share-rounds
+    share-rounds-requires
+    same-length
+    same-length-2
+    returns)
