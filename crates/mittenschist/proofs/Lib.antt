@@ -8,5 +8,6 @@ pub mod PolishReply
 pub mod PairLoopReply
 pub mod Written
 pub mod RunReply
+pub mod SharesReply
 pub mod ListingReply
 pub mod FindMoveReply

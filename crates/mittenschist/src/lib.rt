@@ -12,7 +12,7 @@ ghost use Rattle.moves.specs.Moves.{length-change, pattern-values};
 ghost use Rattle.pattern_list_loading.specs.Loading.{LoadReply};
 ghost use Rattle.pattern_list_polishing.specs.Polishing.{PolishWithPatternsReply, PolishWithPatternsAndPairsReply};
 ghost use Rattle.refusal_rules.specs.Rules.{route-length-rules, route-length-to-end-rules, pattern-rules, delta-rules, delta-to-end-rules};
-ghost use Rattle.mittenschist.specs.Promises.{NextCutSetReply, RouteLengthReply, RouteLengthToEndReply, ReconnectionReply, ReconnectReply, DeltaReply, DeltaToEndReply, FeasibleReply, PolishReply, PolishToEndReply, PolishWithPairsReply, PairLoopReply, Written, NextCutSetWritten, late-values, doable-values, RunReply, RunToEndsReply, RunWithPairsReply, NearbyReply, NearbyWritten, EveryReply, EveryWritten, FindMoveReply, FindMoveWritten};
+ghost use Rattle.mittenschist.specs.Promises.{NextCutSetReply, RouteLengthReply, RouteLengthToEndReply, ReconnectionReply, ReconnectReply, DeltaReply, DeltaToEndReply, FeasibleReply, PolishReply, PolishToEndReply, PolishWithPairsReply, PairLoopReply, Written, NextCutSetWritten, late-values, doable-values, RunReply, RunToEndsReply, RunWithPairsReply, SharesReply, NearbyReply, NearbyWritten, EveryReply, EveryWritten, FindMoveReply, FindMoveWritten};
 use first_move::SoughtMove;
 use polishing::polish_route;
 use polishing::polish_with_pairs;
@@ -605,6 +605,61 @@ pub extern "C" fn mittenschist_run_list_k_opt_with_pairs(
         return refused;
     }
     run::run_with_pairs(
+        k,
+        allowance,
+        locations,
+        legs,
+        latest,
+        service,
+        stops,
+        lengths,
+        depots,
+        ends,
+        pins,
+        pairs,
+        result,
+    );
+    0
+}
+
+// The rounds of a run with shares of the allowance. Refuses 1, 2, 3, 23, 4, 24, 29, 5, 21. The result receives the run's four numbers a round, never state 0.
+#[no_mangle]
+pub extern "C" fn mittenschist_run_in_shares(
+    k: usize,
+    allowance: u64,
+    locations: usize,
+    legs: &[u32],
+    latest: &[u32],
+    service: &[u32],
+    stops: &mut [u32],
+    lengths: &[usize],
+    depots: &[u32],
+    ends: &[u32],
+    pins: &[u8],
+    pairs: &[u32],
+    result: &mut [u64],
+) -> u32
+    ensures { λ r. ⌜ SharesReply k allowance (tables locations (now (legs .entry)) (now (latest .entry)) (now (service .entry))) (fleet (now (stops .entry)) (now (lengths .entry)) (now (depots .entry)) (now (ends .entry)) (now (pins .entry))) (now (pairs .entry)) (now (result .entry)) r (now (stops .exit)) (now (result .exit)) ⌝ }
+{
+    let lent = result.len();
+    let refused = refusal_rules::run_paired_refusal(
+        k,
+        locations,
+        legs,
+        latest,
+        service,
+        &stops[..],
+        lengths,
+        depots,
+        ends,
+        pins,
+        pairs,
+        lent,
+    );
+    if refused != 0 {
+        return refused;
+    }
+    shares::run_in_shares(
         k,
         allowance,
         locations,
