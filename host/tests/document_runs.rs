@@ -9,8 +9,8 @@ use mittenschist::{
     every_nearby_cuts, find_move, k_opt_do_move, k_opt_is_doable, k_opt_undo_move, nearby_cuts,
     next_cut_set, pair_loop, polish_route, polish_route_with_pairs, polish_with_patterns,
     polish_with_patterns_and_pairs, reconnection_at, route_feasible, route_length, run_in_shares,
-    run_list_k_opt, run_list_k_opt_with_pairs, Deadline, Ending, Harbours, Move, Pair, PairLooped, PatternList,
-    Patterns, Polished, Refusal, RoundReply, RoundState, Rounds, Tables,
+    run_list_k_opt, run_list_k_opt_with_pairs, Deadline, Ending, Harbours, Move, Pair, PairLooped,
+    PatternList, Patterns, Polished, Refusal, RoundReply, RoundState, Rounds, Tables,
 };
 use support::lent::Lent;
 use support::{kept, written};

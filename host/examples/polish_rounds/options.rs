@@ -49,7 +49,9 @@ impl Options {
         }
         let file = file.ok_or("no file of rounds")?;
         if shares && (jobs.is_some() || patterns.is_some()) {
-            return Err(String::from("--shares goes with neither --jobs nor --patterns"));
+            return Err(String::from(
+                "--shares goes with neither --jobs nor --patterns",
+            ));
         }
         Ok(Self::Polish {
             file,

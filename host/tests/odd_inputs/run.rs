@@ -243,7 +243,10 @@ fn every_room(k: usize, tables: &Tables, rounds: &Rounds, pairs: Option<&[u32]>)
     let places = 4 * rounds.lengths.len();
     for room in [0, places.saturating_sub(1), places, places + 3] {
         for allowance in [0, 1, 90] {
-            for shares in [false, true].into_iter().take(1 + usize::from(pairs.is_some())) {
+            for shares in [false, true]
+                .into_iter()
+                .take(1 + usize::from(pairs.is_some()))
+            {
                 let case = Case {
                     k,
                     allowance,

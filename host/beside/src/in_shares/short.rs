@@ -21,7 +21,10 @@ pub fn each(_random: &mut Random, visit: Visit) {
 
 fn allowances(whole: u64) -> Vec<u64> {
     let around = (1..=3).flat_map(|shares| (0..4).map(move |over| shares * whole + over - 1));
-    [0, 1, 2, 3, 5, u64::MAX].into_iter().chain(around).collect()
+    [0, 1, 2, 3, 5, u64::MAX]
+        .into_iter()
+        .chain(around)
+        .collect()
 }
 
 /// A round for each kind: of four stops, pinned, short.
