@@ -50,14 +50,10 @@ fn show_idle(
     allowance: u64,
     stops: &mut [u32],
     lengths: &[usize],
+    harbours: &[u32],
     pins: &[u8],
     result: &mut [u64],
 ) {
-    let harbours = [0u32; 5];
-    let many = lengths.len();
-    if many > 5 {
-        return;
-    }
     let refused = mittenschist::mittenschist_run_in_shares(
         3,
         allowance,
@@ -67,8 +63,8 @@ fn show_idle(
         &[0],
         stops,
         lengths,
-        &harbours[..many],
-        &harbours[..many],
+        harbours,
+        harbours,
         pins,
         &[],
         result,
@@ -78,7 +74,14 @@ fn show_idle(
 
 // Two rounds of four stops.
 fn show_two(allowance: u64) {
-    show_idle(allowance, &mut [0u32; 8], &[4, 4], &[0, 0], &mut [9u64; 9]);
+    show_idle(
+        allowance,
+        &mut [0u32; 8],
+        &[4, 4],
+        &[0, 0],
+        &[0, 0],
+        &mut [9u64; 9],
+    );
 }
 
 // A pinned round, one that takes part, a pinned and a short one, and another that takes part.
@@ -87,6 +90,7 @@ fn show_between(allowance: u64) {
         allowance,
         &mut [0u32; 12],
         &[1, 4, 0, 3, 4],
+        &[0, 0, 0, 0, 0],
         &[1, 0, 200, 0, 0],
         &mut [9u64; 20],
     );
@@ -125,8 +129,8 @@ fn show_allowances() {
 
 // With none that takes part, and with others between those that do.
 fn show_others() {
-    show_idle(0, &mut [0u32; 9], &[4, 5], &[1, 2], &mut [9u64; 8]);
-    show_idle(100, &mut [], &[], &[], &mut [9u64; 1]);
+    show_idle(0, &mut [0u32; 9], &[4, 5], &[0, 0], &[1, 2], &mut [9u64; 8]);
+    show_idle(100, &mut [], &[], &[], &[], &mut [9u64; 1]);
     show_between(151);
     show_between(3);
 }
