@@ -197,6 +197,21 @@ uint32_t mittenschist_run_list_k_opt_with_pairs(size_t k, uint64_t allowance, si
     const uint32_t *depots, size_t depots_len, const uint32_t *ends, size_t ends_len, const uint8_t *pins, size_t pins_len,
     const uint32_t *pairs, size_t pairs_len, uint64_t *result, size_t result_len);
 
+/* ---- Shares of the allowance ---- */
+
+/* mittenschist_run_list_k_opt_with_pairs, where no round can eat what the others wait for. Of the rounds that are free and of 4 stops or more each is given a share: the
+ * allowance divided by their number, rounded down, and the first of them the remainder too; and beside it what those before it left over. So no round
+ * examines more than it is given, together they examine at most the allowance, and each examines its share or as many as it takes to finish.
+ * A spent round keeps what was accepted, which is shorter and keeps every deadline and every pair, and the next one still starts.
+ *   result  written  4 places a round, as for the run, but that no state is 0 and that applied is what was accepted in state 5 too
+ *   all others       as for it
+ * Refuses 1, 2, 3, 23, 4, 24, 29, 5, 21 (result under 4 places a round). */
+uint32_t mittenschist_run_in_shares(size_t k, uint64_t allowance, size_t locations,
+    const uint32_t *legs, size_t legs_len, const uint32_t *latest, size_t latest_len, const uint32_t *service, size_t service_len,
+    uint32_t *stops, size_t stops_len, const size_t *lengths, size_t lengths_len,
+    const uint32_t *depots, size_t depots_len, const uint32_t *ends, size_t ends_len, const uint8_t *pins, size_t pins_len,
+    const uint32_t *pairs, size_t pairs_len, uint64_t *result, size_t result_len);
+
 /* ---- The others ---- */
 
 /* The pair loop, which a run took for k = 2 in former versions; for boards that rely on its orders. For i from 0 to n - 2 and j from i + 1 to

@@ -52,5 +52,7 @@ pub use patterns::{polish_with_patterns, polish_with_patterns_and_pairs, Pattern
 pub use polish::{polish_route, polish_route_with_pairs, Ending, Polished};
 pub use precedence::Pair;
 pub use refusal::Refusal;
-pub use run::{run_list_k_opt, run_list_k_opt_with_pairs, RoundReply, RoundState, Rounds};
+pub use run::{
+    run_in_shares, run_list_k_opt, run_list_k_opt_with_pairs, RoundReply, RoundState, Rounds,
+};
 pub use tables::Tables;

@@ -194,6 +194,31 @@ extern "C" {
         result: *mut u64,
         result_len: usize,
     ) -> u32;
+    fn mittenschist_run_in_shares(
+        k: usize,
+        allowance: u64,
+        locations: usize,
+        legs: *const u32,
+        legs_len: usize,
+        latest: *const u32,
+        latest_len: usize,
+        service: *const u32,
+        service_len: usize,
+        stops: *mut u32,
+        stops_len: usize,
+        lengths: *const usize,
+        lengths_len: usize,
+        depots: *const u32,
+        depots_len: usize,
+        ends: *const u32,
+        ends_len: usize,
+        pins: *const u8,
+        pins_len: usize,
+        pairs: *const u32,
+        pairs_len: usize,
+        result: *mut u64,
+        result_len: usize,
+    ) -> u32;
     fn mittenschist_find_move(
         k: usize,
         old: *const u32,
@@ -710,6 +735,54 @@ pub fn run_list_k_opt_with_pairs(
     // SAFETY: as said above.
     unsafe {
         mittenschist_run_list_k_opt_with_pairs(
+            k,
+            allowance,
+            locations,
+            legs.as_ptr(),
+            legs.len(),
+            latest.as_ptr(),
+            latest.len(),
+            service.as_ptr(),
+            service.len(),
+            stops.as_mut_ptr(),
+            stops.len(),
+            lengths.as_ptr(),
+            lengths.len(),
+            depots.as_ptr(),
+            depots.len(),
+            ends.as_ptr(),
+            ends.len(),
+            pins.as_ptr(),
+            pins.len(),
+            pairs.as_ptr(),
+            pairs.len(),
+            result.as_mut_ptr(),
+            result.len(),
+        )
+    }
+}
+
+/// As [`run_list_k_opt_with_pairs`], with a share of the allowance for each round that is polished; none is in state 0.
+#[must_use]
+#[allow(clippy::too_many_arguments)]
+pub fn run_in_shares(
+    k: usize,
+    allowance: u64,
+    locations: usize,
+    legs: &[u32],
+    latest: &[u32],
+    service: &[u32],
+    stops: &mut [u32],
+    lengths: &[usize],
+    depots: &[u32],
+    ends: &[u32],
+    pins: &[u8],
+    pairs: &[u32],
+    result: &mut [u64],
+) -> u32 {
+    // SAFETY: as said above.
+    unsafe {
+        mittenschist_run_in_shares(
             k,
             allowance,
             locations,

@@ -32,7 +32,7 @@ pub enum RoundState {
     Unchanged,
     /// Polished, and something was accepted.
     Changed,
-    /// The allowance was reached in it; its stops are as handed in.
+    /// The allowance was reached in it. A run puts its stops back as handed in; in shares it keeps what was accepted.
     Spent,
 }
 
@@ -45,7 +45,7 @@ pub struct RoundReply {
     pub examined: u64,
     /// Candidates accepted.
     pub accepted: u64,
-    /// `accepted` where the round was changed, else 0.
+    /// `accepted` where the round was changed, and in shares where it was spent; else 0.
     pub applied: u64,
 }
 
@@ -120,6 +120,49 @@ pub fn run_list_k_opt_with_pairs(
     run(k, allowance, tables, rounds, Some(pairs.as_flattened()))
 }
 
+/// As [`run_list_k_opt_with_pairs`], where no round can eat what the others wait for: the rounds that are free and of 4 stops or more share the
+/// allowance. Each is given the allowance divided by their number, rounded down, and what those before it left over; the first has the
+/// remainder too. None is [`NotReached`](RoundState::NotReached), and a spent one keeps what was accepted. Refuses 1, 2, 3, 23, 4, 24, 29, 5.
+///
+/// ```
+/// use mittenschist::{run_in_shares, RoundState, Rounds, Tables};
+///
+/// // Two rounds of four stops, with 70 candidates each where nothing can be gained.
+/// let tables = Tables::without_service(1, &[0], &[u32::MAX]);
+/// let mut stops = [0; 8];
+/// let rounds = Rounds { stops: &mut stops, lengths: &[4, 4], depots: &[0, 0], ends: &[0, 0], pins: &[0, 0] };
+/// let replies = run_in_shares(3, 71, &tables, rounds, &[])?;
+/// assert_eq!(replies.iter().map(|round| round.examined).collect::<Vec<_>>(), [36, 35]);
+/// assert_eq!(replies[1].state, RoundState::Spent);
+/// # Ok::<(), mittenschist::Refusal>(())
+/// ```
+pub fn run_in_shares(
+    k: usize,
+    allowance: u64,
+    tables: &Tables,
+    rounds: Rounds,
+    pairs: &[Pair],
+) -> Result<Vec<RoundReply>, Refusal> {
+    let (locations, legs, latest, service) = tables.parts();
+    replies(rounds, |rounds, result| {
+        raw::run_in_shares(
+            k,
+            allowance,
+            locations,
+            legs,
+            latest,
+            service,
+            rounds.stops,
+            rounds.lengths,
+            rounds.depots,
+            rounds.ends,
+            rounds.pins,
+            pairs.as_flattened(),
+            result,
+        )
+    })
+}
+
 /// With the members of pairs, or by the function that takes none.
 fn run(
     k: usize,
@@ -129,26 +172,36 @@ fn run(
     members: Option<&[u32]>,
 ) -> Result<Vec<RoundReply>, Refusal> {
     let (locations, legs, latest, service) = tables.parts();
-    let Rounds {
-        stops,
-        lengths,
-        depots,
-        ends,
-        pins,
-    } = rounds;
+    replies(rounds, |rounds, result| {
+        let Rounds {
+            stops,
+            lengths,
+            depots,
+            ends,
+            pins,
+        } = rounds;
+        match members {
+            None => raw::run_list_k_opt_to_ends(
+                k, allowance, locations, legs, latest, service, stops, lengths, depots, ends, pins,
+                result,
+            ),
+            Some(pairs) => raw::run_list_k_opt_with_pairs(
+                k, allowance, locations, legs, latest, service, stops, lengths, depots, ends, pins,
+                pairs, result,
+            ),
+        }
+    })
+}
+
+/// What a call says of each round, by the four numbers that it writes.
+fn replies(
+    rounds: Rounds,
+    call: impl FnOnce(Rounds, &mut [u64]) -> u32,
+) -> Result<Vec<RoundReply>, Refusal> {
+    let many = rounds.lengths.len();
     let mut replies = [[0; 4]; MOST_ROUNDS];
-    let result = replies.as_flattened_mut();
-    Refusal::check(match members {
-        None => raw::run_list_k_opt_to_ends(
-            k, allowance, locations, legs, latest, service, stops, lengths, depots, ends, pins,
-            result,
-        ),
-        Some(pairs) => raw::run_list_k_opt_with_pairs(
-            k, allowance, locations, legs, latest, service, stops, lengths, depots, ends, pins,
-            pairs, result,
-        ),
-    })?;
-    let replies = replies.iter().take(lengths.len());
+    Refusal::check(call(rounds, replies.as_flattened_mut()))?;
+    let replies = replies.iter().take(many);
     Ok(replies.map(RoundReply::of).collect())
 }
 

@@ -8,9 +8,9 @@ mod support;
 use mittenschist::{
     every_nearby_cuts, find_move, k_opt_do_move, k_opt_is_doable, k_opt_undo_move, nearby_cuts,
     next_cut_set, pair_loop, polish_route, polish_route_with_pairs, polish_with_patterns,
-    polish_with_patterns_and_pairs, reconnection_at, route_feasible, route_length, run_list_k_opt,
-    run_list_k_opt_with_pairs, Deadline, Ending, Harbours, Move, Pair, PairLooped, PatternList,
-    Patterns, Polished, Refusal, RoundReply, RoundState, Rounds, Tables,
+    polish_with_patterns_and_pairs, reconnection_at, route_feasible, route_length, run_in_shares,
+    run_list_k_opt, run_list_k_opt_with_pairs, Deadline, Ending, Harbours, Move, Pair, PairLooped,
+    PatternList, Patterns, Polished, Refusal, RoundReply, RoundState, Rounds, Tables,
 };
 use support::lent::Lent;
 use support::{kept, written};
@@ -642,4 +642,60 @@ fn lists_and_runs_with_pairs() {
     assert_eq!(run(&[[1, 2]]), kept);
     assert_eq!(run(&[[2, 1]]), changed);
     assert_eq!(run(&[]), changed);
+}
+
+/// Rounds with no leg between any two places, so that nothing is accepted: 70 candidates for four stops and three cuts. States and candidates examined.
+fn shared(allowance: u64, lengths: &[usize], pins: &[u8]) -> Vec<(RoundState, u64)> {
+    let tables = Tables::without_service(1, &[0], &[NO_DEADLINE]);
+    let (mut stops, harbours) = (vec![0; lengths.iter().sum()], vec![0; lengths.len()]);
+    let rounds = Rounds {
+        stops: &mut stops,
+        lengths,
+        depots: &harbours,
+        ends: &harbours,
+        pins,
+    };
+    let replies = run_in_shares(3, allowance, &tables, rounds, &[]).unwrap();
+    let told = |reply: &RoundReply| (reply.state, reply.examined);
+    replies.iter().map(told).collect()
+}
+
+#[test]
+fn shares_of_the_allowance() {
+    use RoundState::{Pinned, Short, Spent, Unchanged};
+    let two = |allowance| shared(allowance, &[4, 4], &[0, 0]);
+    assert_eq!(two(71), [(Spent, 36), (Spent, 35)]);
+    assert_eq!(two(150), [(Unchanged, 70), (Unchanged, 70)]);
+    assert_eq!(two(145), [(Unchanged, 70), (Unchanged, 70)]);
+    assert_eq!(two(139), [(Unchanged, 70), (Spent, 69)]);
+    assert_eq!(two(1), [(Spent, 1), (Spent, 0)]);
+    assert_eq!(shared(0, &[4, 4], &[1, 255]), [(Pinned, 0), (Pinned, 0)]);
+    let between = |allowance| shared(allowance, &[4, 5, 3, 4], &[0, 1, 0, 0]);
+    let (pinned, short) = ((Pinned, 0), (Short, 0));
+    let finished = (Unchanged, 70);
+    assert_eq!(between(150), [finished, pinned, short, finished]);
+    assert_eq!(between(3), [(Spent, 2), pinned, short, (Spent, 1)]);
+}
+
+/// The pair case twice with two cuts, where the second candidate is taken: a spent round keeps it, and the next one still starts.
+#[test]
+fn a_spent_round_keeps_its_changes() {
+    let tables = Tables::without_service(5, &PAIR_LEGS, &[NO_DEADLINE; 5]);
+    let mut stops = [1, 2, 3, 4, 1, 2, 3, 4];
+    let rounds = Rounds {
+        stops: &mut stops,
+        lengths: &[4, 4],
+        depots: &[0, 0],
+        ends: &[0, 0],
+        pins: &[0, 0],
+    };
+    let spent = |examined| RoundReply {
+        state: RoundState::Spent,
+        examined,
+        accepted: 1,
+        applied: 1,
+    };
+    let replies = run_in_shares(2, 5, &tables, rounds, &[]);
+    assert_eq!(replies, Ok(vec![spent(3), spent(2)]));
+    assert_eq!(stops, [2, 1, 3, 4, 2, 1, 3, 4]);
 }

@@ -17,7 +17,7 @@ ghost use Rattle.refusal_rules.specs.Rules.{route-length-rules, route-length-to
 ghost use Rattle.measure_calls.specs.Measures.{RouteLengthReply, RouteLengthToEndReply, DeltaReply, DeltaToEndReply, FeasibleReply, late-values};
 ghost use Rattle.cut_calls.specs.Cuts.{ReconnectionReply, NextCutSetReply, NextCutSetWritten, ReconnectReply, FindMoveReply, FindMoveWritten};
 ghost use Rattle.polish_calls.specs.Polishing.{PolishReply, PolishToEndReply, PolishWithPairsReply, PairLoopReply};
-ghost use Rattle.run_calls.specs.Runs.{RunReply, RunToEndsReply, RunWithPairsReply};
+ghost use Rattle.run_calls.specs.Runs.{RunReply, RunToEndsReply, RunWithPairsReply, SharesReply};
 use first_move::SoughtMove;
 use theory::CutStep;
 use theory::Feasibility;
@@ -473,6 +473,42 @@ pub extern "C" fn mittenschist_run_list_k_opt_with_pairs(
     ensures { λ r. ⌜ RunWithPairsReply k allowance (tables locations (now (legs .entry)) (now (latest .entry)) (now (service .entry))) (fleet (now (stops .entry)) (now (lengths .entry)) (now (depots .entry)) (now (ends .entry)) (now (pins .entry))) (now (pairs .entry)) (now (result .entry)) r (now (stops .exit)) (now (result .exit)) ⌝ }
 {
     run_calls::run_with_pairs(
+        k,
+        allowance,
+        locations,
+        legs,
+        latest,
+        service,
+        stops,
+        lengths,
+        depots,
+        ends,
+        pins,
+        pairs,
+        result,
+    )
+}
+
+// The rounds of a run with shares of the allowance. Refuses 1, 2, 3, 23, 4, 24, 29, 5, 21. The result receives the run's four numbers a round, never state 0.
+#[no_mangle]
+pub extern "C" fn mittenschist_run_in_shares(
+    k: usize,
+    allowance: u64,
+    locations: usize,
+    legs: &[u32],
+    latest: &[u32],
+    service: &[u32],
+    stops: &mut [u32],
+    lengths: &[usize],
+    depots: &[u32],
+    ends: &[u32],
+    pins: &[u8],
+    pairs: &[u32],
+    result: &mut [u64],
+) -> u32
+    ensures { λ r. ⌜ SharesReply k allowance (tables locations (now (legs .entry)) (now (latest .entry)) (now (service .entry))) (fleet (now (stops .entry)) (now (lengths .entry)) (now (depots .entry)) (now (ends .entry)) (now (pins .entry))) (now (pairs .entry)) (now (result .entry)) r (now (stops .exit)) (now (result .exit)) ⌝ }
+{
+    run_calls::run_in_shares(
         k,
         allowance,
         locations,

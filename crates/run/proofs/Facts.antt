@@ -1,33 +1,45 @@
--- What holds of a round after its turn, by its definition alone. Assumes nothing.
-use mathlib.Core.Path.{_≡_, refl, ap, _∙_}
-use mathlib.Core.Bool.{Bool, true, false, cond}
+-- What holds of a round of a run, by its definition alone: it is a turn, put back where it is spent. Assumes nothing.
+use mathlib.Core.Path.{_≡_, refl, sym, ap, _∙_}
+use mathlib.Core.Bool.{Bool, true, false, cond, false≢true}
 use mathlib.Core.Logic.{⊎-elim}
 use mathlib.Core.List.{List}
 use Prim.Native.Nat.{ℕ, zero, suc, _≤_}
 use native.Mathlib.Omega.{arith}
 use lib.Dec.{eqb, ltb}
 use lib.ListN.{length}
-use Rattle.theory.specs.Scan.{Reply}
+use borrow.Author.Tests.{eq-eqb, ne-eqb}
 use Rattle.theory.specs.Moves.{patterns, total}
 use Rattle.theory.specs.Route.{Problem, count}
 use Rattle.theory.specs.Polish.{polish, KOptimal}
-use Rattle.theory.proofs.Moves.{rearranges}
-use Rattle.theory.proofs.Polish.{polish-demand3, same-total}
 use Rattle.theory.proofs.Stops.{as-many}
 use Rattle.theory.specs.declared.RoundState.{RoundState}
 use Rattle.theory.specs.declared.RoundState.the-variants as State
-use Rattle.run_numbers.specs.States.{number-of, examined-of, Finished}
-use Rattle.run.specs.Round.{Outcome, outcome, run-round, RoundRan}
+use Rattle.run_numbers.specs.States.{number-of, examined-of, is-spent, Finished}
+use Rattle.rounds.specs.Rounds.{Outcome}
+use Rattle.rounds.specs.Turn.{kept, take-turn}
+use Rattle.rounds.proofs.Turn as Turn
+use Rattle.run.specs.Round.{outcome, run-round, RoundRan}
+
+abbrev pub put-back : List ℕ → Outcome → Outcome
+put-back r o = record { state = o .state; route = cond (is-spent (o .state)) r (o .route) }
+
+pub as-turn : (P : Problem) (k left pin : ℕ) (r : List ℕ) → ¬ (left ≡ 0) → run-round P k left pin r ≡ put-back r (take-turn P k left pin r)
+unfolding run-round take-turn
+as-turn P k left pin r a =
+    let q = polish P k left r in
+    rw (ne-eqb left 0 a) (by (eqb pin 0) (ltb (length r) 4) (q .finished) (q .examined) (q .accepted) (q .route))
+  where
+    by : (free short f : Bool) (e c : ℕ) (r′ : List ℕ) →
+        _≡_ {A = Outcome}
+        (cond free (cond short (record { state = State.Short; route = r }) (outcome r (record { finished = f; examined = e; accepted = c; route = r′ }))) (record { state = State.Pinned; route = r }))
+        (put-back r (cond free (cond short (record { state = State.Short; route = r }) (kept (record { finished = f; examined = e; accepted = c; route = r′ }))) (record { state = State.Pinned; route = r })))
+    by false short f e c r′ = refl
+    by true true f e c r′ = refl
+    by true false false e c r′ = refl
+    by true false true e zero r′ = refl
+    by true false true e (suc c) r′ = refl
 
 module _ (P : Problem) (k left : ℕ) (r : List ℕ) where
-  -- Of a reply to the route.
-  record Sound (q : Reply (List ℕ)) : Type 0 where
-    same : (g : ℕ → ℕ) → total g (q .route) ≡ total g r
-    within : q .examined ≤ left
-    spent : q .finished ≡ false → q .examined ≡ left
-    unchanged : q .accepted ≡ 0 → q .route ≡ r
-    optimal : q .finished ≡ true → KOptimal P (patterns k) k (q .route)
-
   -- Of an outcome.
   pub record Fine (o : Outcome) : Type 0 where
     pub same : (g : ℕ → ℕ) → total g (o .route) ≡ total g r
@@ -36,56 +48,34 @@ module _ (P : Problem) (k left : ℕ) (r : List ℕ) where
     pub spent : number-of (o .state) ≡ 5 → examined-of (o .state) ≡ left
     pub optimal : Finished (number-of (o .state)) → KOptimal P (patterns k) k (o .route)
 
-  outcome-fine : (f : Bool) (e a : ℕ) (r′ : List ℕ) → Sound (record { finished = f; examined = e; accepted = a; route = r′ }) →
-      Fine (outcome r (record { finished = f; examined = e; accepted = a; route = r′ }))
-  outcome-fine true e zero r′ s =
-      record { same = s .same; unchanged = λ n. s .unchanged refl; within = s .within; spent = λ h. absurd (omega arith); optimal = λ d. s .optimal refl }
-  outcome-fine true e (suc a) r′ s =
-      record { same = s .same; unchanged = λ n. absurd (n refl); within = s .within; spent = λ h. absurd (omega arith); optimal = λ d. s .optimal refl }
-  outcome-fine false e a r′ s =
+  put-back-fine : (s : RoundState) (r′ : List ℕ) → Turn.Fine P k left r (record { state = s; route = r′ }) → Fine (put-back r (record { state = s; route = r′ }))
+  put-back-fine State.NotReached r′ f = absurd (f .reached refl)
+  put-back-fine State.Pinned r′ f = record { same = f .same; unchanged = λ n. f .unchanged refl; within = f .within; spent = f .spent; optimal = f .optimal }
+  put-back-fine State.Short r′ f = record { same = f .same; unchanged = λ n. f .unchanged refl; within = f .within; spent = f .spent; optimal = f .optimal }
+  put-back-fine (State.Unchanged e) r′ f = record { same = f .same; unchanged = λ n. f .unchanged refl; within = f .within; spent = f .spent; optimal = f .optimal }
+  put-back-fine (State.Changed t) r′ f = record { same = f .same; unchanged = λ n. absurd (n refl); within = f .within; spent = f .spent; optimal = f .optimal }
+  put-back-fine (State.Spent t) r′ f =
+      record { same = λ g. refl; unchanged = λ n. refl; within = f .within; spent = f .spent; optimal = λ d. absurd (⊎-elim (λ n. omega arith) (λ n. omega arith) d) }
+
+  not-reached-fine : Fine (record { state = State.NotReached; route = r })
+  not-reached-fine =
       record {
         same = λ g. refl;
         unchanged = λ n. refl;
-        within = s .within;
-        spent = λ h. s .spent refl;
+        within = omega arith;
+        spent = λ f. absurd (omega arith);
         optimal = λ d. absurd (⊎-elim (λ n. omega arith) (λ n. omega arith) d);
       }
 
-reply-sound : (P : Problem) (k left : ℕ) (r : List ℕ) → 2 ≤ k → Sound P k left r (polish P k left r)
-reply-sound P zero left r h = absurd (omega arith)
-reply-sound P (suc k) left r h =
-    let d = polish-demand3 P k left r in
-    record {
-      same = λ g. same-total P (patterns (suc k)) (suc k) (rearranges k) g left r;
-      within = d .within;
-      spent = d .spent;
-      unchanged = d .unchanged;
-      optimal = d .optimal;
-    }
-
--- A round that is passed over.
-kept-fine : (P : Problem) (k left : ℕ) (r : List ℕ) (s : RoundState) → number-of s ≤ 2 → examined-of s ≡ 0 → Fine P k left r (record { state = s; route = r })
-kept-fine P k left r s h e =
-    record {
-      same = λ g. refl;
-      unchanged = λ n. refl;
-      within = omega (arith, e);
-      spent = λ f. absurd (omega (arith, h, f));
-      optimal = λ d. absurd (⊎-elim (λ n. omega (arith, h, n)) (λ n. omega (arith, h, n)) d);
-    }
+pub not-reached : (P : Problem) (k left pin : ℕ) (r : List ℕ) → left ≡ 0 → run-round P k left pin r ≡ record { state = State.NotReached; route = r }
+unfolding run-round
+not-reached P k left pin r z = rw (eq-eqb left 0 z)
 
 pub round-fine : (P : Problem) (k left pin : ℕ) (r : List ℕ) → 2 ≤ k → Fine P k left r (run-round P k left pin r)
-unfolding run-round
-round-fine P k left pin r h = by (eqb left 0) (eqb pin 0) (ltb (length r) 4) (polish P k left r) (reply-sound P k left r h)
-  where
-    by : (reached free short : Bool) (q : Reply (List ℕ)) → Sound P k left r q →
-        Fine P k left r
-        (cond reached (record { state = State.NotReached; route = r })
-        (cond free (cond short (record { state = State.Short; route = r }) (outcome r q)) (record { state = State.Pinned; route = r })))
-    by true free short q s = kept-fine P k left r State.NotReached (omega arith) refl
-    by false false short q s = kept-fine P k left r State.Pinned (omega arith) refl
-    by false true true q s = kept-fine P k left r State.Short (omega arith) refl
-    by false true false q s = outcome-fine P k left r (q .finished) (q .examined) (q .accepted) (q .route) s
+round-fine P k zero pin r h = rw (not-reached P k 0 pin r refl) (not-reached-fine P k 0 r)
+round-fine P k (suc left) pin r h =
+    let o = take-turn P k (suc left) pin r in
+    rw (as-turn P k (suc left) pin r (λ z. omega arith)) (put-back-fine P k (suc left) r (o .state) (o .route) (Turn.turn-fine P k (suc left) pin r h))
 
 pub round-length : (P : Problem) (k left pin : ℕ) (r : List ℕ) → 2 ≤ k → length (run-round P k left pin r .route) ≡ length r
 round-length P k left pin r h = as-many r (run-round P k left pin r .route) (round-fine P k left pin r h .same)

@@ -9,7 +9,8 @@ use Rattle.theory.specs.Route.{tour-length, timely, reconnected}
 use Rattle.theory.specs.Tables.{Tables, tables, fleet}
 use Rattle.theory.specs.Scan.{scan-from}
 use Rattle.run.specs.Round.{run-round}
-use Rattle.run.specs.Run.{rounds, run, routes, numbers}
+use Rattle.rounds.specs.Rounds.{rounds, routes, rows}
+use Rattle.run.specs.Run.{run, numbers}
 
 -- Rounds with the depot 0 that end there; a leg that the rows lack is 0, and no deadline is in force.
 pub record Ask : Type 0 where
@@ -26,7 +27,7 @@ tables-of q = tables 5 (flatten (q .legs)) (replicate 11 4294967295) []
 
 -- Four numbers a round, and then the stops.
 unfoldable pub answer : Ask → List ℕ
-unfolding rounds run routes numbers flatten
+unfolding rounds run routes rows flatten
 answer q = let os = run (q .k) (q .allowance) (rounds (tables-of q) (fleet (q .stops) (q .lengths) [] [] (q .pins)) (q .pairs)) in numbers os ++ routes os
 
 -- "DA 10, DB 1, DC 5, DE 1, AB 1, AC 1, AE 1, BC 10, BE 10, CE 1; round A B C E."

@@ -12,12 +12,8 @@ use Rattle.theory.specs.Polish.{polish, KOptimal}
 use Rattle.theory.specs.declared.RoundState.{RoundState}
 use Rattle.theory.specs.declared.RoundState.the-variants as State
 use Rattle.run_numbers.specs.States.{state-after, number-of, examined-of, Finished}
+use Rattle.rounds.specs.Rounds.{Outcome}
 use Rattle.run.specs.declared.round.Replied.{Replied}
-
--- What the run hands back of a round.
-pub record Outcome : Type 0 where
-  pub state : RoundState
-  pub route : List ℕ
 
 -- Of the reply q to the round r: "a spent round is put back as handed in".
 abbrev pub outcome : List ℕ → Reply (List ℕ) → Outcome
@@ -35,11 +31,6 @@ run-round P k left pin r =
 -- What the polishing of a round answers, and the route that it leaves.
 pub record Replies (P : Problem) (k left : ℕ) (r : List ℕ) (answer : Replied) (r′ : List ℕ) : Type 0 where
   pub reply : record { finished = answer .finished; examined = answer .examined; accepted = answer .accepted; route = r′ } ≡ polish P k left r
-
--- A state and a route are those of an outcome.
-pub record Ends (o : Outcome) (state : RoundState) (r′ : List ℕ) : Type 0 where
-  pub state-is : state ≡ o .state
-  pub route-is : r′ ≡ o .route
 
 -- What one round of a run promises: state and route by the definition; "the same stops, each as often"; a route other than the one handed in only in
 -- state 4; no more candidates than are left, and all of them where it is spent; and a round that finished is k-optimal, "whichever k".

@@ -1,38 +1,18 @@
 -- Document 01, "Run": the rounds one after the other, with one allowance for all of them.
 use mathlib.Core.Path.{_≡_}
-use mathlib.Core.List.{List, [], _∷_, _++_, map, flatMap}
+use mathlib.Core.List.{List, [], _∷_, _++_}
 use Prim.Native.Nat.{ℕ, _+_, _-_, _*_, _≤_, _<_}
-use lib.ListN.{length, getD, take, drop}
-use Rattle.theory.specs.Moves.{patterns, total, upfrom}
+use lib.ListN.{length, getD, drop}
+use Rattle.theory.specs.Moves.{patterns, total}
 use Rattle.theory.specs.Pairs.{pairs-of}
 use Rattle.theory.specs.Route.{count}
 use Rattle.theory.specs.Polish.{KOptimal}
-use Rattle.theory.specs.Tables.{Tables, Trip, Fleet, problem, LegTable, Times}
+use Rattle.theory.specs.Tables.{Tables, Fleet, problem, LegTable, Times}
 use Rattle.theory.specs.Answers.{round-values}
 use Rattle.precedence.specs.Words.{PairsLent, PairsFillable}
 use Rattle.run_numbers.specs.States.{examined-of, Finished}
-use Rattle.run.specs.Round.{Outcome, run-round}
-
--- The stops of round i follow those of the rounds before it.
-abbrev pub round-at : (lengths stops : List ℕ) → ℕ → List ℕ
-round-at lengths stops i = take (getD lengths i 0) (drop (total (λ n. n) (take i lengths)) stops)
-
--- A round as it is handed in, with what it is planned by.
-pub record Given : Type 0 where
-  pub trip : Trip
-  pub pin : ℕ
-  pub route : List ℕ
-
--- "One list for all rounds."
-abbrev pub trip-of : Tables → Fleet → (pairs : List ℕ) → ℕ → Trip
-trip-of T F pairs i = record { tables = T; depot = getD (F .depots) i 0; end = getD (F .ends) i 0; pairs = pairs }
-
-abbrev pub given : Tables → Fleet → (pairs : List ℕ) → ℕ → Given
-given T F pairs i = record { trip = trip-of T F pairs i; pin = getD (F .pins) i 0; route = round-at (F .lengths) (F .stops) i }
-
-unfoldable pub rounds : Tables → Fleet → (pairs : List ℕ) → List Given
-unfolding upfrom
-rounds T F pairs = map (given T F pairs) (upfrom 0 (length (F .lengths)))
+use Rattle.rounds.specs.Rounds.{Given, Outcome, round-at, trip-of, rounds, routes, rows, examined-in}
+use Rattle.run.specs.Round.{run-round}
 
 -- Each round in turn, with the allowance that the rounds before it left. "And the run stops": a spent round leaves nothing (`Ran .stopped`).
 unfoldable pub run : (k left : ℕ) → List Given → List Outcome
@@ -40,19 +20,9 @@ unfolding run-round
 run k left [] = []
 run k left (g ∷ gs) = let o = run-round (problem (g .trip)) k left (g .pin) (g .route) in o ∷ run k (left - examined-of (o .state)) gs
 
--- The routes, end to end again.
-unfoldable pub routes : List Outcome → List ℕ
-unfolding flatMap
-routes os = flatMap (λ o. o .route) os
-
 -- "Four numbers a round."
-unfoldable pub numbers : List Outcome → List ℕ
-unfolding flatMap
-numbers os = flatMap (λ o. round-values (o .state)) os
-
--- The candidates that the first n rounds examined, as they stand in a result.
-abbrev pub examined-in : List ℕ → ℕ → ℕ
-examined-in result n = total (λ i. getD result (4 * i + 1) 0) (upfrom 0 n)
+abbrev pub numbers : List Outcome → List ℕ
+numbers os = rows round-values os
 
 -- What the checks establish for a run.
 pub record Runnable (k : ℕ) (T : Tables) (F : Fleet) (result : List ℕ) : Type 0 where

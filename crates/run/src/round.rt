@@ -1,14 +1,14 @@
-// One round of a run: passed over, or polished with the allowance that is left. No entry: the crates above call it.
+// One round: its turn, which a run and its shares have in common, and what a run makes of it. No entry: the crates above call it.
 use theory::Polished;
 use theory::RoundState;
 use theory::STOPS;
 ghost use mathlib.Core.Path.{_≡_};
 ghost use mathlib.Core.Bool.{cond};
 ghost use lib.ListN.{length};
-ghost use Rattle.theory.specs.Polish.{polish};
 ghost use Rattle.theory.specs.Tables.{problem, trip};
 ghost use Rattle.polishing.specs.Loop.{Polishable};
-ghost use Rattle.run.specs.Round.{Replies, outcome, Ends, RoundRan};
+ghost use Rattle.rounds.specs.Turn.{TookTurn};
+ghost use Rattle.run.specs.Round.{Replies, RoundRan};
 
 // What the polishing of a round counted.
 struct Replied {
@@ -60,20 +60,10 @@ fn polish_round(
     }
 }
 
-fn keep_or_put_back(finished: bool, old: &[u32], route: &mut [u32])
-    requires { ⌜ length (now old) ≡ length (now route) ⌝ }
-    ensures { λ _. ⌜ now (route .exit) ≡ cond finished (now (route .entry)) (now (old .entry)) ⌝ }
-{
-    if finished {
-        return;
-    }
-    reconnection::copy_in(old, route, 0);
-}
-
-// The stops are kept beside the route while it is polished, for a spent round is put back.
-fn polish_or_put_back(
+// A round's turn with the candidates that it is given: passed over, or polished, and then what was accepted stays.
+pub fn take_turn(
     k: usize,
-    left: u64,
+    given: u64,
     locations: usize,
     legs: &[u32],
     latest: &[u32],
@@ -82,17 +72,21 @@ fn polish_or_put_back(
     end: u32,
     pairs: &[u32],
     members: &[u64],
+    pin: u8,
     route: &mut [u32],
 ) -> RoundState
     requires { ⌜ Polishable k (trip locations (now legs) (now latest) (now service) depot end (now pairs)) (now members) (now route) ⌝ }
-    ensures { λ r. ⌜ Ends (outcome (now (route .entry)) (polish (problem (trip locations (now (legs .entry)) (now (latest .entry)) (now (service .entry)) depot end (now (pairs .entry)))) k left (now (route .entry)))) r (now (route .exit)) ⌝ }
+    ensures { λ r. ⌜ TookTurn (problem (trip locations (now (legs .entry)) (now (latest .entry)) (now (service .entry)) depot end (now (pairs .entry)))) k given pin (now (route .entry)) r (now (route .exit)) ⌝ }
 {
-    let n = route.len();
-    let mut old = [0u32; STOPS];
-    reconnection::copy_in(&route[..], &mut old, 0);
+    if pin != 0 {
+        return RoundState::Pinned;
+    }
+    if route.len() < 4 {
+        return RoundState::Short;
+    }
     let reply = polish_round(
         k,
-        left,
+        given,
         locations,
         legs,
         latest,
@@ -103,11 +97,20 @@ fn polish_or_put_back(
         members,
         route,
     );
-    keep_or_put_back(reply.finished, &old[..n], route);
     run_numbers::state_after(reply.finished, reply.examined, reply.accepted)
 }
 
-// The order of the tests is document 01's: the allowance, the pin, the number of stops.
+fn put_back_if(spent: bool, old: &[u32], route: &mut [u32])
+    requires { ⌜ length (now old) ≡ length (now route) ⌝ }
+    ensures { λ _. ⌜ now (route .exit) ≡ cond spent (now (old .entry)) (now (route .entry)) ⌝ }
+{
+    if !spent {
+        return;
+    }
+    reconnection::copy_in(old, route, 0);
+}
+
+// "Allowance reached, stop" comes before the other tests. The stops are kept beside the route during its turn, for a spent round is put back.
 pub fn run_round(
     k: usize,
     left: u64,
@@ -128,13 +131,10 @@ pub fn run_round(
     if left == 0 {
         return RoundState::NotReached;
     }
-    if pin != 0 {
-        return RoundState::Pinned;
-    }
-    if route.len() < 4 {
-        return RoundState::Short;
-    }
-    polish_or_put_back(
+    let n = route.len();
+    let mut old = [0u32; STOPS];
+    reconnection::copy_in(&route[..], &mut old, 0);
+    let state = take_turn(
         k,
         left,
         locations,
@@ -145,6 +145,9 @@ pub fn run_round(
         end,
         pairs,
         members,
+        pin,
         route,
-    )
+    );
+    put_back_if(run_numbers::is_spent(state), &old[..n], route);
+    state
 }

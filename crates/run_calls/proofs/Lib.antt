@@ -1,1 +1,2 @@
 pub mod RunReply
+pub mod SharesReply

@@ -9,7 +9,8 @@ use Rattle.theory.specs.Tables.{Tables, Fleet, fleet}
 use Rattle.theory.specs.Refusals.{Rule, refusal, cut-count, table-rules}
 use Rattle.theory.proofs.Refusals.{known}
 use Rattle.polishing.proofs.Judged.{none-lent, pairs-fine}
-use Rattle.run.specs.Run.{run, rounds, routes, numbers, RunnableLent, RunnableWithPairs, Ran}
+use Rattle.rounds.specs.Rounds.{rounds, routes}
+use Rattle.run.specs.Run.{run, numbers, RunnableLent, RunnableWithPairs, Ran}
 use Rattle.run.proofs.Judged.{runnable-fine}
 use Rattle.refusal_rules.specs.Rules.{rounds-to-ends-rules, rounds-with-pairs-rules, run-rules, run-to-ends-rules, run-with-pairs-rules}
 use Rattle.refusal_rules.proofs.Parts.{both-pass, pass-with-room}

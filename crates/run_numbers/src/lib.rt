@@ -6,7 +6,7 @@ ghost use mathlib.Core.List.{_∷_, _++_};
 ghost use Prim.Native.Nat.{_≤_};
 ghost use lib.ListN.{length, drop};
 ghost use Rattle.theory.specs.Answers.{round-values};
-ghost use Rattle.run_numbers.specs.States.{state-after, examined-of};
+ghost use Rattle.run_numbers.specs.States.{state-after, examined-of, is-spent, kept-values};
 
 // After its polishing.
 pub fn state_after(finished: bool, examined: u64, accepted: u64) -> RoundState
@@ -35,6 +35,19 @@ pub fn examined(state: RoundState) -> u64
     }
 }
 
+pub fn is_spent(state: RoundState) -> bool
+    ensures { λ r. ⌜ r ≡ is-spent state ⌝ }
+{
+    match state {
+        RoundState::NotReached => false,
+        RoundState::Pinned => false,
+        RoundState::Short => false,
+        RoundState::Unchanged(_) => false,
+        RoundState::Changed(_) => false,
+        RoundState::Spent(_) => true,
+    }
+}
+
 fn put_four(number: u64, examined: u64, accepted: u64, applied: u64, result: &mut [u64])
     requires { ⌜ 4 ≤ length (now result) ⌝ }
     ensures { λ _. ⌜ now (result .exit) ≡ number ∷ examined ∷ accepted ∷ applied ∷ drop 4 (now (result .entry)) ⌝ }
@@ -60,4 +73,13 @@ pub fn put_state(state: RoundState, result: &mut [u64])
         }
         RoundState::Spent(tally) => put_four(5, tally.examined, tally.accepted, 0, result),
     }
+}
+
+// The four numbers of a round that keeps its changes where it is spent: applied is accepted in every state.
+pub fn put_kept_state(state: RoundState, result: &mut [u64])
+    requires { ⌜ 4 ≤ length (now result) ⌝ }
+    ensures { λ _. ⌜ now (result .exit) ≡ kept-values state ++ drop 4 (now (result .entry)) ⌝ }
+{
+    put_state(state, result);
+    result[3] = result[2];
 }

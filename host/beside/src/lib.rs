@@ -28,6 +28,7 @@ pub mod ends;
 pub mod every;
 pub mod first_move;
 mod in_order;
+pub mod in_shares;
 pub use mittenschist::raw as ffi;
 pub mod lent;
 pub mod lists;

@@ -1,9 +1,7 @@
 //! Rounds polished on several threads, told in their order. The library has no state between calls.
 
 use crate::question::Question;
-use mittenschist::{
-    polish_route_with_pairs, polish_with_patterns_and_pairs, Polished, Refusal, Tables,
-};
+use mittenschist::{polish_route_with_pairs, polish_with_patterns_and_pairs, Polished, Refusal};
 use std::collections::BTreeMap;
 use std::sync::atomic::{AtomicUsize, Ordering};
 use std::sync::mpsc::{self, Receiver, Sender};
@@ -42,12 +40,7 @@ fn work(question: &Question, next: &AtomicUsize, done: &Sender<(usize, Outcome)>
 
 /// One round in one call. With no pairs the calls that take them are those that do not.
 fn polish(question: &Question, mut round: Vec<u32>) -> Outcome {
-    let tables = &Tables {
-        locations: question.locations,
-        legs: &question.legs,
-        latest: &question.latest,
-        service: &question.service,
-    };
+    let tables = &question.tables();
     let (k, allowance, harbours) = (question.k, question.allowance, question.harbours);
     let (pairs, route) = (&question.pairs, &mut round);
     let polished = match &question.patterns {

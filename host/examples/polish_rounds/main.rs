@@ -1,6 +1,6 @@
-//! cargo run --release --example polish_rounds [--jobs N] [--patterns LIST] [--pairs LIST] FILE: polishes each round of a file and says what was saved, which stop is
+//! cargo run --release --example polish_rounds [--jobs N] [--patterns LIST] [--pairs LIST] [--shares] FILE: polishes each round of a file and says what was saved, which stop is
 //! late and which pair is not kept, if one is, a line for each round as it is done. The file has the form of the text program, with any number of lines `round=` at its
-//! end; see rounds.txt beside this file. Each round has the whole allowance. Exit 1 if the file is not of the form or a round is refused,
+//! end; see rounds.txt beside this file. Each round has the whole allowance; with --shares they share it. Exit 1 if the file is not of the form or a round is refused,
 //! 2 if the words are not understood.
 
 #![forbid(unsafe_code)]
@@ -8,6 +8,7 @@
 mod jobs;
 mod options;
 mod question;
+mod shares;
 
 use jobs::{polish_all, Outcome};
 use mittenschist::{Ending, Pair, PatternList, Polished};
@@ -17,13 +18,14 @@ use std::process::ExitCode;
 use std::{env, fs};
 
 fn main() -> ExitCode {
-    let (file, jobs, lists) = match Options::parse(env::args().skip(1)) {
+    let (file, jobs, lists, shares) = match Options::parse(env::args().skip(1)) {
         Ok(Options::Polish {
             file,
             jobs,
             patterns,
             pairs,
-        }) => (file, jobs, (patterns, pairs)),
+            shares,
+        }) => (file, jobs, (patterns, pairs), shares),
         Ok(Options::Help) => {
             println!("{USAGE}");
             return ExitCode::SUCCESS;
@@ -35,7 +37,11 @@ fn main() -> ExitCode {
     };
     match read(&file, lists.0.as_deref(), lists.1.as_deref()) {
         Ok(question) => {
-            let refused = tell_all(&question, jobs, &mut |line| println!("{line}"));
+            let tell = &mut |line| println!("{line}");
+            let refused = match shares {
+                true => tell_shares(&question, tell),
+                false => tell_all(&question, jobs, tell),
+            };
             ExitCode::from(u8::from(refused))
         }
         Err(fault) => {
@@ -75,6 +81,21 @@ fn tell_all(question: &Question, jobs: usize, tell: &mut dyn FnMut(String)) -> b
     });
     tell(total.told());
     total.refused > 0
+}
+
+/// Tells a line for each round, or that the call was refused.
+fn tell_shares(question: &Question, tell: &mut dyn FnMut(String)) -> bool {
+    match shares::share_all(question) {
+        Ok(lines) => {
+            let numbered = (1..).zip(lines);
+            numbered.for_each(|(number, line)| tell(format!("round {number}: {line}")));
+            false
+        }
+        Err(refusal) => {
+            tell(format!("refused ({}): {refusal}", refusal.number()));
+            true
+        }
+    }
 }
 
 fn told(question: &Question, outcome: Outcome) -> String {
@@ -200,6 +221,23 @@ mod tests {
         assert!(told[0].ends_with("order 3,4,1,2"));
         assert!(told[1].ends_with("due by second 20; location 4 comes before location 3"));
         assert!(told[2].ends_with("order 3,4"));
+    }
+
+    /// 40 candidates for two rounds of four stops: the first keeps what it accepted in its 20, and the short one is passed over.
+    #[test]
+    fn in_shares() {
+        let mut question = Question::parse(include_str!("rounds.txt")).unwrap();
+        question.allowance = 40;
+        let mut told = Vec::new();
+        assert!(!tell_shares(&question, &mut |line| told.push(line)));
+        let wanted = [
+            "round 1: 23 s before, 5 s after; share spent after 20 candidates; order 2,1,3,4",
+            "round 2: 5 s before, 5 s after; share spent after 20 candidates; order 4,3,1,2",
+            "round 3: 7 s before, 7 s after; under 4 stops after 0 candidates; order 3,4",
+        ];
+        assert_eq!(told, wanted);
+        question.rounds = vec![Vec::new(); 65];
+        assert!(tell_shares(&question, &mut |line| told.push(line)));
     }
 
     #[test]

@@ -2,14 +2,15 @@
 
 /// What is printed for `--help`, and after a word that is not understood.
 pub const USAGE: &str = "\
-usage: polish_rounds [--jobs N] [--patterns LIST] [--pairs LIST] FILE
+usage: polish_rounds [--jobs N] [--patterns LIST] [--pairs LIST] [--shares] FILE
 Polishes each round of a file and says what was saved and which stop is the first that is late, a line for each round in the file's order.
 FILE has the lines k=, allowance=, locations=, depot=, end=, a line legs= for each location, latest=, service=, and then any number of lines round=.
 Each round has the whole allowance. With --jobs N, N rounds are polished at a time.
 With --patterns LIST only the patterns of that file are tried, in their order: the lines k=, patterns= and, for each pattern, pattern= with the digits of its
 order, a comma and its mask; its k counts, not that of FILE.
 With --pairs LIST each round keeps the pairs of that file: lines pair= with two locations and a comma between them, of which every visit of the first comes
-before every visit of the second. A round that is left as it was says which pair it does not keep.";
+before every visit of the second. A round that is left as it was says which pair it does not keep.
+With --shares the rounds of 4 stops or more, of at most 64, share the allowance; it goes with neither --jobs nor --patterns.";
 
 #[derive(Debug, PartialEq)]
 pub enum Options {
@@ -21,20 +22,24 @@ pub enum Options {
         patterns: Option<String>,
         /// A file of pairs.
         pairs: Option<String>,
+        /// Whether the rounds share the allowance.
+        shares: bool,
     },
 }
 
 impl Options {
     /// Says what is wrong where the words are not those of the usage.
     pub fn parse(words: impl Iterator<Item = String>) -> Result<Self, String> {
-        let (mut file, mut jobs, mut patterns, mut pairs) = (None, 1, None, None);
+        let (mut file, mut jobs, mut patterns, mut pairs) = (None, None, None, None);
+        let mut shares = false;
         let mut words = words;
         while let Some(word) = words.next() {
             match word.as_str() {
                 "--help" | "-h" => return Ok(Self::Help),
-                "--jobs" => jobs = jobs_of(words.next())?,
+                "--jobs" => jobs = Some(jobs_of(words.next())?),
                 "--patterns" => patterns = Some(words.next().ok_or("--patterns wants a file")?),
                 "--pairs" => pairs = Some(words.next().ok_or("--pairs wants a file")?),
+                "--shares" => shares = true,
                 option if option.starts_with('-') => return Err(format!("no option {option}")),
                 _ if file.is_some() => {
                     return Err(format!("one file is enough: {word} is too much"))
@@ -43,11 +48,17 @@ impl Options {
             }
         }
         let file = file.ok_or("no file of rounds")?;
+        if shares && (jobs.is_some() || patterns.is_some()) {
+            return Err(String::from(
+                "--shares goes with neither --jobs nor --patterns",
+            ));
+        }
         Ok(Self::Polish {
             file,
-            jobs,
+            jobs: jobs.unwrap_or(1),
             patterns,
             pairs,
+            shares,
         })
     }
 }
@@ -74,7 +85,22 @@ mod tests {
             jobs,
             patterns: None,
             pairs: None,
+            shares: false,
         })
+    }
+
+    #[test]
+    fn shares_go_alone() {
+        let shares = |words| match parsed(words) {
+            Ok(Options::Polish { shares, .. }) => Ok(shares),
+            Ok(Options::Help) => panic!("help"),
+            Err(fault) => Err(fault),
+        };
+        assert_eq!(shares("--shares a.txt"), Ok(true));
+        assert_eq!(shares("a.txt --pairs c.txt"), Ok(false));
+        let fault = String::from("--shares goes with neither --jobs nor --patterns");
+        assert_eq!(shares("--jobs 2 a.txt --shares"), Err(fault.clone()));
+        assert_eq!(shares("--shares --patterns b.txt a.txt"), Err(fault));
     }
 
     #[test]

@@ -1,6 +1,6 @@
 //! The files of rounds and of pairs. Their form is judged here, the lengths of rows too; their numbers are judged by the library.
 
-use mittenschist::{Harbours, Pair, PatternList};
+use mittenschist::{Harbours, Pair, PatternList, Tables};
 use std::str::{FromStr, Lines};
 
 pub struct Question {
@@ -102,6 +102,15 @@ impl Question {
             patterns: None,
             pairs: Vec::new(),
         })
+    }
+
+    pub fn tables(&self) -> Tables<'_> {
+        Tables {
+            locations: self.locations,
+            legs: &self.legs,
+            latest: &self.latest,
+            service: &self.service,
+        }
     }
 
     /// When the last of these stops is reached, by the legs up to it and the service at the stops before it. For stops that the library

@@ -479,7 +479,32 @@ fn lists_and_rounds_of_nothing_with_no_pairs() {
                 null_mut(),
                 0,
             ),
+            mittenschist_run_in_shares(
+                2,
+                1,
+                1,
+                legs,
+                1,
+                latest,
+                1,
+                service,
+                1,
+                null_mut(),
+                0,
+                null(),
+                0,
+                null(),
+                0,
+                null(),
+                0,
+                null(),
+                0,
+                null(),
+                0,
+                null_mut(),
+                0,
+            ),
         ]
     };
-    assert_eq!(returned, [26, 0]);
+    assert_eq!(returned, [26, 0, 0]);
 }

@@ -90,6 +90,8 @@ struct Case<'c> {
     /// Members of pairs, end to end, where there is a list of them; there are ends then.
     pairs: Option<&'c [u32]>,
     room: usize,
+    /// Whether the rounds share the allowance; there are pairs then.
+    shares: bool,
 }
 
 impl Case<'_> {
@@ -130,6 +132,10 @@ impl Case<'_> {
             let (depots, ends, pairs) = (depots.slice(), ends.slice(), pairs.slice());
             let result = result.slice();
             match (&self.rounds.ends, self.pairs) {
+                (_, Some(_)) if self.shares => raw::run_in_shares(
+                    k, allowance, locations, legs, latest, service, stops, lengths, depots, ends,
+                    pins, pairs, result,
+                ),
                 (_, Some(_)) => raw::run_list_k_opt_with_pairs(
                     k, allowance, locations, legs, latest, service, stops, lengths, depots, ends,
                     pins, pairs, result,
@@ -167,8 +173,13 @@ impl Case<'_> {
         let examined: u64 = result.chunks(4).map(|round| round[1]).sum();
         assert!(examined <= self.allowance);
         for round in result.chunks(4) {
-            let applied = if round[0] == 4 { round[2] } else { 0 };
+            let applied = match round[0] {
+                4 => round[2],
+                5 if self.shares => round[2],
+                _ => 0,
+            };
             assert!(round[0] < 6 && round[3] == applied);
+            assert!(round[0] > 0 || !self.shares);
         }
     }
 
@@ -188,6 +199,9 @@ impl Case<'_> {
         let (k, allowance, tables) = (self.k, self.allowance, self.tables.lent());
         let answer = match self.pairs.map(pools::in_pairs) {
             None => mittenschist::run_list_k_opt(k, allowance, &tables, rounds),
+            Some(pairs) if self.shares => {
+                mittenschist::run_in_shares(k, allowance, &tables, rounds, &pairs)
+            }
             Some(pairs) => {
                 mittenschist::run_list_k_opt_with_pairs(k, allowance, &tables, rounds, &pairs)
             }
@@ -229,16 +243,22 @@ fn every_room(k: usize, tables: &Tables, rounds: &Rounds, pairs: Option<&[u32]>)
     let places = 4 * rounds.lengths.len();
     for room in [0, places.saturating_sub(1), places, places + 3] {
         for allowance in [0, 1, 90] {
-            let case = Case {
-                k,
-                allowance,
-                tables,
-                rounds,
-                pairs,
-                room,
-            };
-            case.check();
-            case.check_safe();
+            for shares in [false, true]
+                .into_iter()
+                .take(1 + usize::from(pairs.is_some()))
+            {
+                let case = Case {
+                    k,
+                    allowance,
+                    tables,
+                    rounds,
+                    pairs,
+                    room,
+                    shares,
+                };
+                case.check();
+                case.check_safe();
+            }
         }
     }
 }

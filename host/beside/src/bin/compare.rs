@@ -8,8 +8,8 @@ use beside::random::Random;
 use beside::trial::{judge, Drawn, Family, Reply, Source, Trial};
 use beside::watch::Watch;
 use beside::{
-    checks, ends, every, first_move, lists, moves, nearby, pairs, parts, polish, precedence, run,
-    text,
+    checks, ends, every, first_move, in_shares, lists, moves, nearby, pairs, parts, polish,
+    precedence, run, text,
 };
 use std::collections::BTreeMap;
 use std::env;
@@ -141,6 +141,7 @@ fn families() -> Vec<Family> {
     all.extend(lists::FAMILIES);
     all.extend(every::FAMILIES);
     all.extend(precedence::FAMILIES);
+    all.extend(in_shares::FAMILIES);
     match text::program() {
         Ok(_) => all.extend(text::FAMILIES),
         Err(reason) => println!("the text program is not compared: {reason}"),

@@ -232,6 +232,7 @@ fn ran(seed: u16, last: usize) {
         ends: None,
         pins: vec![0, (seed / 4 % 2) as u8, 0],
         room: 13,
+        shares: false,
     };
     let reply = case.expected();
     let result = seen(&reply, 1, 12, case.room, RESULT);
@@ -254,6 +255,7 @@ fn running_to(seed: u16, ends: &[u32], pairs: Option<Vec<u32>>) -> run::Case {
         ends: Some(ends.to_vec()),
         pins: vec![0, 0],
         room: 9,
+        shares: false,
     }
 }
 

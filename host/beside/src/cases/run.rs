@@ -27,6 +27,8 @@ pub struct Case {
     pub pins: Vec<u8>,
     /// Length of the lent result.
     pub room: usize,
+    /// Whether the rounds share the allowance: another entry is called then, with ends and pairs.
+    pub shares: bool,
 }
 
 impl Case {
@@ -42,6 +44,7 @@ impl Case {
             ends: None,
             pins: vec![0; rounds.len()],
             room: rounds.len() * NUMBERS_A_ROUND,
+            shares: false,
         }
     }
 
@@ -102,6 +105,9 @@ impl Case {
 impl Display for Case {
     fn fmt(&self, out: &mut Formatter<'_>) -> Written {
         writeln!(out, "(lent result: {} places)", self.room)?;
+        if self.shares {
+            writeln!(out, "(in shares)")?;
+        }
         writeln!(out, "k={}\nallowance={}", self.k, self.allowance)?;
         write!(out, "{}", self.tables.told())?;
         writeln!(out, "stops={}", listed(&self.stops))?;

@@ -7,6 +7,7 @@ pub mod nearby;
 pub mod polish;
 pub mod run;
 pub mod seen;
+pub mod shares;
 
 /// kernel.rs takes the exact sum from here.
 mod distance_arithmetic {

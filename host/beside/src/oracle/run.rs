@@ -3,7 +3,7 @@
 
 use super::fleet::{stops, Access, Fleet, Quiet, Yard};
 use super::list_k_opt::run_list_k_opt;
-use super::polish::polish_with;
+use super::polish::{polish_with, Counts};
 use crate::cases::run::{
     Case, CHANGED, NOT_REACHED, NUMBERS_A_ROUND, PINNED, SHORT, SPENT, UNCHANGED,
 };
@@ -97,21 +97,32 @@ fn round_by_polishing(
     if round.len() < 4 {
         return passed_over(SHORT);
     }
-    let mut order = stops(round);
-    let (depot, end) = (case.depots[index], case.ends()[index]);
-    let counts = if depot == end {
-        polish_with(case.k, left, &case.tables, depot, &mut order)
-    } else {
-        let (tables, depot) = case.tables.with_both_ends(depot, end);
-        polish_with(case.k, left, &tables, depot, &mut order)
-    };
+    let (order, counts) = polished(case, index, left, round);
     let (examined, accepted) = (counts.examined, counts.accepted);
-    let order = order.into_iter().map(|stop| stop as u32).collect();
     match (counts.spent, accepted) {
         (true, _) => (round.to_vec(), [SPENT, examined, accepted, 0]),
         (false, 0) => (order, [UNCHANGED, examined, 0, 0]),
         (false, _) => (order, [CHANGED, examined, accepted, accepted]),
     }
+}
+
+/// A round after polishing with so many candidates, and what that counted.
+pub(super) fn polished(
+    case: &Case,
+    index: usize,
+    allowance: u64,
+    round: &[u32],
+) -> (Vec<u32>, Counts) {
+    let mut order = stops(round);
+    let (depot, end) = (case.depots[index], case.ends()[index]);
+    let counts = if depot == end {
+        polish_with(case.k, allowance, &case.tables, depot, &mut order)
+    } else {
+        let (tables, depot) = case.tables.with_both_ends(depot, end);
+        polish_with(case.k, allowance, &tables, depot, &mut order)
+    };
+    let order = order.into_iter().map(|stop| stop as u32).collect();
+    (order, counts)
 }
 
 /// The unchanged run; with two cuts by the pair loop.

@@ -1,6 +1,7 @@
 //! Calls that are refused: a good one, damaged in one or more ways.
 
 use super::generate::{random_paired, random_paired_list, random_paired_run};
+use crate::cases::run::Case;
 use crate::damage::pairs;
 use crate::ends::damage::damage_ended;
 use crate::ends::runs::damage_run;
@@ -35,6 +36,10 @@ pub fn draw_list(random: &mut Random, index: u64) -> Drawn {
 
 pub fn draw_run(random: &mut Random, index: u64) -> Drawn {
     let case = random_paired_run(random);
+    damaged_run(random, case, index)
+}
+
+pub fn damaged_run(random: &mut Random, case: Case, index: u64) -> Drawn {
     damaged(case, &NUMBERS, index, |case, number| match number {
         29 => pairs(random, &mut case.tables),
         _ => damage_run(random, case, number),

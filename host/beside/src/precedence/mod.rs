@@ -3,10 +3,10 @@
 //! patterns and short routes the scan written from the documents answers (`ends::plain`). A list of no pairs is held to the entry without pairs.
 
 mod bounds;
-mod damage;
+pub mod damage;
 mod deep;
 mod empty;
-mod generate;
+pub mod generate;
 pub mod lists;
 mod planted;
 mod short;

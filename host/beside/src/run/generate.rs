@@ -14,6 +14,10 @@ pub fn draw(random: &mut Random, _index: u64) -> Drawn {
 
 /// Longer rounds, of which many are finished for k = 2 and few for k = 5.
 pub fn draw_long(random: &mut Random, _index: u64) -> Drawn {
+    (Box::new(long_run(random)), None)
+}
+
+pub fn long_run(random: &mut Random) -> Case {
     let k = random.within(2, 5);
     let most = [120, 30, 20, 14][k - 2];
     let rounds = random.within(1, 4);
@@ -21,7 +25,7 @@ pub fn draw_long(random: &mut Random, _index: u64) -> Drawn {
     let locations = most + random.within(1, 40);
     let mut case = of_lengths(random, k, locations, &lengths);
     case.allowance = random.below(1 << 17);
-    (Box::new(case), None)
+    case
 }
 
 /// With an allowance near one that matters.

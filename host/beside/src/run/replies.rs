@@ -13,8 +13,14 @@ impl Trial for Case {
         if code != 0 {
             return Reply::new(code, [("stops", bits(&self.stops)), ("result", result)]);
         }
-        let ran = oracle::run::run(self, self.allowance);
-        if self.k > 2 && self.closed() && ran != oracle::run::run_by_polishing(self, self.allowance)
+        let ran = match self.shares {
+            true => oracle::shares::run_in_shares(self),
+            false => oracle::run::run(self, self.allowance),
+        };
+        if !self.shares
+            && self.k > 2
+            && self.closed()
+            && ran != oracle::run::run_by_polishing(self, self.allowance)
         {
             code = NO_ANSWER;
         }
@@ -42,6 +48,10 @@ impl Trial for Case {
             let (depots, ends, pairs) = (depots.slice(), ends.slice(), pairs.slice());
             let result = result.slice();
             match (&self.ends, &self.tables.pairs) {
+                _ if self.shares => ffi::run_in_shares(
+                    k, allowance, locations, legs, latest, service, stops, lengths, depots, ends,
+                    pins, pairs, result,
+                ),
                 (_, Some(_)) => ffi::run_list_k_opt_with_pairs(
                     k, allowance, locations, legs, latest, service, stops, lengths, depots, ends,
                     pins, pairs, result,

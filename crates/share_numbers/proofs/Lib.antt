@@ -1,0 +1,5 @@
+pub mod EachRound
+pub mod Running
+pub mod Sums
+pub mod Shared
+pub mod Runs
