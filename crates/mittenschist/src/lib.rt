@@ -1,4 +1,5 @@
-// The entries. Each takes whatever it is handed and hands it on to the crate below that judges it, refuses it or does the work.
+// The entries. Each takes whatever it is handed and hands it on to the crate below that judges it, refuses it or does the work. Those that a Rattle program calls are
+// the functions of that crate themselves; those that a host calls are C functions.
 ghost use mathlib.Core.List.{[], _∷_};
 ghost use Prim.Native.Nat.{_+_};
 ghost use Rattle.theory.specs.Route.{tour-length};
@@ -8,109 +9,27 @@ ghost use Rattle.theory.specs.Tables.{tables, fleet, legs-only};
 ghost use Rattle.theory.specs.Question.{question, question-with-pairs};
 ghost use Rattle.theory.specs.Refusals.{problem-rules};
 ghost use Rattle.entry_results.specs.Written.{Written};
-ghost use Rattle.listing_calls.specs.Listings.{NearbyReply, NearbyWritten, EveryReply, EveryWritten};
+ghost use Rattle.listing_calls.specs.Listings.{NearbyWritten, EveryWritten};
 ghost use Rattle.move_calls.specs.Entries.{DoMoveReply, UndoReply, doable-rules, doable-values};
 ghost use Rattle.moves.specs.Moves.{length-change, pattern-values};
 ghost use Rattle.pattern_list_loading.specs.Loading.{LoadReply};
 ghost use Rattle.pattern_list_polishing.specs.Polishing.{PolishWithPatternsReply, PolishWithPatternsAndPairsReply};
 ghost use Rattle.refusal_rules.specs.Rules.{route-length-rules, route-length-to-end-rules, pattern-rules, delta-rules, delta-to-end-rules};
-ghost use Rattle.measure_calls.specs.Measures.{RouteLengthReply, RouteLengthToEndReply, DeltaReply, DeltaToEndReply, FeasibleReply, late-values};
-ghost use Rattle.cut_calls.specs.Cuts.{ReconnectionReply, NextCutSetReply, NextCutSetWritten, ReconnectReply, FindMoveReply, FindMoveWritten};
+ghost use Rattle.measure_calls.specs.Measures.{late-values};
+ghost use Rattle.cut_calls.specs.Cuts.{NextCutSetWritten, ReconnectReply, FindMoveWritten};
 ghost use Rattle.polish_calls.specs.Polishing.{PolishReply, PolishToEndReply, PolishWithPairsReply, PairLoopReply};
 ghost use Rattle.run_calls.specs.Runs.{RunReply, RunToEndsReply, RunWithPairsReply, SharesReply};
-use first_move::SoughtMove;
-use theory::CutStep;
-use theory::Feasibility;
-use theory::LengthDelta;
-use theory::Listing;
-use theory::ReconnectionAt;
-use theory::RouteLength;
-
-// The pattern with an index. Refuses 1, 6.
-pub fn reconnection_at(k: usize, pattern: usize) -> ReconnectionAt
-    ensures { λ r. ⌜ ReconnectionReply k pattern r ⌝ }
-{
-    cut_calls::reconnection_at(k, pattern)
-}
-
-// Moves k cuts of a route of n stops on to the next set, or answers that there is none. Refuses 1, 5, 7.
-pub fn next_cut_set(k: usize, n: usize, cuts: &mut [usize]) -> CutStep
-    ensures { λ r. ⌜ NextCutSetReply k n (now (cuts .entry)) r (now (cuts .exit)) ⌝ }
-{
-    cut_calls::next_cut_set(k, n, cuts)
-}
-
-// The route after the pattern is applied at the cuts, into the first places of out. Refuses 1, 5, 6, 7, 21.
-pub fn reconnect(k: usize, pattern: usize, cuts: &[usize], route: &[u32], out: &mut [u32]) -> u32
-    ensures { λ r. ⌜ ReconnectReply k pattern (now (cuts .entry)) (now (route .entry)) (now (out .entry)) r (now (out .exit)) ⌝ }
-{
-    cut_calls::reconnect(k, pattern, cuts, route, out)
-}
-
-// The length of a route from the depot to an end harbour. Refuses 2 (of locations and legs), 3, 4, 24, 5.
-pub fn route_length_to_end(
-    locations: usize,
-    legs: &[u32],
-    depot: u32,
-    end: u32,
-    route: &[u32],
-) -> RouteLength
-    ensures { λ r. ⌜ RouteLengthToEndReply locations (now (legs .entry)) depot end (now (route .entry)) r ⌝ }
-{
-    measure_calls::route_length_to_end(locations, legs, depot, end, route)
-}
-
-// The length of a closed tour. Refuses 2 (of locations and legs), 3, 4, 5.
-pub fn route_length(locations: usize, legs: &[u32], depot: u32, route: &[u32]) -> RouteLength
-    ensures { λ r. ⌜ RouteLengthReply locations (now (legs .entry)) depot (now (route .entry)) r ⌝ }
-{
-    measure_calls::route_length(locations, legs, depot, route)
-}
-
-// The length after a move minus the length before, to an end harbour. Refuses 1, 2 (of locations and legs), 3, 4, 24, 5, 6, 7.
-pub fn delta_to_end(
-    k: usize,
-    pattern: usize,
-    cuts: &[usize],
-    locations: usize,
-    legs: &[u32],
-    depot: u32,
-    end: u32,
-    route: &[u32],
-) -> LengthDelta
-    ensures { λ r. ⌜ DeltaToEndReply k pattern (now (cuts .entry)) locations (now (legs .entry)) depot end (now (route .entry)) r ⌝ }
-{
-    measure_calls::delta_to_end(k, pattern, cuts, locations, legs, depot, end, route)
-}
-
-// The same of closed tours. Refuses 1, 2 (of locations and legs), 3 to 7.
-pub fn delta(
-    k: usize,
-    pattern: usize,
-    cuts: &[usize],
-    locations: usize,
-    legs: &[u32],
-    depot: u32,
-    route: &[u32],
-) -> LengthDelta
-    ensures { λ r. ⌜ DeltaReply k pattern (now (cuts .entry)) locations (now (legs .entry)) depot (now (route .entry)) r ⌝ }
-{
-    measure_calls::delta(k, pattern, cuts, locations, legs, depot, route)
-}
-
-// The deadline check. Refuses 2, 3, 23, 4, 5.
-pub fn route_feasible(
-    locations: usize,
-    legs: &[u32],
-    latest: &[u32],
-    service: &[u32],
-    depot: u32,
-    route: &[u32],
-) -> Feasibility
-    ensures { λ r. ⌜ FeasibleReply (tables locations (now (legs .entry)) (now (latest .entry)) (now (service .entry))) depot (now (route .entry)) r ⌝ }
-{
-    measure_calls::route_feasible(locations, legs, latest, service, depot, route)
-}
+pub use cut_calls::find_move;
+pub use cut_calls::next_cut_set;
+pub use cut_calls::reconnect;
+pub use cut_calls::reconnection_at;
+pub use listing_calls::every_nearby_cuts;
+pub use listing_calls::nearby_cuts;
+pub use measure_calls::delta;
+pub use measure_calls::delta_to_end;
+pub use measure_calls::route_feasible;
+pub use measure_calls::route_length;
+pub use measure_calls::route_length_to_end;
 
 // Polishes a route from the depot to an end harbour. Refuses 1, 2, 3, 23, 4, 24, 5, 21. The result receives 0 finished or 1 spent, examined, accepted, length
 // before, length after, and the lowest late position of the route handed back, or the number of its stops for none.
@@ -525,20 +444,6 @@ pub extern "C" fn mittenschist_run_in_shares(
     )
 }
 
-// Lists the nearby cut sets, k places each, until no whole set fits any more. Refuses 1, 5, 9, 21.
-pub fn nearby_cuts(
-    n: usize,
-    distances: &[f64],
-    k: usize,
-    min_segment_len: usize,
-    max_nearby: usize,
-    sets: &mut [usize],
-) -> Listing
-    ensures { λ r. ⌜ NearbyReply n (now (distances .entry)) k «min_segment_len» «max_nearby» (now (sets .entry)) r (now (sets .exit)) ⌝ }
-{
-    listing_calls::nearby_cuts(n, distances, k, min_segment_len, max_nearby, sets)
-}
-
 // The same; the result receives the number of sets written, then 0 ended or 1 more. Refuses 1, 5, 9, 21.
 #[no_mangle]
 pub extern "C" fn mittenschist_nearby_cuts(
@@ -553,20 +458,6 @@ pub extern "C" fn mittenschist_nearby_cuts(
     ensures { λ r. ⌜ NearbyWritten n (now (distances .entry)) k «min_segment_len» «max_nearby» (now (sets .entry)) (now (result .entry)) r (now (sets .exit)) (now (result .exit)) ⌝ }
 {
     listing_calls::write_nearby_cuts(n, distances, k, min_segment_len, max_nearby, sets, result)
-}
-
-// Lists every nearby cut set, k places each, until no whole set fits any more. Refuses 1, 5, 9, 21.
-pub fn every_nearby_cuts(
-    n: usize,
-    distances: &[f64],
-    k: usize,
-    min_segment_len: usize,
-    max_nearby: usize,
-    sets: &mut [usize],
-) -> Listing
-    ensures { λ r. ⌜ EveryReply n (now (distances .entry)) k «min_segment_len» «max_nearby» (now (sets .entry)) r (now (sets .exit)) ⌝ }
-{
-    listing_calls::every_nearby_cuts(n, distances, k, min_segment_len, max_nearby, sets)
 }
 
 // The same; the result receives the number of sets written, then 0 ended or 1 more. Refuses 1, 5, 9, 21.
@@ -591,13 +482,6 @@ pub extern "C" fn mittenschist_every_nearby_cuts(
         sets,
         result,
     )
-}
-
-// The first cuts and pattern in scan order that turn one route into another, or none. Refuses 1, 5, 25.
-pub fn find_move(k: usize, old: &[u32], wanted: &[u32]) -> SoughtMove
-    ensures { λ r. ⌜ FindMoveReply k (now (old .entry)) (now (wanted .entry)) r ⌝ }
-{
-    cut_calls::find_move(k, old, wanted)
 }
 
 // The same; the result receives 1, the index and the k cuts, or 0 in its first place. Refuses 1, 5, 25, 21.

@@ -1,3 +1,4 @@
 pub mod Replies
 pub mod Judging
 pub mod Runs
+pub mod NoPairs

@@ -157,8 +157,8 @@ fn polish_rows_with_pairs(
     )
 }
 
-// Polishes a route that keeps the pairs, with the rows of a list.
-pub fn polish_with_patterns_and_pairs(
+// With the words of the pairs, which are made and filled.
+fn polish_list_by_words(
     k: usize,
     orders: &[u8],
     masks: &[u8],
@@ -208,4 +208,55 @@ pub fn polish_with_patterns_and_pairs(
     );
     polish_numbers::put_polished(answer, result);
     0
+}
+
+// Polishes a route that keeps the pairs, with the rows of a list. With an empty list no word is made.
+pub fn polish_with_patterns_and_pairs(
+    k: usize,
+    orders: &[u8],
+    masks: &[u8],
+    allowance: u64,
+    locations: usize,
+    legs: &[u32],
+    latest: &[u32],
+    service: &[u32],
+    depot: u32,
+    end: u32,
+    pairs: &[u32],
+    route: &mut [u32],
+    result: &mut [u64],
+) -> u32
+    ensures { λ r. ⌜ PolishWithPatternsAndPairsReply (question-with-pairs k allowance locations (now (legs .entry)) (now (latest .entry)) (now (service .entry)) depot end (now (pairs .entry)) (now (route .entry))) (now (orders .entry)) (now (masks .entry)) (now (result .entry)) r (now (route .exit)) (now (result .exit)) ⌝ }
+{
+    if pairs.len() == 0 {
+        return polish_with_patterns(
+            k,
+            orders,
+            masks,
+            allowance,
+            locations,
+            legs,
+            latest,
+            service,
+            depot,
+            end,
+            route,
+            result,
+        );
+    }
+    polish_list_by_words(
+        k,
+        orders,
+        masks,
+        allowance,
+        locations,
+        legs,
+        latest,
+        service,
+        depot,
+        end,
+        pairs,
+        route,
+        result,
+    )
 }

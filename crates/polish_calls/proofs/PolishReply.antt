@@ -1,7 +1,8 @@
 -- The replies of the entries that polish with every pattern, and that of a list of all patterns, over plain values. Assumes nothing.
-use mathlib.Core.Path.{_≡_, refl}
-use mathlib.Core.List.{List, [], _++_}
+use mathlib.Core.Path.{_≡_, refl, sym}
+use mathlib.Core.List.{List, [], _∷_, _++_}
 use Prim.Native.Nat.{ℕ, suc, _*_, _≤_}
+use native.Mathlib.Omega.{arith}
 use lib.ListN.{length, drop}
 use Rattle.theory.specs.Moves.{patterns}
 use Rattle.theory.specs.Tables.{Tables, problem, pattern-rows}
@@ -84,6 +85,14 @@ unpaired-polish k A T depot end route result =
 pub unpaired-list : (q : Question) (orders masks result : List ℕ) → q .trip .pairs ≡ [] → {answer : ℕ} {route′ result′ : List ℕ} →
     PolishWithPatternsAndPairsReply q orders masks result answer route′ result′ → PolishWithPatternsReply q orders masks result answer route′ result′
 unpaired-list q orders masks result none = alike q result (list-unpaired q orders masks (length result) none) refl
+
+-- An empty list is answered by the call without pairs.
+pub none-polished : (k A : ℕ) (T : Tables) (depot end : ℕ) (pairs route result : List ℕ) → length pairs ≡ 0 → {answer : ℕ} {route′ result′ : List ℕ} →
+    PolishToEndReply (question k A (T .locations) (T .legs) (T .latest) (T .service) depot end route) result answer route′ result′ →
+    PolishWithPairsReply (question-with-pairs k A (T .locations) (T .legs) (T .latest) (T .service) depot end pairs route) result answer route′ result′
+none-polished k A T depot end [] route result none =
+    alike (question k A (T .locations) (T .legs) (T .latest) (T .service) depot end route) result (sym (polish-unpaired k A T depot end route (length result))) refl
+none-polished k A T depot end (a ∷ l) route result none = absurd (omega (arith, none))
 
 -- "A list of all patterns in index order gives the built-in replies."
 pub full-list : (q : Question) (orders masks result : List ℕ) → pattern-rows (q .k) orders masks ≡ patterns (q .k) → length orders ≡ length masks * suc (q .k) →

@@ -81,8 +81,8 @@ pub fn polish_closed_tour(
     )
 }
 
-// Polishes a route that keeps pairs of locations, the first before the second: their members end to end. Refuses 1, 2, 3, 23, 4, 24, 29, 5, 21.
-pub fn polish_route_with_pairs(
+// With the words of the pairs, which are made here and filled.
+fn polish_by_words(
     k: usize,
     allowance: u64,
     locations: usize,
@@ -126,6 +126,51 @@ pub fn polish_route_with_pairs(
     );
     polish_numbers::put_polished(answer, result);
     0
+}
+
+// Polishes a route that keeps pairs of locations, the first before the second: their members end to end. Refuses 1, 2, 3, 23, 4, 24, 29, 5, 21. With an empty list no word is made.
+pub fn polish_route_with_pairs(
+    k: usize,
+    allowance: u64,
+    locations: usize,
+    legs: &[u32],
+    latest: &[u32],
+    service: &[u32],
+    depot: u32,
+    end: u32,
+    pairs: &[u32],
+    route: &mut [u32],
+    result: &mut [u64],
+) -> u32
+    ensures { λ r. ⌜ PolishWithPairsReply (question-with-pairs k allowance locations (now (legs .entry)) (now (latest .entry)) (now (service .entry)) depot end (now (pairs .entry)) (now (route .entry))) (now (result .entry)) r (now (route .exit)) (now (result .exit)) ⌝ }
+{
+    if pairs.len() == 0 {
+        return polish_route_to_end(
+            k,
+            allowance,
+            locations,
+            legs,
+            latest,
+            service,
+            depot,
+            end,
+            route,
+            result,
+        );
+    }
+    polish_by_words(
+        k,
+        allowance,
+        locations,
+        legs,
+        latest,
+        service,
+        depot,
+        end,
+        pairs,
+        route,
+        result,
+    )
 }
 
 // The pair loop over a route. Refuses 2, 3, 23, 4, 5, 21. The result receives the six numbers of polishing; the length after may be above the length before.

@@ -1,9 +1,12 @@
 -- What a round keeps of its pairs, part by part. Assumes nothing.
 use mathlib.Core.Path.{_≡_, refl, sym, ap, _∙_}
-use mathlib.Core.Bool.{Bool, true, false, not, _&&_, _||_}
+use mathlib.Core.Bool.{Bool, true, false, cond, not, _&&_, _||_}
 use mathlib.Core.List.{List, [], _∷_, _++_, reverse, reverse-cons}
 use Prim.Native.Nat.{ℕ, zero, suc, _+_, _<_, _≤_}
-use lib.Dec.{eqb}
+use native.Mathlib.Omega.{arith}
+use lib.Dec.{eqb, ltb}
+use borrow.Author.Tests.{lt-ltb, le-ltb}
+use Rattle.theory.specs.Moves.{total}
 use Rattle.theory.specs.Pairs.{visited, pair-kept, all, pairs-kept, front-kept, back-kept}
 use Rattle.precedence.proofs.Words.{all-same, all-and}
 
@@ -65,6 +68,20 @@ kept-append p (x ∷ xs) ys =
     table true false false false true false v = refl
     table true false false false false l v = refl
     table false f a b k l v = refl
+
+-- ---- the same stops, in another order
+
+visited-total : (x : ℕ) (l : List ℕ) → visited x l ≡ ltb 0 (total (λ y. cond (eqb x y) 1 0) l)
+unfolding visited total
+visited-total x [] = sym (le-ltb 0 0 (omega arith))
+visited-total x (y ∷ l) = by (eqb x y) (visited-total x l)
+  where
+    by : (b : Bool) → visited x l ≡ ltb 0 (total (λ y. cond (eqb x y) 1 0) l) → (b || visited x l) ≡ ltb 0 (cond b 1 0 + total (λ y. cond (eqb x y) 1 0) l)
+    by true e = sym (lt-ltb 0 (1 + total (λ y. cond (eqb x y) 1 0) l) (omega arith))
+    by false e = let z : 0 + total (λ y. cond (eqb x y) 1 0) l ≡ total (λ y. cond (eqb x y) 1 0) l = omega arith in rw z e
+
+pub visited-same : (m m′ : List ℕ) → ((g : ℕ → ℕ) → total g m′ ≡ total g m) → (x : ℕ) → visited x m′ ≡ visited x m
+visited-same m m′ same x = visited-total x m′ ∙ ap (ltb 0) (same (λ y. cond (eqb x y) 1 0)) ∙ sym (visited-total x m)
 
 -- ---- a head, a middle and a tail; m stands, m′ is put in its place
 

@@ -73,14 +73,14 @@ pub fn fill_members(pairs: &[u32], members: &mut [u64; MEMBERS])
     }
 }
 
-fn firsts_at(members: &[u64], stop: u32) -> u64
+pub fn firsts_at(members: &[u64], stop: u32) -> u64
     requires { ⌜ MemberOf (now members) stop ⌝ }
     ensures { λ r. ⌜ r ≡ getD (now (members .entry)) stop 0 ⌝ }
 {
     members[stop as usize]
 }
 
-fn seconds_at(members: &[u64], stop: u32) -> u64
+pub fn seconds_at(members: &[u64], stop: u32) -> u64
     requires { ⌜ MemberOf (now members) stop ⌝ }
     ensures { λ r. ⌜ r ≡ getD (now (members .entry)) (1024 + stop) 0 ⌝ }
 {

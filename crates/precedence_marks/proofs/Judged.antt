@@ -22,20 +22,6 @@ use Rattle.precedence_marks.specs.Held.{in-order, SegmentsMarked}
 use Rattle.precedence_marks.proofs.Order.{row-kept}
 use Rattle.precedence_marks.proofs.Filling.{state-words}
 
--- ---- the same stops, in another order
-
-visited-total : (x : ℕ) (l : List ℕ) → visited x l ≡ ltb 0 (total (λ y. cond (eqb x y) 1 0) l)
-unfolding visited total
-visited-total x [] = sym (le-ltb 0 0 (omega arith))
-visited-total x (y ∷ l) = by (eqb x y) (visited-total x l)
-  where
-    by : (b : Bool) → visited x l ≡ ltb 0 (total (λ y. cond (eqb x y) 1 0) l) → (b || visited x l) ≡ ltb 0 (cond b 1 0 + total (λ y. cond (eqb x y) 1 0) l)
-    by true e = sym (lt-ltb 0 (1 + total (λ y. cond (eqb x y) 1 0) l) (omega arith))
-    by false e = let z : 0 + total (λ y. cond (eqb x y) 1 0) l ≡ total (λ y. cond (eqb x y) 1 0) l = omega arith in rw z e
-
-pub visited-same : (m m′ : List ℕ) → ((g : ℕ → ℕ) → total g m′ ≡ total g m) → (x : ℕ) → visited x m′ ≡ visited x m
-visited-same m m′ same x = visited-total x m′ ∙ ap (ltb 0) (same (λ y. cond (eqb x y) 1 0)) ∙ sym (visited-total x m)
-
 -- ---- a head, a middle and a tail; m stands, m′ is put in its place
 
 -- With the head no longer than the front reaches and the tail not before it may begin, the middle decides; else no middle keeps the pairs.

@@ -3,6 +3,7 @@ use mathlib.Core.Path.{_≡_, refl, sym, ap, _∙_}
 use mathlib.Core.Bool.{cond}
 use mathlib.Core.List.{List, [], _∷_, _++_}
 use Prim.Native.Nat.{ℕ, _*_}
+use native.Mathlib.Omega.{arith}
 use lib.Dec.{eqb}
 use lib.ListN.{length, drop}
 use Rattle.theory.specs.Tables.{Tables, Fleet, fleet}
@@ -90,3 +91,10 @@ pub unpaired-run : (k A : ℕ) (T : Tables) (F : Fleet) (result : List ℕ) {ans
     RunWithPairsReply k A T F [] result answer stops′ result′ → RunToEndsReply k A T F result answer stops′ result′
 unpaired-run k A T F result =
     run-alike {rules = run-with-pairs-rules k T F [] (length result)} {rules′ = run-to-ends-rules k T F (length result)} k A T F [] result (run-unpaired k T F (length result))
+
+-- An empty list is answered by the call without pairs.
+pub none-ran : (k A : ℕ) (T : Tables) (F : Fleet) (pairs result : List ℕ) → length pairs ≡ 0 → {answer : ℕ} {stops′ result′ : List ℕ} →
+    RunToEndsReply k A T F result answer stops′ result′ → RunWithPairsReply k A T F pairs result answer stops′ result′
+none-ran k A T F [] result none =
+    run-alike {rules = run-to-ends-rules k T F (length result)} {rules′ = run-with-pairs-rules k T F [] (length result)} k A T F [] result (sym (run-unpaired k T F (length result)))
+none-ran k A T F (a ∷ l) result none = absurd (omega (arith, none))

@@ -88,8 +88,8 @@ pub fn run_closed_tours(
     )
 }
 
-// The run with pairs, one list for all rounds. Refuses 1, 2, 3, 23, 4, 24, 29, 5, 21.
-pub fn run_with_pairs(
+// With the words of the pairs, which are made and filled.
+fn run_by_words(
     k: usize,
     allowance: u64,
     locations: usize,
@@ -140,6 +140,57 @@ pub fn run_with_pairs(
         result,
     );
     0
+}
+
+// The run with pairs, one list for all rounds. Refuses 1, 2, 3, 23, 4, 24, 29, 5, 21. With an empty list no word is made.
+pub fn run_with_pairs(
+    k: usize,
+    allowance: u64,
+    locations: usize,
+    legs: &[u32],
+    latest: &[u32],
+    service: &[u32],
+    stops: &mut [u32],
+    lengths: &[usize],
+    depots: &[u32],
+    ends: &[u32],
+    pins: &[u8],
+    pairs: &[u32],
+    result: &mut [u64],
+) -> u32
+    ensures { λ r. ⌜ RunWithPairsReply k allowance (tables locations (now (legs .entry)) (now (latest .entry)) (now (service .entry))) (fleet (now (stops .entry)) (now (lengths .entry)) (now (depots .entry)) (now (ends .entry)) (now (pins .entry))) (now (pairs .entry)) (now (result .entry)) r (now (stops .exit)) (now (result .exit)) ⌝ }
+{
+    if pairs.len() == 0 {
+        return run_to_ends(
+            k,
+            allowance,
+            locations,
+            legs,
+            latest,
+            service,
+            stops,
+            lengths,
+            depots,
+            ends,
+            pins,
+            result,
+        );
+    }
+    run_by_words(
+        k,
+        allowance,
+        locations,
+        legs,
+        latest,
+        service,
+        stops,
+        lengths,
+        depots,
+        ends,
+        pins,
+        pairs,
+        result,
+    )
 }
 
 // The rounds of a run with shares of the allowance. Refuses 1, 2, 3, 23, 4, 24, 29, 5, 21. The result receives the run's four numbers a round, never state 0.

@@ -13,13 +13,46 @@ use Rattle.scan_joints.specs.States.{row}
 use Rattle.scan_joints.specs.JointTable.{chain}
 use Rattle.deadline_dues.specs.Dues.{in-time, RowTimed}
 use Rattle.precedence_marks.specs.Held.{in-order, RowOrdered}
-use Rattle.scan_cut_set.specs.Gain.{due-gain, Chains, NextShorter, RowJudged, DueRows, FirstDue}
+use Rattle.scan_cut_set.specs.Gain.{due-gain, Chains, NextShorter, RowJudged, DueRows, FirstDue, OrderRows}
 
 -- The row's words are read as its dues are.
 pub row-ordered : {J rows S D H : List ℕ} {i m clock : ℕ} → RowJudged J rows S D H i m clock → RowOrdered rows H i m
 row-ordered w = let t = w .timed in record { places = t .places; word-places = w .word-places; within = t .within; few = t .few; known = t .known }
 
-module _ {J rows S D H : List ℕ} {m clock below shorter limit : ℕ} (given : DueRows J rows S D H m clock below shorter limit) where
+-- A test more between two that never pass together.
+pub between : (a b c : Bool) → (a && c) ≡ false → ((a && b) && c) ≡ false
+between true true c e = e
+between true false c e = refl
+between false b c e = refl
+
+-- ---- the loop over the rows that keep their pairs
+
+module _ {J rows H : List ℕ} {m below shorter limit : ℕ} (given : OrderRows J rows H m below shorter limit) where
+  abbrev ordered-gain : ℕ → Bool
+  ordered-gain x = in-order H 0 (slice (4 * x) (4 * x + m) rows) && ltb (chain J 9 (row rows x)) below
+
+  pub order-chains : (from : ℕ) → from ≤ limit → Chains J rows from limit
+  order-chains from h = let c = given .chains in record { padded = c .padded; places = c .places; few = c .few; within = h; known = c .known }
+
+  pub order-row : (i : ℕ) → i < limit → RowOrdered rows H i m
+  order-row i h = record { places = given .chains .places; word-places = given .word-places; within = omega (arith, given .chains .few); few = given .most; known = given .states i h }
+
+  pub order-passed : (from : ℕ) {i : ℕ} → ((x : ℕ) → x < from → ordered-gain x ≡ false) → NextShorter J rows below from limit i → (x : ℕ) → x < i → ordered-gain x ≡ false
+  order-passed from before next x h = by (decLt x from)
+    where
+      by : Dec (x < from) → ordered-gain x ≡ false
+      by (yes l) = before x l
+      by (no n) = ap (λ b. in-order H 0 (slice (4 * x) (4 * x + m) rows) && b) (le-ltb (chain J 9 (row rows x)) below (next .passed x (omega arith) h)) ∙ and-false (in-order H 0 (slice (4 * x) (4 * x + m) rows))
+
+  pub order-first : (x : ℕ) → x < shorter → ordered-gain x ≡ false
+  order-first = order-passed 0 (λ x h. absurd (omega arith)) (given .first)
+
+  pub order-broken : (i : ℕ) → in-order H 0 (slice (4 * i) (4 * i + m) rows) ≡ false → ((x : ℕ) → x < i → ordered-gain x ≡ false) → (x : ℕ) → x < i + 1 → ordered-gain x ≡ false
+  order-broken i e before = below-more (λ x. ordered-gain x ≡ false) i before (ap (λ b. b && ltb (chain J 9 (row rows i)) below) e)
+
+-- ---- the loop over those of them that are left in time
+
+module _ {J rows S D H : List ℕ} {m clock below start limit : ℕ} (given : DueRows J rows S D H m clock below start limit) where
   abbrev kept : ℕ → Bool
   kept x = in-order H 0 (slice (4 * x) (4 * x + m) rows) && in-time J S D 9 clock (slice (4 * x) (4 * x + m) rows)
 
@@ -54,8 +87,8 @@ module _ {J rows S D H : List ℕ} {m clock below shorter limit : ℕ} (given : 
       by (yes l) = before x l
       by (no n) = ap (λ b. kept x && b) (le-ltb (chain J 9 (row rows x)) below (next .passed x (omega arith) h)) ∙ and-false (kept x)
 
-  pub due-first : (x : ℕ) → x < shorter → gain x ≡ false
-  due-first = due-passed 0 (λ x h. absurd (omega arith)) (given .first)
+  pub due-first : (x : ℕ) → x < start → gain x ≡ false
+  due-first x h = between (in-order H 0 (slice (4 * x) (4 * x + m) rows)) _ (ltb (chain J 9 (row rows x)) below) (given .first .passed x h)
 
   -- A shorter one that is late, or breaks a pair, is passed.
   pub due-broken : (i : ℕ) → kept i ≡ false → ((x : ℕ) → x < i → gain x ≡ false) → (x : ℕ) → x < i + 1 → gain x ≡ false

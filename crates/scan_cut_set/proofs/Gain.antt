@@ -32,7 +32,8 @@ use Rattle.deadline_dues.proofs.Judged.{candidate-judged}
 use Rattle.precedence.specs.Words.{BackSince}
 use Rattle.precedence_marks.specs.Held.{in-order, SegmentsMarked, MarksReach, MarksTellable}
 use Rattle.scan_cut_set.proofs.Kept.{candidate-kept, row-in-order, no-tail}
-use Rattle.scan_cut_set.specs.Gain.{below, due-gain, Searchable, Findable, Chains, NextShorter, Tabled, FirstGain, DueRows, FirstDue}
+use Rattle.scan_cut_set.specs.Gain.{below, due-gain, Searchable, Findable, Chains, NextShorter, Tabled, FirstGain, OrderRows, FirstOrdered, DueRows, FirstDue}
+use Rattle.scan_cut_set.proofs.FirstDue.{between}
 
 -- Below the threshold: so much shorter that the tail is on time.
 enough : (cost standing late : ℕ) → cost < standing → leb late (standing - cost) ≡ ltb cost (below standing late)
@@ -141,6 +142,21 @@ module _ {T : Trip} {r cs rows J : List ℕ} {ps : List Pattern} {limit : ℕ}
           gains = λ m. absurd (omega arith);
         }
 
+    -- With the words of the states alone: where no pattern costs so little and keeps its pairs, none improves.
+    pub none-ordered : (H : List ℕ) → SegmentsMarked (P .pairs) cs r (length cs - 1) H → (i b : ℕ) → i ≡ limit → b ≡ below standing late → FirstOrdered J rows H (length cs - 1) b limit i → FirstGain P ps (length cs) r cs limit limit
+    none-ordered H words i b e is first =
+        record {
+          within = omega arith;
+          passed = λ x h.
+              let k : x < length ps = omega (arith, given .allowed) in
+              gain-is x k
+              ∙ between (middle-kept x) (middle-on-time x) (short x) (
+              ap (λ t. t && short x) (sym (row-in-order (P .pairs) cs r (given .cut-set) H words (pattern x .order) rows (pattern x .mask) x (given .patterned .for-k x k) (given .patterned .each x k)))
+              ∙ ap (λ n. in-order H 0 (slice (4 * x) (4 * x + (length cs - 1)) rows) && ltb (cost x) n) (sym is)
+              ∙ first .passed x (omega (arith, e)));
+          gains = λ m. absurd (omega arith);
+        }
+
     -- With the dues and the words of the states.
     module _ (S D H : List ℕ) (stays : StaysOf (T .tables .service) cs r S) (dues : DuesOf C cs r D) (words : SegmentsMarked (P .pairs) cs r (length cs - 1) H) where
       gain-due : (i : ℕ) → i < limit → gain i ≡ due-gain J rows S D H (length cs - 1) now (below standing late) i
@@ -162,9 +178,18 @@ module _ {T : Trip} {r cs rows J : List ℕ} {ps : List Pattern} {limit : ℕ}
             gains = λ h. gain-due i h ∙ d .gains h;
           }
 
-  -- The rows can be judged by them.
-  pub due-rows : (S D H : List ℕ) → StaysOf (T .tables .service) cs r S → length D ≡ 9 → length H ≡ 17 → (b shorter : ℕ) → now ≤ 2 ^ 40 → NextShorter J rows b 0 limit shorter → DueRows J rows S D H (length cs - 1) now b shorter limit
-  due-rows S D H stays places word-places b shorter e next =
+  states-known : (i : ℕ) → i < limit → (c : ℕ) → 4 * i ≤ c → c < 4 * i + (length cs - 1) → getD rows c 0 < 8
+  states-known i h c l m =
+      let k : i < length ps = omega (arith, given .allowed) in
+      row-known (length cs) (pattern i .order) rows (pattern i .mask) i (given .cut-set .least) (given .cut-set .most) (given .patterned .for-k i k) (given .patterned .each i k) c l m
+
+  -- The rows can be judged by the words, and by all.
+  pub order-rows : (H : List ℕ) → length H ≡ 17 → (b shorter : ℕ) → NextShorter J rows b 0 limit shorter → OrderRows J rows H (length cs - 1) b shorter limit
+  order-rows H word-places b shorter next =
+      record { chains = chains 0 (omega arith); most = omega (arith, given .cut-set .most); word-places = word-places; states = states-known; first = next }
+
+  pub due-rows : (S D H : List ℕ) → StaysOf (T .tables .service) cs r S → length D ≡ 9 → length H ≡ 17 → (b start : ℕ) → now ≤ 2 ^ 40 → FirstOrdered J rows H (length cs - 1) b limit start → DueRows J rows S D H (length cs - 1) now b start limit
+  due-rows S D H stays places word-places b start e next =
       record {
         chains = chains 0 (omega arith);
         most = omega (arith, given .cut-set .most);
@@ -172,9 +197,7 @@ module _ {T : Trip} {r cs rows J : List ℕ} {ps : List Pattern} {limit : ℕ}
         stay-places = stays .places;
         word-places = word-places;
         brief = stays .brief;
-        states = λ i h c l m.
-            let k : i < length ps = omega (arith, given .allowed) in
-            row-known (length cs) (pattern i .order) rows (pattern i .mask) i (given .cut-set .least) (given .cut-set .most) (given .patterned .for-k i k) (given .patterned .each i k) c l m;
+        states = states-known;
         early = e;
         first = next;
       }

@@ -19,9 +19,9 @@ use Rattle.deadline_dues.specs.Parts.{head, middle, tail}
 use Rattle.deadline_dues.proofs.InTime.{row-states}
 use Rattle.deadline_dues.proofs.Judged.{candidate-parts, stays, as-parts, tail-begins, middle-total}
 use Rattle.precedence.specs.Words.{BackSince}
-use Rattle.precedence.proofs.Kept.{rejoined-kept}
+use Rattle.precedence.proofs.Kept.{visited-same, rejoined-kept}
 use Rattle.precedence_marks.specs.Held.{in-order, SegmentsMarked}
-use Rattle.precedence_marks.proofs.Judged.{visited-same, states-judged}
+use Rattle.precedence_marks.proofs.Judged.{states-judged}
 use Rattle.scan_cut_set.specs.Gain.{FirstGain}
 
 module _ (ps : List (ℕ × ℕ)) (cs r : List ℕ) (cut-set : CutSet (length cs) (length r) cs) where

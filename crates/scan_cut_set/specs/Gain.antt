@@ -113,8 +113,22 @@ pub record RowJudged (table rows stays dues words : List ℕ) (i m clock : ℕ) 
   pub timed : RowTimed table rows stays dues i m clock
   pub word-places : length words ≡ 17
 
--- Rows of states, the joint table, the service, the dues and the words of the states, when the head is left, and the first row that costs less.
-pub record DueRows (table rows stays dues words : List ℕ) (m clock below shorter limit : ℕ) : Type 0 where
+-- Rows of states, the joint table and the words of the states, and the first row that costs less.
+pub record OrderRows (table rows words : List ℕ) (m below shorter limit : ℕ) : Type 0 where
+  pub chains : Chains table rows 0 limit
+  pub most : m ≤ 4
+  pub word-places : length words ≡ 17
+  pub states : (i : ℕ) → i < limit → (c : ℕ) → 4 * i ≤ c → c < 4 * i + m → getD rows c 0 < 8
+  pub first : NextShorter table rows below 0 limit shorter
+
+-- No row before this one costs less and keeps every pair; and this one costs less, unless it is `limit`.
+pub record FirstOrdered (table rows words : List ℕ) (m below limit i : ℕ) : Type 0 where
+  pub within : i ≤ limit
+  pub passed : (x : ℕ) → x < i → (in-order words 0 (slice (4 * x) (4 * x + m) rows) && ltb (chain table 9 (row rows x)) below) ≡ false
+  pub shorter : i < limit → chain table 9 (row rows i) < below
+
+-- Rows of states, the joint table, the service, the dues and the words of the states, when the head is left, and a row before which none costs less and keeps every pair.
+pub record DueRows (table rows stays dues words : List ℕ) (m clock below start limit : ℕ) : Type 0 where
   pub chains : Chains table rows 0 limit
   pub most : m ≤ 4
   pub due-places : length dues ≡ 9
@@ -123,7 +137,7 @@ pub record DueRows (table rows stays dues words : List ℕ) (m clock below short
   pub brief : (s : ℕ) → getD stays s 0 ≤ 512 * 1000000
   pub states : (i : ℕ) → i < limit → (c : ℕ) → 4 * i ≤ c → c < 4 * i + m → getD rows c 0 < 8
   pub early : clock ≤ 2 ^ 40
-  pub first : NextShorter table rows below 0 limit shorter
+  pub first : FirstOrdered table rows words m below limit start
 
 -- The first such row, or `limit` where none is.
 pub record FirstDue (table rows stays dues words : List ℕ) (m clock below limit i : ℕ) : Type 0 where

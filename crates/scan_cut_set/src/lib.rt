@@ -15,7 +15,7 @@ ghost use lib.Seq.{slice};
 ghost use Rattle.theory.specs.Tables.{trip};
 ghost use Rattle.deadline_dues.specs.Dues.{in-time};
 ghost use Rattle.precedence_marks.specs.Held.{in-order};
-ghost use Rattle.scan_cut_set.specs.Gain.{below, LateBehind, Findable, Found, Chains, NextShorter, RowJudged, DueRows, FirstDue};
+ghost use Rattle.scan_cut_set.specs.Gain.{below, LateBehind, Findable, Found, Chains, NextShorter, RowJudged, DueRows, FirstDue, OrderRows, FirstOrdered};
 
 // The first pattern from `from` on that costs less than `standing`, or `limit`.
 fn next_shorter(
@@ -59,7 +59,7 @@ fn row_kept(
     false
 }
 
-// The first row from `shorter` on that costs less than `below`, is left in time and keeps every pair, or `limit`.
+// The first row from `start` on that costs less than `below`, is left in time and keeps every pair, or `limit`.
 fn first_due(
     joint: &[u64; CELLS],
     rows: &[u8; ROW_BYTES],
@@ -69,15 +69,42 @@ fn first_due(
     m: usize,
     clock: u64,
     below: u64,
+    start: usize,
+    limit: usize,
+) -> usize
+    requires { ⌜ DueRows (now joint) (now rows) (now stays) (now dues) (now held) m clock below start limit ⌝ }
+    ensures { λ r. ⌜ FirstDue (now (joint .entry)) (now (rows .entry)) (now (stays .entry)) (now (dues .entry)) (now (held .entry)) m clock below limit r ⌝ }
+{
+    let mut i = start;
+    while i < limit {
+        if row_kept(joint, rows, stays, dues, held, i, m, clock) {
+            return i;
+        }
+        i = next_shorter(joint, rows, below, i + 1, limit);
+    }
+    i
+}
+
+// The first row from `shorter` on that costs less than `below` and keeps every pair, or `limit`; where there are no pairs, `shorter` itself.
+fn first_ordered(
+    joint: &[u64; CELLS],
+    rows: &[u8; ROW_BYTES],
+    held: &[u64; MARK_PLACES],
+    paired: bool,
+    m: usize,
+    below: u64,
     shorter: usize,
     limit: usize,
 ) -> usize
-    requires { ⌜ DueRows (now joint) (now rows) (now stays) (now dues) (now held) m clock below shorter limit ⌝ }
-    ensures { λ r. ⌜ FirstDue (now (joint .entry)) (now (rows .entry)) (now (stays .entry)) (now (dues .entry)) (now (held .entry)) m clock below limit r ⌝ }
+    requires { ⌜ OrderRows (now joint) (now rows) (now held) m below shorter limit ⌝ }
+    ensures { λ r. ⌜ FirstOrdered (now (joint .entry)) (now (rows .entry)) (now (held .entry)) m below limit r ⌝ }
 {
+    if !paired {
+        return shorter;
+    }
     let mut i = shorter;
     while i < limit {
-        if row_kept(joint, rows, stays, dues, held, i, m, clock) {
+        if precedence_marks::row_in_order(rows, held, i, m) {
             return i;
         }
         i = next_shorter(joint, rows, below, i + 1, limit);
@@ -108,8 +135,8 @@ fn late_behind(lateness: &[u64; CUT_PLACES], cuts: &[usize]) -> u64
     lateness[c]
 }
 
-// The first of the first `limit` patterns on the cut set that improves the route, or `limit`. Deadlines are looked at only where a pattern gains enough, pairs where
-// it is in time as well; before `since` no tail keeps its pairs.
+// The first of the first `limit` patterns on the cut set that improves the route, or `limit`. Pairs are looked at only where a pattern gains enough, deadlines where
+// it keeps them as well; before `since` no tail keeps its pairs.
 pub fn first_gain(
     locations: usize,
     legs: &[u32],
@@ -155,6 +182,21 @@ pub fn first_gain(
     if shorter == limit {
         return limit;
     }
+    precedence_marks::mark_states(members, route, cuts, held);
+    let m = cuts.len() - 1;
+    let ordered = first_ordered(
+        joint,
+        rows,
+        held,
+        members.len() != 0,
+        m,
+        below,
+        shorter,
+        limit,
+    );
+    if ordered == limit {
+        return limit;
+    }
     let mut stays = [0u64; DUE_PLACES];
     time_states(
         locations,
@@ -168,9 +210,7 @@ pub fn first_gain(
         dues,
         &mut stays,
     );
-    precedence_marks::mark_states(members, route, cuts, held);
     let clock = deadline_dues::head_clock(locations, legs, depot, route, forward, stayed, cuts);
-    let m = cuts.len() - 1;
     first_due(
         joint,
         rows,
@@ -180,7 +220,7 @@ pub fn first_gain(
         m,
         clock,
         below,
-        shorter,
+        ordered,
         limit,
     )
 }

@@ -31,7 +31,7 @@ use Rattle.scan_shared.specs.Prepared.{Opened}
 use Rattle.scan_stretch.specs.declared.Stretch.{Stretch}
 use Rattle.precedence.specs.Words.{PairsLent, BackSince}
 use Rattle.precedence_marks.proofs.Judged.{kept-reach, kept-since}
-use Rattle.scan_stretch.specs.Stretch.{LongestKept, Stretchable, Ended, Stretched}
+use Rattle.scan_stretch.specs.Stretch.{HeadsKept, Stretchable, Ended, Stretched}
 use Rattle.candidates.specs.Candidate.{candidate, Candidate}
 use Rattle.scan_taking.specs.declared.Limits.{Limits}
 use Rattle.scan_taking.specs.Measure.{Measured, Cleared}
@@ -64,7 +64,7 @@ pub record Known (T : Trip) (r forward-sums backward-sums stayed : List ℕ) (li
   pub forwards : Sums r (forward (leg (T .tables .locations) (T .tables .legs)) r) forward-sums
   pub backwards : Sums r (backward (leg (T .tables .locations) (T .tables .legs)) r) backward-sums
   pub stays : Stays (T .tables .service) r stayed
-  pub head : LongestKept T r (limits .longest)
+  pub head : HeadsKept T r (limits .heads)
   pub latenesses : Latenesses (clock-by (T .tables)) (T .depot) r late
   pub back : BackSince (pairs-of (T .pairs)) r (limits .since)
 
@@ -75,7 +75,7 @@ known {T} lent m =
       forwards = m .forwards;
       backwards = m .backwards;
       stays = m .stays;
-      head = record { punctual = m .punctual; timed = m .head; reach = m .told .reach; front = m .told .front .is (pairs-of (T .pairs)) lent; lesser = m .told .lesser };
+      head = record { punctual = m .punctual; timed = m .head; reach = m .told .reach; front = m .told .front .is (pairs-of (T .pairs)) lent; left = m .told .heads .is (pairs-of (T .pairs)) lent };
       latenesses = m .latenesses;
       back = m .told .back .is (pairs-of (T .pairs)) lent;
     }
@@ -172,7 +172,7 @@ module _ (k : ℕ) (T : Trip) (orders masks rows members route₀ : List ℕ) (A
     -- ---- before a stretch
 
     pub stretchable : {forwards backwards stayed table late : List ℕ} {limits : Limits} → Known T r forwards backwards stayed limits late → Padded table → Opened cuts →
-        Stretchable T members rows (length masks) r forwards backwards stayed (limits .longest) late (limits .since) cuts table
+        Stretchable T members rows (length masks) r forwards backwards stayed (limits .heads) late (limits .since) cuts table
     stretchable m p o =
         record {
           searchable = record {
@@ -273,7 +273,7 @@ module _ (k : ℕ) (T : Trip) (orders masks rows members route₀ : List ℕ) (A
           -- It is measured by its sums, since no stop is late and no pair is broken.
           pub measured-anew : {forwards backwards stayed late late′ : List ℕ} → Latenesses (clock-by (T .tables)) (T .depot) r late → Cleared (length r) late late′ → length r′ ≡ length r →
               Sums r′ (forward (leg (T .tables .locations) (T .tables .legs)) r′) forwards → Sums r′ (backward (leg (T .tables .locations) (T .tables .legs)) r′) backwards →
-              Stays (T .tables .service) r′ stayed → Known T r′ forwards backwards stayed (record { longest = length r′; since = 0 }) late′
+              Stays (T .tables .service) r′ stayed → Known T r′ forwards backwards stayed (record { heads = length r′ + 1; since = 0 }) late′
           measured-anew {late = late} old cleared long f b s =
               let C = clock-by (T .tables) in
               let kept = sym (timely-on-time (timetable-by (T .tables)) (T .depot) r′) ∙ then-kept in
@@ -282,7 +282,7 @@ module _ (k : ℕ) (T : Trip) (orders masks rows members route₀ : List ℕ) (A
                 forwards = f;
                 backwards = b;
                 stays = s;
-                head = record { punctual = length r′; timed = kept-head C (T .depot) r′ kept; reach = length r′; front = kept-reach (pairs-of (T .pairs)) r′ then-paired; lesser = omega arith };
+                head = record { punctual = length r′; timed = kept-head C (T .depot) r′ kept; reach = length r′; front = kept-reach (pairs-of (T .pairs)) r′ then-paired; left = inl (omega arith) };
                 back = kept-since (pairs-of (T .pairs)) r′ then-paired;
                 latenesses = record { places = cleared .places; each = λ j l. none j (omega arith) ∙ sym (none-late C (T .depot) r′ j (kept-not-late C (T .depot) r′ kept)) };
               }

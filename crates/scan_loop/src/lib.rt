@@ -72,7 +72,7 @@ pub fn scan_cut_sets(
             &forward,
             &backward,
             &stayed,
-            limits.longest,
+            limits.heads,
             &lateness,
             limits.since,
             &mut cut[..k],
@@ -95,10 +95,8 @@ pub fn scan_cut_sets(
                 &mut stayed,
                 &mut lateness,
             );
-            limits = Limits {
-                longest: route.len(),
-                since: 0,
-            };
+            let heads = route.len() + 1;
+            limits = Limits { heads, since: 0 };
             cut = [0, 1, 2, 3, 4];
             examined += 1;
             accepted += 1;

@@ -1,23 +1,27 @@
--- Behind a head beyond the longest the whole stretch is passed over: none of its candidates keeps every deadline and every pair. Assumes nothing.
+-- Behind a head that no candidate may have the whole stretch is passed over: none of its candidates keeps every deadline and every pair. Assumes nothing.
 use mathlib.Core.Path.{_≡_, refl, sym, ap, _∙_}
 use mathlib.Core.Bool.{Bool, true, false, true≢false, _&&_, and-false}
+use mathlib.Core.Logic.{inl, inr}
 use mathlib.Core.List.{List, [], _∷_, _++_}
-use Prim.Native.Nat.{ℕ, _+_, _-_, _*_, _≤_, _<_}
+use Prim.Native.Nat.{ℕ, min, _+_, _-_, _*_, _≤_, _<_}
 use native.Mathlib.Omega.{arith}
 use native.Mathlib.Decide.{decLt}
 use lib.Dec.{ltb}
 use lib.ListN.{length, getD, set, take, drop, List·getD-append}
 use lib.Seq.{getD-take}
 use borrow.Author.Tests.{le-leb, lt-leb}
-use Rattle.theory.specs.Moves.{Pattern}
+use Rattle.theory.specs.Moves.{Pattern, total}
 use Rattle.theory.specs.Pairs.{pairs-of, pairs-kept, front-kept}
 use Rattle.theory.specs.Route.{reconnected, tour-length, timely}
 use Rattle.theory.specs.Polish.{move-at}
 use Rattle.theory.specs.Tables.{problem, timetable-by, clock-by, CutSet, ForK, Trip}
+use Rattle.theory.proofs.ForK.{for-k-order}
+use Rattle.theory.proofs.Route.{total-reconnected}
 use Rattle.deadlines.proofs.Lateness.{head-on-time}
 use Rattle.costs.specs.RouteCosts.{first-cuts, last-cut}
 use Rattle.costs.proofs.Segments.{cut-below}
 use Rattle.deadline_dues.proofs.Judged.{candidate-too-late}
+use Rattle.precedence_contradictions.specs.Contrary.{Heads}
 use Rattle.scan_cut_set.proofs.Kept.{candidate-kept}
 use Rattle.scan_stretch.specs.declared.Stretch.{Stretch}
 use Rattle.scan_stretch.specs.Stretch.{Listed, LastCutsScannable, Passable, Passed, Stretchable, Stretched, idle-end, improves-at}
@@ -33,8 +37,8 @@ pub passed-spent : (stops patterns : ℕ) (cuts : List ℕ) (left over : ℕ) �
     Passed stops patterns cuts left (idle-end left false) cuts
 passed-spent stops patterns cuts left over e h = record { no-gain = refl; over = λ b. absurd (true≢false (sym b)); spent = λ _. (refl, omega (arith, e)) }
 
-module _ {T : Trip} {members rows : List ℕ} {patterns : ℕ} {r forwards backwards stayed : List ℕ} {longest : ℕ} {late : List ℕ} {since : ℕ} {cuts table : List ℕ}
-    (given : Stretchable T members rows patterns r forwards backwards stayed longest late since cuts table) where
+module _ {T : Trip} {members rows : List ℕ} {patterns : ℕ} {r forwards backwards stayed : List ℕ} {heads : ℕ} {late : List ℕ} {since : ℕ} {cuts table : List ℕ}
+    (given : Stretchable T members rows patterns r forwards backwards stayed heads late since cuts table) where
   abbrev own : CutSet (length cuts) (length r) cuts
   own = given .searchable .cut-set
 
@@ -42,26 +46,31 @@ module _ {T : Trip} {members rows : List ℕ} {patterns : ℕ} {r forwards backw
   passable =
       record { not-empty = omega (arith, own .least); most = own .most; within = first-below r cuts own .1; short = own .short; few = omega (arith, given .listed .patterned .few, given .listed .many) }
 
-  pub scannable : getD cuts 0 0 ≤ longest → LastCutsScannable T members rows patterns r forwards backwards stayed late since cuts table
-  scannable h =
+  within-longest : Heads (pairs-of (T .pairs)) r (min (given .head .punctual) (given .head .reach)) heads → getD cuts 0 0 < heads → getD cuts 0 0 ≤ min (given .head .punctual) (given .head .reach)
+  within-longest (inl e) h = omega (arith, e, h)
+  within-longest (inr e) h = absurd (omega (arith, e .0, h))
+
+  pub scannable : getD cuts 0 0 < heads → LastCutsScannable T members rows patterns r forwards backwards stayed late since cuts table
+  scannable l =
+      let h = within-longest (given .head .left) l in
       record {
         hopeful = record {
           searchable = given .searchable;
           list = given .list;
           listed = given .listed;
           padded = given .padded;
-          early = head-on-time (clock-by (T .tables)) (T .depot) r (given .head .punctual) (given .head .timed) (getD cuts 0 0) (omega (arith, given .head .lesser));
+          early = head-on-time (clock-by (T .tables)) (T .depot) r (given .head .punctual) (given .head .timed) (getD cuts 0 0) (omega (arith, h));
           latenesses = given .latenesses;
           lent = given .lent;
-          front = given .head .front .is (getD cuts 0 0) (cut-below cuts r own 0 (omega (arith, own .least))) ∙ le-leb (getD cuts 0 0) (given .head .reach) (omega (arith, given .head .lesser));
+          front = given .head .front .is (getD cuts 0 0) (cut-below cuts r own 0 (omega (arith, own .least))) ∙ le-leb (getD cuts 0 0) (given .head .reach) (omega (arith, h));
           back = given .back;
         };
         first = given .first;
       }
 
-  module _ (l : longest < getD cuts 0 0) where
+  module _ (l : heads ≤ getD cuts 0 0) where
     none : (ps : List Pattern) → Listed (length cuts) patterns rows ps → (t x : ℕ) → last-cut cuts ≤ t → t ≤ length r → x < length ps → improves-at (problem T) ps r cuts t x ≡ false
-    none ps w t x h k i = by (decLt (given .head .punctual) (getD cuts 0 0))
+    none ps w t x h k i = by (given .head .left) (decLt (given .head .punctual) (getD cuts 0 0))
       where
         cs : List ℕ
         cs = first-cuts cuts ++ (t ∷ [])
@@ -100,9 +109,14 @@ module _ {T : Trip} {members rows : List ℕ} {patterns : ℕ} {r forwards backw
             given .head .front .is (getD cs 0 0) (cut-below cs r there 0 (omega (arith, there .least))) ∙ lt-leb (getD cs 0 0) (given .head .reach) (omega (arith, first)) in
             candidate-kept (pairs-of (T .pairs)) cs r there (given .back) p for-k ∙ rw f
 
-        by : Dec (given .head .punctual < getD cuts 0 0) → ((pairs && on-time) && shorter) ≡ false
-        by (yes n) = ap (λ b. (pairs && b) && shorter) (late-there n) ∙ ap (λ b. b && shorter) (and-false pairs)
-        by (no n) = ap (λ b. (b && on-time) && shorter) (broken-there (omega (arith, given .head .lesser)))
+        -- It has the stops of the route.
+        same : (g : ℕ → ℕ) → total g moved ≡ total g r
+        same g = total-reconnected g (length r) (record { cuts = cs; pattern = p }) r (there .rising) (for-k-order (length cs) (p .order) (p .mask) (omega (arith, there .least)) for-k .once)
+
+        by : Heads (pairs-of (T .pairs)) r (min (given .head .punctual) (given .head .reach)) heads → Dec (given .head .punctual < getD cuts 0 0) → ((pairs && on-time) && shorter) ≡ false
+        by (inr e) d = ap (λ b. (b && on-time) && shorter) (e .1 moved same)
+        by (inl e) (yes n) = ap (λ b. (pairs && b) && shorter) (late-there n) ∙ ap (λ b. b && shorter) (and-false pairs)
+        by (inl e) (no n) = ap (λ b. (b && on-time) && shorter) (broken-there (omega (arith, e)))
 
     pub passed-over : {left : ℕ} {answer : Stretch} {cuts′ : List ℕ} → Passed (length r) patterns cuts left answer cuts′ →
         Stretched (problem T) patterns rows r cuts left answer cuts′ table

@@ -17,6 +17,7 @@ use Rattle.costs.specs.RouteCosts.{first-cuts, last-cut}
 use Rattle.scan_shared.specs.Prepared.{Opened}
 use Rattle.scan_shared.specs.Filling.{PreparedNow}
 use Rattle.deadline_dues.specs.Dues.{DuesHeld}
+use Rattle.precedence_contradictions.specs.Contrary.{Heads}
 use Rattle.precedence.specs.Words.{PairsLent, FrontReach, BackSince}
 use Rattle.precedence_marks.specs.Held.{MarksKept}
 use Rattle.scan_cut_set.specs.Gain.{Searchable}
@@ -50,22 +51,22 @@ pub record LastCutsScannable (T : Trip) (members rows : List ℕ) (patterns : �
   pub hopeful : Hopeful T members rows patterns route forward-sums backward-sums stayed late since cuts table
   pub first : Opened cuts
 
--- The longest head with which a candidate may keep every deadline and every pair: the lesser of both.
-pub record LongestKept (T : Trip) (route : List ℕ) (longest : ℕ) : Type 0 where
+-- The heads with which a candidate may keep every deadline and every pair: up to the lesser of both, or none at all.
+pub record HeadsKept (T : Trip) (route : List ℕ) (heads : ℕ) : Type 0 where
   pub punctual : ℕ
   pub timed : LongestHead (clock-by (T .tables)) (T .depot) route punctual
   pub reach : ℕ
   pub front : FrontReach (pairs-of (T .pairs)) route reach
-  pub lesser : longest ≡ min punctual reach
+  pub left : Heads (pairs-of (T .pairs)) route (min punctual reach) heads
 
--- The same behind any head, with the longest that a candidate may have.
-pub record Stretchable (T : Trip) (members rows : List ℕ) (patterns : ℕ) (route forward-sums backward-sums stayed : List ℕ) (longest : ℕ) (late : List ℕ) (since : ℕ) (cuts table : List ℕ) : Type 0 where
+-- The same behind any head, with the heads that a candidate may have.
+pub record Stretchable (T : Trip) (members rows : List ℕ) (patterns : ℕ) (route forward-sums backward-sums stayed : List ℕ) (heads : ℕ) (late : List ℕ) (since : ℕ) (cuts table : List ℕ) : Type 0 where
   pub searchable : Searchable T route forward-sums backward-sums stayed cuts
   pub list : List Pattern
   pub listed : Listed (length cuts) patterns rows list
   pub padded : Padded table
   pub first : Opened cuts
-  pub head : LongestKept T route longest
+  pub head : HeadsKept T route heads
   pub latenesses : Latenesses (clock-by (T .tables)) (T .depot) route late
   pub lent : PairsLent (pairs-of (T .pairs)) members
   pub back : BackSince (pairs-of (T .pairs)) route since

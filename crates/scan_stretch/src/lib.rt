@@ -311,8 +311,8 @@ fn scan_last_cuts(
     }
 }
 
-// From the first cut set with its first cuts on, the first of the `left` candidates still allowed that improves the route. With a head beyond the longest, no
-// candidate keeps every deadline and every pair.
+// From the first cut set with its first cuts on, the first of the `left` candidates still allowed that improves the route. With a head that is none of the first `heads`,
+// no candidate keeps every deadline and every pair.
 pub fn scan_stretch(
     locations: usize,
     legs: &[u32],
@@ -328,17 +328,17 @@ pub fn scan_stretch(
     forward: &[u64; STOPS],
     backward: &[u64; STOPS],
     stayed: &[u64; CUT_PLACES],
-    longest: usize,
+    heads: usize,
     lateness: &[u64; CUT_PLACES],
     since: usize,
     cuts: &mut [usize],
     joint: &mut [u64; CELLS],
     left: u64,
 ) -> Stretch
-    requires { ⌜ Stretchable (trip locations (now legs) (now latest) (now service) depot end (now pairs)) (now members) (now rows) patterns (now route) (now forward) (now backward) (now stayed) longest (now lateness) since (now cuts) (now joint) ⌝ }
+    requires { ⌜ Stretchable (trip locations (now legs) (now latest) (now service) depot end (now pairs)) (now members) (now rows) patterns (now route) (now forward) (now backward) (now stayed) heads (now lateness) since (now cuts) (now joint) ⌝ }
     ensures { λ r. ⌜ Stretched (problem (trip locations (now (legs .entry)) (now (latest .entry)) (now (service .entry)) depot end (now (pairs .entry)))) patterns (now (rows .entry)) (now (route .entry)) (now (cuts .entry)) left r (now (cuts .exit)) (now (joint .exit)) ⌝ }
 {
-    if longest < cuts[0] {
+    if heads <= cuts[0] {
         return pass_stretch(route.len(), patterns, cuts, left);
     }
     scan_last_cuts(

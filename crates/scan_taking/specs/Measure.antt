@@ -11,14 +11,25 @@ use Rattle.costs.specs.RouteCosts.{leg, Sums}
 use Rattle.deadlines.specs.Stays.{Stays, StaysFillable}
 use Rattle.deadlines.specs.Lateness.{LongestHead, Latenesses}
 use Rattle.candidates.specs.Candidate.{candidate, Candidate}
-use Rattle.precedence_marks.specs.Held.{HeadLimit, TailSince}
+use Rattle.precedence.specs.Words.{PairsLent}
+use Rattle.precedence_contradictions.specs.Contrary.{Heads}
+use Rattle.precedence_marks.specs.Held.{RouteTellable, HeadLimit, TailSince}
 use Rattle.scan_taking.specs.declared.Limits.{Limits}
+
+-- A head, and a route with the words of its pairs or none.
+pub record HeadsAsked (longest : ℕ) (members route : List ℕ) : Type 0 where
+  pub tellable : RouteTellable members route
+  pub short : longest ≤ 512
+
+-- How many heads there are up to it; or none, where the pairs contradict each other.
+pub record HeadsTold (longest : ℕ) (members route : List ℕ) (heads : ℕ) : Type 0 where
+  pub is : (ps : List (ℕ × ℕ)) → PairsLent ps members → Heads ps route longest heads
 
 -- From the longest head that is on time: the lesser of it and the longest that keeps its pairs, and where the longest tail begins that does.
 pub record LimitsTold (members route : List ℕ) (punctual : ℕ) (limits : Limits) : Type 0 where
   pub reach : ℕ
   pub front : HeadLimit members route reach
-  pub lesser : limits .longest ≡ min punctual reach
+  pub heads : HeadsTold (min punctual reach) members route (limits .heads)
   pub back : TailSince members route (limits .since)
 
 -- A route, the words of its pairs or none, and places for its sums, its stays and its lateness.

@@ -7,11 +7,12 @@ ghost use Prim.Native.Nat.{min};
 ghost use Rattle.theory.specs.Tables.{tables};
 ghost use Rattle.deadlines.specs.Stays.{StaysFillable};
 ghost use Rattle.precedence_marks.specs.Held.{RouteTellable};
-ghost use Rattle.scan_taking.specs.Measure.{LimitsTold, MeasureAsked, Measured, Clearable, Cleared, StaysAnew, Takeable, Taken};
+ghost use Rattle.scan_taking.specs.Measure.{HeadsAsked, HeadsTold, LimitsTold, MeasureAsked, Measured, Clearable, Cleared, StaysAnew, Takeable, Taken};
 
-// What a route leaves to its candidates: the longest head that is on time and keeps its pairs, and where the longest tail begins that keeps its own.
+// What a route leaves to its candidates: how many of its heads are on time and keep their pairs, from the empty one on, and none where its pairs contradict each other;
+// and where the longest tail begins that keeps its own.
 pub struct Limits {
-    pub longest: usize,
+    pub heads: usize,
     pub since: usize,
 }
 
@@ -24,6 +25,23 @@ fn lesser(a: usize, b: usize) -> usize
     b
 }
 
+// From the longest head. A route that keeps its pairs is not asked whether any order does.
+fn heads_left(longest: usize, since: usize, members: &[u64], route: &[u32]) -> usize
+    requires { ⌜ HeadsAsked longest (now members) (now route) ⌝ }
+    ensures { λ r. ⌜ HeadsTold longest (now (members .entry)) (now (route .entry)) r ⌝ }
+{
+    if members.len() == 0 {
+        return longest + 1;
+    }
+    if since == 0 {
+        return longest + 1;
+    }
+    if precedence_contradictions::contradict(members, route) {
+        return 0;
+    }
+    longest + 1
+}
+
 // From the longest head that is on time.
 fn tell_limits(punctual: usize, members: &[u64], route: &[u32]) -> Limits
     requires { ⌜ RouteTellable (now members) (now route) ⌝ }
@@ -32,7 +50,8 @@ fn tell_limits(punctual: usize, members: &[u64], route: &[u32]) -> Limits
     let reach = precedence_marks::head_limit(members, route);
     let longest = lesser(punctual, reach);
     let since = precedence_marks::tail_since(members, route);
-    Limits { longest, since }
+    let heads = heads_left(longest, since, members, route);
+    Limits { heads, since }
 }
 
 // The running sums of a route, and what it leaves to its candidates; `members` are the words of the pairs.

@@ -12,14 +12,14 @@ use Rattle.scan_cut_set.proofs.first_due.Statement.{statement}
 use Rattle.scan_cut_set.proofs.first_due.Tie as tie
 
 abbrev Inv-loop : tie.InvT-loop
-Inv-loop joint rows stays dues held m clock below shorter limit i₀ i =
+Inv-loop joint rows stays dues held m clock below start limit i₀ i =
     (i ≤ limit) × ((x : ℕ) → x < i → due-gain joint rows stays dues held m clock below x ≡ false) × (i < limit → chain joint 9 (row rows i) < below)
 
 abbrev μ-loop : tie.MeasureT-loop
-μ-loop joint rows stays dues held m clock below shorter limit i₀ i = limit - i
+μ-loop joint rows stays dues held m clock below start limit i₀ i = limit - i
 
 loop-holds : tie.Need-loop-holds Inv-loop μ-loop
-loop-holds c = (c .pre .first .most, due-first (c .pre), c .pre .first .shorter)
+loop-holds c = (c .pre .first .within, due-first (c .pre), c .pre .first .shorter)
 
 row-kept-requires : tie.Need-row-kept-requires Inv-loop μ-loop
 row-kept-requires c κs = row-judged (c .before .before .pre) (c .before .loop .i) (c .loop-test .taken)

@@ -6,7 +6,7 @@ use Rattle.costs.proofs.Segments.{last-cut}
 use Rattle.deadline_dues.proofs.Filling.{no-stays}
 use Rattle.deadline_dues.proofs.Held.{reached-held, reached-dues}
 use Rattle.scan_cut_set.specs.Gain.{below}
-use Rattle.scan_cut_set.proofs.Gain.{dues-read, head-timed, clock-told, tabled, told-late, tellable, none-before, chains, none-below, due-rows, first-due-gain}
+use Rattle.scan_cut_set.proofs.Gain.{dues-read, head-timed, clock-told, tabled, told-late, tellable, none-before, chains, none-below, none-ordered, order-rows, due-rows, first-due-gain}
 use Rattle.scan_cut_set.proofs.first_gain.Statement.{statement}
 use Rattle.scan_cut_set.proofs.first_gain.Tie as tie
 
@@ -64,9 +64,35 @@ returns-2 c =
       marks-behind = s .pre .marks-behind;
     }
 
+mark-states-requires : tie.Need-mark-states-requires
+mark-states-requires c κs = tellable (c .before .before .before .before .before .before .before .before .before .before .before .before .before .before .before .before .before .before .before .pre)
+
+sub-m : tie.Need-sub-m
+sub-m c = omega (arith, c .before .before .before .before .before .before .before .before .before .before .before .before .before .before .before .before .before .before .before .before .pre .searchable .cut-set .least)
+
+first-ordered-requires : tie.Need-first-ordered-requires
+first-ordered-requires c κs =
+    let s = c .before .before .before .before .before .before .before .before .before .before .before .before .before .before .before .before .before .before .before .before .before .before in
+    order-rows (tabled (s .pre .searchable) (s .pre .patterned) (s .pre .allowed) (c .before .before .before .before .before .before .before .before .before .before .before .fill-joint .ensures)) _ (c .before .before .mark-states .ensures .places) _ _ (c .before .before .before .before .before .next-shorter .ensures)
+
+returns-3 : tie.Need-returns-3
+returns-3 c =
+    let s = c .before .before .before .before .before .before .before .before .before .before .before .before .before .before .before .before .before .before .before .before .before .before .before .before in
+    let j = c .before .before .before .before .before .before .before .before .before .before .before .before .before .fill-joint .ensures in
+    let told = c .before .before .before .before .mark-states .ensures in
+    record {
+      within = omega arith;
+      first = λ ps w l. none-ordered (tabled (s .pre .searchable) w l j) (told-late (s .pre) (c .before .before .before .before .before .before .before .before .before .before .late-behind .ensures)) (s .pre .early) (s .pre .front) (s .pre .back) (c .before .before .before .before .before .before .before .before .before .before .before .before .before .before .before .if1 .left) _ (told .is _ (s .pre .lent) (s .pre .marks) .0) _ _ (c .if3 .taken) ((c .before .before .before .before .before .before .before .before .before .threshold .ensures) ∙ ap (λ n. below n (c .before .before .before .before .before .before .before .before .before .before .late-behind .result)) (c .before .before .before .before .before .before .before .before .before .before .before .standing-cost .ensures)) (c .before .first-ordered .ensures);
+      padded = j .padded;
+      held = s .pre .held;
+      behind = s .pre .behind;
+      marks = told .is _ (s .pre .lent) (s .pre .marks) .1;
+      marks-behind = told .behind;
+    }
+
 time-states-requires : tie.Need-time-states-requires
 time-states-requires c κs =
-    let s = c .before .before .before .before .before .before .before .before .before .before .before .before .before .before .before .before .before .before .before .before in
+    let s = c .before .before .before .before .before .before .before .before .before .before .before .before .before .before .before .before .before .before .before .before .before .before .before .before .before .before in
     let g = s .pre .searchable in
     record {
       reachable = record { read = dues-read g; cut-set = g .cut-set; held = s .pre .held; behind = s .pre .behind };
@@ -74,36 +100,30 @@ time-states-requires c κs =
       brief = no-stays 9;
     }
 
-mark-states-requires : tie.Need-mark-states-requires
-mark-states-requires c κs = tellable (c .before .before .before .before .before .before .before .before .before .before .before .before .before .before .before .before .before .before .before .before .before .before .pre)
-
 head-clock-requires : tie.Need-head-clock-requires
-head-clock-requires c κs = head-timed (c .before .before .before .before .before .before .before .before .before .before .before .before .before .before .before .before .before .before .before .before .before .before .before .pre .searchable)
-
-sub-m : tie.Need-sub-m
-sub-m c = omega (arith, c .before .before .before .before .before .before .before .before .before .before .before .before .before .before .before .before .before .before .before .before .before .before .before .before .pre .searchable .cut-set .least)
+head-clock-requires c κs = head-timed (c .before .before .before .before .before .before .before .before .before .before .before .before .before .before .before .before .before .before .before .before .before .before .before .before .before .before .before .pre .searchable)
 
 first-due-requires : tie.Need-first-due-requires
 first-due-requires c κs =
-    let s = c .before .before .before .before .before .before .before .before .before .before .before .before .before .before .before .before .before .before .before .before .before .before .before .before .before .before .before .before in
+    let s = c .before .before .before .before .before .before .before .before .before .before .before .before .before .before .before .before .before .before .before .before .before .before .before .before .before .before .before .before .before .before .before .before in
     let g = s .pre .searchable in
     let h = c .before .before .before .before .head-clock .ensures in
-    let w = c .before .before .before .before .before .before .before .time-states .ensures in
+    let w = c .before .before .before .before .before .time-states .ensures in
     let e = clock-told g h in
-    rw e (due-rows (tabled g (s .pre .patterned) (s .pre .allowed) (c .before .before .before .before .before .before .before .before .before .before .before .before .before .before .before .before .before .fill-joint .ensures)) _ _ _ (w .served) (w .reached .places) (c .before .before .before .before .before .mark-states .ensures .places) _ _ (omega (arith, e, h .early)) (c .before .before .before .before .before .before .before .before .before .before .before .next-shorter .ensures))
+    rw e (due-rows (tabled g (s .pre .patterned) (s .pre .allowed) (c .before .before .before .before .before .before .before .before .before .before .before .before .before .before .before .before .before .before .before .before .before .fill-joint .ensures)) _ _ _ (w .served) (w .reached .places) (c .before .before .before .before .before .before .before .before .before .before .before .before .mark-states .ensures .places) _ _ (omega (arith, e, h .early)) (c .before .before .before .before .before .before .before .before .before .first-ordered .ensures))
 
-returns-3 : tie.Need-returns-3
-returns-3 c =
-    let s = c .before .before .before .before .before .before .before .before .before .before .before .before .before .before .before .before .before .before .before .before .before .before .before .before .before .before .before .before .before in
+returns-4 : tie.Need-returns-4
+returns-4 c =
+    let s = c .before .before .before .before .before .before .before .before .before .before .before .before .before .before .before .before .before .before .before .before .before .before .before .before .before .before .before .before .before .before .before .before .before in
     let g = s .pre .searchable in
-    let j = c .before .before .before .before .before .before .before .before .before .before .before .before .before .before .before .before .before .before .fill-joint .ensures in
-    let w = c .before .before .before .before .before .before .before .before .time-states .ensures in
-    let told = c .before .before .before .before .before .before .mark-states .ensures in
+    let j = c .before .before .before .before .before .before .before .before .before .before .before .before .before .before .before .before .before .before .before .before .before .before .fill-joint .ensures in
+    let w = c .before .before .before .before .before .before .time-states .ensures in
+    let told = c .before .before .before .before .before .before .before .before .before .before .before .before .before .mark-states .ensures in
     let d = rw (clock-told g (c .before .before .before .before .before .head-clock .ensures)) at (c .first-due .ensures) in
-    let late = c .before .before .before .before .before .before .before .before .before .before .before .before .before .before .before .late-behind in
+    let late = c .before .before .before .before .before .before .before .before .before .before .before .before .before .before .before .before .before .before .before .late-behind in
     record {
       within = c .first-due .ensures .within;
-      first = λ ps u l. first-due-gain (tabled g u l j) (told-late (s .pre) (late .ensures)) (s .pre .early) (s .pre .front) (s .pre .back) (c .before .before .before .before .before .before .before .before .before .before .before .before .before .before .before .before .before .before .before .before .if1 .left) _ _ _ (w .served) (reached-dues (w .reached) (g .cut-set)) (told .is _ (s .pre .lent) (s .pre .marks) .0) _ _ ((c .before .before .before .before .before .before .before .before .before .before .before .before .before .before .threshold .ensures) ∙ ap (λ n. below n (late .result)) (c .before .before .before .before .before .before .before .before .before .before .before .before .before .before .before .before .standing-cost .ensures)) d;
+      first = λ ps u l. first-due-gain (tabled g u l j) (told-late (s .pre) (late .ensures)) (s .pre .early) (s .pre .front) (s .pre .back) (c .before .before .before .before .before .before .before .before .before .before .before .before .before .before .before .before .before .before .before .before .before .before .before .before .if1 .left) _ _ _ (w .served) (reached-dues (w .reached) (g .cut-set)) (told .is _ (s .pre .lent) (s .pre .marks) .0) _ _ ((c .before .before .before .before .before .before .before .before .before .before .before .before .before .before .before .before .before .before .threshold .ensures) ∙ ap (λ n. below n (late .result)) (c .before .before .before .before .before .before .before .before .before .before .before .before .before .before .before .before .before .before .before .before .standing-cost .ensures)) d;
       padded = j .padded;
       held = reached-held (w .reached) (g .cut-set);
       behind = omega (arith, w .reached .reach);
@@ -125,9 +145,11 @@ first-gain-spec =
     threshold-requires
     next-shorter-requires
     returns-2
-    time-states-requires
     mark-states-requires
-    head-clock-requires
     sub-m
+    first-ordered-requires
+    returns-3
+    time-states-requires
+    head-clock-requires
     first-due-requires
-    returns-3)
+    returns-4)

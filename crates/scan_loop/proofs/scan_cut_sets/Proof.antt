@@ -101,6 +101,13 @@ take-gain-requires c κs =
       late-places = l .inv .2 .latenesses .places;
     }
 
+add-heads : tie.Need-add-heads Inv-loop μ-loop
+add-heads c =
+    let s = c .before .before .before .before .before .before .before .before .before .before .before .before .before .before .before .before .before .before .before .before .before .before .before .before .before .before .before .before .before .before .before .before .before .before .before in
+    let l = c .before .before .before .before .before .before .before .before .before .before .before .before .before .before .before .before .before .before .before .before .loop in
+    let t = timed (s .args .k) (lent s) (s .args .orders .now) (s .args .masks .now) (s .args .rows .now) (s .args .members .now) (s .args .route .now) (s .args .allowance) (s .pre) (take (s .args .k) (l .cut)) (l .examined) (l .accepted) (l .route) (l .inv .1) in
+    omega (arith, c .before .before .take-gain .kept .1 .1 .1 .1 .1 .1 .1 .0, t .measurable .stops .short)
+
 add-examined-2 : tie.Need-add-examined-2 Inv-loop μ-loop
 add-examined-2 c =
     let s = c .before .before .before .before .before .before .before .before .before .before .before .before .before .before .before .before .before .before .before .before .before .before .before .before .before .before .before .before .before .before .before .before .before .before .before in
@@ -136,8 +143,8 @@ loop-again c =
       first-opened (s .args .k) (s .pre .least) (s .pre .most),
     )
 
-array-read-t53 : tie.Need-array-read-t56 Inv-loop μ-loop
-array-read-t53 c = search needs
+array-read-t57 : tie.Need-array-read-t57 Inv-loop μ-loop
+array-read-t57 c = search needs
 
 same-length : tie.Need-same-length Inv-loop μ-loop
 same-length c =
@@ -171,8 +178,8 @@ next-cut-set-requires c κs =
     let e = c .before .before .before .before .before .before .scan-stretch .ensures in
     rw (take-at (c .before .before .before .before .before .before .scan-stretch .last .1 .1 .1 .1 .1 .1 .1 .1 .1 .1 .1 .1 .1 .1 .1 .1 .1 .0) (drop (s .args .k) (l .cut)) (s .args .k) (c .before .before .before .before .before .before .scan-stretch .kept .1 .1 .1 .1 .1 .1 .1 .1 .1 .1 .1 .1 .1 .1 .1 .1 .1 .0 ∙ l .inv .1 .cut-set .many)) (cuts-then (s .args .k) (lent s) (s .args .orders .now) (s .args .masks .now) (s .args .rows .now) (s .args .members .now) (s .args .route .now) (s .args .allowance) (s .pre) (take (s .args .k) (l .cut)) (l .examined) (l .accepted) (l .route) (l .inv .1) e (not-false _ (c .before .if2 .left)))
 
-array-read-t61 : tie.Need-array-read-t64 Inv-loop μ-loop
-array-read-t61 c = search needs
+array-read-t65 : tie.Need-array-read-t65 Inv-loop μ-loop
+array-read-t65 c = search needs
 
 same-length-2 : tie.Need-same-length-2 Inv-loop μ-loop
 same-length-2 c =
@@ -229,17 +236,18 @@ scan-cut-sets-spec =
     array-share-prefix-cut
     slice-aggregate-take-gain
     take-gain-requires
+    add-heads
     add-examined-2
     add-accepted
     loop-less
     loop-again
-    array-read-t53
+    array-read-t57
     same-length
     returns
     array-borrow-prefix-cut-2
     slice-aggregate-next-cut-set
     next-cut-set-requires
-    array-read-t61
+    array-read-t65
     same-length-2
     returns-2
     loop-less-2

@@ -127,7 +127,7 @@ fn pairs() -> Result<(), String> {
     println!("\nPairs beside an empty list, and beside the Rust with the same pairs\n\n| k | stops | table | pairs | accepted, with none | accepted | ns a candidate, with none | ns | pairs / none | Rust ns | library / Rust |\n|---|---|---|---|---|---|---|---|---|---|---|");
     let mut means = String::new();
     for k in 2..=5 {
-        let (mut alike, mut to_none, mut to_rust) = (Vec::new(), Vec::new(), Vec::new());
+        let mut ratios_of = [Vec::new(), Vec::new(), Vec::new(), Vec::new()];
         for stops in LONG_SIZES {
             for kind in PAIRED_KINDS {
                 let case = case_of(kind, k, stops);
@@ -138,19 +138,23 @@ fn pairs() -> Result<(), String> {
                         case = polished_further(case);
                     }
                     let ratios = row_of(&row, &case)?;
-                    alike.extend(Some(ratios.to_none).filter(|_| ratios.alike));
-                    to_none.push(ratios.to_none);
-                    to_rust.extend(ratios.to_rust);
+                    let group = match (name.ends_with("kept"), ratios.alike) {
+                        (true, true) => 0,
+                        (true, false) => 1,
+                        (false, _) => 2,
+                    };
+                    ratios_of[group].push(ratios.to_none);
+                    ratios_of[3].extend(ratios.to_rust);
                 }
             }
         }
-        let told = [alike, to_none, to_rust].map(|ratios| {
+        let told = ratios_of.map(|ratios| {
             let (mean, highest) = (mean(&ratios), highest(&ratios));
             format!(" {mean:.3} | {highest:.3} |")
         });
         means += &format!("| {k} |{}\n", told.concat());
     }
-    println!("\nGeometric means and highest rows; where as many are accepted with pairs as with none, both sides scan alike\n\n| k | pairs / none, as many accepted | highest | pairs / none, all rows | highest | library / Rust | highest |\n|---|---|---|---|---|---|---|\n{means}");
+    println!("\nGeometric means and highest rows: pairs that are kept, where as many are accepted as with none, so that both sides scan alike, and where not; pairs against each other; and all beside the Rust\n\n| k | kept / none, alike | highest | kept / none, otherwise | highest | against each other / none | highest | library / Rust | highest |\n|---|---|---|---|---|---|---|---|---|\n{means}");
     Ok(())
 }
 
