@@ -26,6 +26,10 @@ pub line-size-more : (t : List ℕ) (at : ℕ) → at < length t → (getD t at 
 unfolding line-size
 line-size-more t at h n = rw (drop-cons t at 0 h, ne-eqb (getD t at 0) 10 n, add-one at)
 
+-- The same at a place that is told.
+pub more-at : (t : List ℕ) (at next : ℕ) → at < length t → (getD t at 0 ≡ 10 → ⊥) → next ≡ at + 1 → line-size (drop at t) ≡ suc (line-size (drop next t))
+more-at t at next h n e = rw e (line-size-more t at h n)
+
 -- Its size, within the text.
 line-most : (t : List ℕ) → line-size t ≤ length t
 unfolding line-size

@@ -6,19 +6,55 @@ ghost use Prim.Native.Nat.{_+_, _≤_};
 ghost use lib.ListN.{length, drop};
 ghost use Rattle.season_blocks.specs.Blocks.{line-size, block-size, Ends, Parted};
 
-// The place after the line that begins at a place.
+// The place after the line that begins at a place, byte by byte.
+fn short_line_end(text: &[u8], at: usize) -> usize
+    requires { ⌜ at ≤ length (now text) ⌝ }
+    ensures { λ r. ⌜ r ≡ at + line-size (drop at (now (text .entry))) ⌝ }
+{
+    let mut place = at;
+    while place < text.len() {
+        if text[place] == b'\n' {
+            return place + 1;
+        }
+        place += 1;
+    }
+    place
+}
+
+// The same, eight bytes in a turn as long as there are so many.
 fn line_end(text: &[u8], at: usize) -> usize
     requires { ⌜ at ≤ length (now text) ⌝ }
     ensures { λ r. ⌜ r ≡ at + line-size (drop at (now (text .entry))) ⌝ }
 {
     let mut end = at;
-    while end < text.len() {
+    while end + 8 <= text.len() {
         if text[end] == b'\n' {
             return end + 1;
         }
-        end += 1;
+        if text[end + 1] == b'\n' {
+            return end + 2;
+        }
+        if text[end + 2] == b'\n' {
+            return end + 3;
+        }
+        if text[end + 3] == b'\n' {
+            return end + 4;
+        }
+        if text[end + 4] == b'\n' {
+            return end + 5;
+        }
+        if text[end + 5] == b'\n' {
+            return end + 6;
+        }
+        if text[end + 6] == b'\n' {
+            return end + 7;
+        }
+        if text[end + 7] == b'\n' {
+            return end + 8;
+        }
+        end += 8;
     }
-    end
+    short_line_end(text, end)
 }
 
 // The place after the block that begins at a place: of its separator, or the end of the text.
