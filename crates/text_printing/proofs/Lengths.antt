@@ -26,7 +26,7 @@ line-length : (key values : List ℕ) → length (line key values) ≡ length ke
 unfolding line
 line-length key values = length-append key (listed values ++ (10 ∷ [])) ∙ ap (λ (n : ℕ). length key + n) (length-append (listed values) (10 ∷ []))
 
-value-length : (key : List ℕ) (value : ℕ) → value < 2 ^ 64 → length (line key (value ∷ [])) ≤ length key + 21
+pub value-length : (key : List ℕ) (value : ℕ) → value < 2 ^ 64 → length (line key (value ∷ [])) ≤ length key + 21
 unfolding listed further
 value-length key value h = omega (arith, line-length key (value ∷ []), length-append (digits value) [], digits-length 19 value (omega arith))
 

@@ -33,7 +33,7 @@ fn put_list(values: &[u32], out: &mut [u8], at: usize) -> usize
 }
 
 // A line of one number.
-fn put_value(key: &[u8], value: u64, out: &mut [u8], at: usize) -> usize
+pub fn put_value(key: &[u8], value: u64, out: &mut [u8], at: usize) -> usize
     requires { ⌜ Room (line (now key) (value ∷ [])) (now out) at ⌝ }
     ensures { λ r. ⌜ Put (line (now (key .entry)) (value ∷ [])) (now (out .entry)) at (now (out .exit)) r ⌝ }
 {
