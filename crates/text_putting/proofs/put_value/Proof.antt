@@ -1,13 +1,13 @@
--- `text_printing::put_value` meets its contract. Assumes nothing.
+-- `text_putting::put_value` meets its contract. Assumes nothing.
 use mathlib.Core.Path.{refl}
 use mathlib.Core.List.{[], _∷_, _++_}
 use Rattle.text_decimal.specs.Decimal.{digits}
 use Rattle.text_decimal.specs.Text.{line}
 use Rattle.text_decimal.proofs.Putting.{Partway, put-none, put-room, put-more, put-rest}
-use Rattle.text_printing.proofs.Lists.{line-one}
+use Rattle.text_putting.proofs.Lists.{line-one}
 use borrow.Author.Needs.{needs}
-use Rattle.text_printing.proofs.put_value.Statement.{statement}
-use Rattle.text_printing.proofs.put_value.Tie as tie
+use Rattle.text_putting.proofs.put_value.Statement.{statement}
+use Rattle.text_putting.proofs.put_value.Tie as tie
 
 after-key : (c : tie.After-put-text) →
     let s = c .before .before .before .before in

@@ -1,4 +1,4 @@
--- Lists of numbers as the loops put them, and how long the answer is. Assumes nothing.
+-- Lists of numbers as the loops put them. Assumes nothing.
 use mathlib.Core.Path.{_≡_, refl}
 use mathlib.Core.List.{List, [], _∷_, _++_, append-nil}
 use Prim.Native.Nat.{ℕ, _+_, _-_, _<_, _≤_}

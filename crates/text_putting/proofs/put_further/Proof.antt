@@ -1,4 +1,4 @@
--- `text_printing::put_further` meets its contract: what is left of the list is still to be put. Assumes nothing.
+-- `text_putting::put_further` meets its contract: what is left of the list is still to be put. Assumes nothing.
 use Prim.Native.Nat.{_≤_, _-_, _+_}
 use mathlib.Core.Path.{_≡_, refl}
 use mathlib.Core.List.{[], _∷_, _++_}
@@ -6,11 +6,11 @@ use lib.ListN.{length, drop, getD}
 use Rattle.text_decimal.specs.Text.{further}
 use Rattle.text_decimal.specs.Decimal.{digits}
 use Rattle.text_decimal.proofs.Putting.{Partway, put-room, put-more, put-all}
-use Rattle.text_printing.proofs.Lists.{further-next, further-none}
+use Rattle.text_putting.proofs.Lists.{further-next, further-none}
 use native.Mathlib.Omega.{arith}
 use borrow.Author.Needs.{needs}
-use Rattle.text_printing.proofs.put_further.Statement.{statement}
-use Rattle.text_printing.proofs.put_further.Tie as tie
+use Rattle.text_putting.proofs.put_further.Statement.{statement}
+use Rattle.text_putting.proofs.put_further.Tie as tie
 
 abbrev Inv-loop : tie.InvT-loop
 Inv-loop values out₀ at at₀ i₀ t7 out at' i = (i ≤ length values) × (length out ≡ length out₀) × Partway (further values) out₀ at (further (drop i values)) out at'

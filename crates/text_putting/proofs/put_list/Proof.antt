@@ -1,4 +1,4 @@
--- `text_printing::put_list` meets its contract. Assumes nothing.
+-- `text_putting::put_list` meets its contract. Assumes nothing.
 use Prim.Native.Nat.{_-_}
 use mathlib.Core.Path.{_≡_, sym}
 use mathlib.Core.List.{[], _++_, append-nil}
@@ -6,11 +6,11 @@ use lib.ListN.{length, take, drop, getD}
 use Rattle.text_decimal.specs.Decimal.{digits}
 use Rattle.text_decimal.specs.Text.{further, listed}
 use Rattle.text_decimal.proofs.Putting.{Partway, put-none, put-room, put-more, put-rest, put-empty}
-use Rattle.text_printing.proofs.Lists.{listed-none, listed-first}
+use Rattle.text_putting.proofs.Lists.{listed-none, listed-first}
 use native.Mathlib.Omega.{arith}
 use borrow.Author.Needs.{needs}
-use Rattle.text_printing.proofs.put_list.Statement.{statement}
-use Rattle.text_printing.proofs.put_list.Tie as tie
+use Rattle.text_putting.proofs.put_list.Statement.{statement}
+use Rattle.text_putting.proofs.put_list.Tie as tie
 
 first-number : (c : tie.Else1) →
     let values = c .before .before .before .args .values .now in
