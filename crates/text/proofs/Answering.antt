@@ -1,29 +1,20 @@
--- The answer to a question, over plain values: refused, or polished and printed. Assumes nothing.
-use mathlib.Core.Path.{_≡_, refl, sym, ap, _∙_}
+-- The answer to a text, printed. Assumes nothing.
+use mathlib.Core.Path.{_≡_, sym, ap, _∙_, subst}
 use mathlib.Core.Logic.{_↔_}
-use mathlib.Core.List.{List, []}
-use Prim.Native.Nat.{ℕ}
-use borrow.Author.Tests.{ne-eqb, eq-eqb}
-use Rattle.theory.specs.Moves.{patterns}
-use Rattle.theory.specs.Route.{Problem, Timetable, Timely, tour-length, late-position, timetable-of}
-use Rattle.theory.specs.Tables.{problem}
-use Rattle.theory.specs.Refusals.{refusal}
-use Rattle.theory.specs.Question.{Question, question-rules}
-use Rattle.theory.specs.Answers.{Polishes, reply-of, counts-of}
+use mathlib.Core.List.{List}
+use Prim.Native.Nat.{ℕ, _≤_}
+use native.Mathlib.Omega.{arith}
+use lib.ListN.{length, take, drop, length-append}
+use lib.Seq.{take-at}
+use Rattle.theory.specs.Route.{Timetable, Timely, late-position}
 use Rattle.theory.specs.declared.Polished.{Polished}
-use Rattle.theory.specs.declared.Polished.the-variants.{Finished, Spent}
 use Rattle.theory.proofs.LatePosition.{late-position-none}
-use Rattle.theory.proofs.Refusals.{known, accepted}
-use Rattle.polishing.specs.Loop.{Polishable}
-use Rattle.polishing.proofs.Judged.{polishable-fine, none-lent}
+use Rattle.text_polishing.specs.Outcome.{outcome-told, stops-told, Tells}
+use Rattle.text_polishing.specs.declared.TextAnswer.{TextAnswer}
+use Rattle.text_polishing.specs.declared.TextAnswer.the-variants as T
 use Rattle.text_printing.specs.Answer.{none-line, late-line, refusal-text, Printed}
 use Rattle.text_printing.proofs.Answer.{none-exactly}
-use Rattle.text.specs.Program.{reply-text, question-text, polished-text}
-
-text-is : (P : Problem) (route route′ : List ℕ) (answer : Polished) → counts-of answer .before ≡ tour-length P route → counts-of answer .after ≡ tour-length P route′ →
-    counts-of answer .late ≡ late-position (timetable-of P) (P .depot) route′ → polished-text answer route′ ≡ reply-text P route (reply-of answer route′)
-text-is P route route′ (Finished c) b a l = rw (b, a, l)
-text-is P route route′ (Spent c) b a l = rw (b, a, l)
+use Rattle.text.specs.Program.{outcome-text, program, polished-text, Shown}
 
 -- The last line says none exactly where the route keeps every deadline.
 pub none-kept : (B : Timetable) (depot : ℕ) (r : List ℕ) → (late-line (late-position B depot r) r ≡ none-line) ↔ Timely B depot r
@@ -32,16 +23,24 @@ none-kept B depot r =
     let kept = late-position-none B depot r in
     (λ e. kept .0 (line .0 e), λ k. line .1 (kept .1 k))
 
-module _ (q : Question) (number : ℕ) (judged : number ≡ refusal (question-rules q)) (out out′ : List ℕ) (n : ℕ) where
-  pub refused : (number ≡ 0 → ⊥) → Printed (refusal-text number) out out′ n → Printed (question-text q) out out′ n
-  refused h p = rw (← judged, ne-eqb number 0 h) p
+-- What was printed stands in the first places.
+pub shown : {text out out′ : List ℕ} {n : ℕ} → Printed (program text) out out′ n → Shown text (record { bytes = out′; length = n })
+shown {text} {out} {out′} {n} p =
+    record {
+      text-is = rw (p .contents) (take-at (program text) (drop n out) n (sym (p .count)));
+      within = rw (p .contents) (simp length-append (omega (arith, p .count)));
+    }
 
-  pub polished : number ≡ 0 → (answer : Polished) (route′ : List ℕ) → Polishes (problem (q .trip)) (patterns (q .k)) (q .k) (q .allowance) (q .route) answer route′ →
-      Printed (polished-text answer route′) out out′ n → Printed (question-text q) out out′ n
-  polished h answer route′ p t =
-      let P = problem (q .trip) in
-      rw (← judged, eq-eqb number 0 h) (rw (text-is P (q .route) route′ answer (p .before) (p .after) (p .late) ∙ ap (reply-text P (q .route)) (p .scan)) at t)
+module _ {text stops : List ℕ} {answer : TextAnswer} (t : Tells text stops answer) (out out′ : List ℕ) (n : ℕ) where
+  text-is : (a : TextAnswer) → answer ≡ a → program text ≡ outcome-text (outcome-told a stops)
+  text-is a is = ap outcome-text (t .tells ∙ ap (λ (b : TextAnswer). outcome-told b stops) is)
 
-pub fine : (q : Question) (number : ℕ) → number ≡ refusal (question-rules q) → number ≡ 0 → q .trip .pairs ≡ [] → Polishable (q .k) (q .trip) [] (q .route)
-unfolding known
-fine q number judged h none = polishable-fine q [] (rw none (none-lent [] refl)) (accepted (question-rules q) refl (sym judged ∙ h))
+  pub refused : (number : ℕ) → answer ≡ T.Refused number → Printed (refusal-text number) out out′ n → Printed (program text) out out′ n
+  refused number is p = rw (text-is (T.Refused number) is) p
+
+  pub polished : (p : Polished) (count : ℕ) → answer ≡ T.Polished p count → Printed (polished-text p (take count stops)) out out′ n → Printed (program text) out out′ n
+  polished p count is q = rw (text-is (T.Polished p count) is) q
+
+-- The stops of a polished text are few, and within the lent places.
+pub stops-in : {text stops : List ℕ} {answer : TextAnswer} → Tells text stops answer → (p : Polished) (count : ℕ) → answer ≡ T.Polished p count → (count ≤ 512) × (count ≤ length stops)
+stops-in {stops = stops} t p count is = (subst (λ a. stops-told a ≤ 512) is (t .few), subst (λ a. stops-told a ≤ length stops) is (t .within))

@@ -1,11 +1,10 @@
-// The text program's function from bytes to bytes: it reads a question, judges it, polishes it and prints the answer.
-use text_question::Reading;
+// The text program's function from bytes to bytes: a question is read, judged and polished in crate text_polishing, and the answer printed.
+use text_polishing::TextAnswer;
 use theory::Counts;
 use theory::Polished;
 ghost use Rattle.theory.specs.Tables.{tables};
-ghost use Rattle.theory.specs.Question.{question};
 ghost use Rattle.text_printing.specs.Answer.{Printed};
-ghost use Rattle.text.specs.Program.{program, question-text, counts-text, polished-text, Room, Printable, Work, Shown};
+ghost use Rattle.text.specs.Program.{program, counts-text, polished-text, Printable, Work, Shown};
 
 // Any answer has room.
 fn print_counts(finished: bool, counts: Counts, route: &[u32], out: &mut [u8]) -> usize
@@ -34,52 +33,6 @@ fn print_polished(answer: Polished, route: &[u32], out: &mut [u8]) -> usize
     }
 }
 
-// The answer to a question that was read. A text holds no pairs.
-fn answer_question(
-    k: usize,
-    allowance: u64,
-    locations: usize,
-    legs: &[u32],
-    latest: &[u32],
-    service: &[u32],
-    depot: u32,
-    end: u32,
-    stops: &mut [u32],
-    out: &mut [u8],
-) -> usize
-    requires { ⌜ Room (now out) ⌝ }
-    ensures { λ r. ⌜ Printed (question-text (question k allowance locations (now (legs .entry)) (now (latest .entry)) (now (service .entry)) depot end (now (stops .entry)))) (now (out .entry)) (now (out .exit)) r ⌝ }
-{
-    let refused = refusal_rules::question_refusal(
-        k,
-        locations,
-        legs,
-        latest,
-        service,
-        depot,
-        end,
-        &stops[..],
-    );
-    if refused != 0 {
-        return text_printing::print_refusal(refused, out);
-    }
-    let none = [0u64; 1];
-    let answer = polishing::polish_route(
-        k,
-        allowance,
-        locations,
-        legs,
-        latest,
-        service,
-        depot,
-        end,
-        &legs[..0],
-        &none[..0],
-        stops,
-    );
-    print_polished(answer, &stops[..], out)
-}
-
 // The answer to a text, in lent places.
 fn answer_text(
     text: &[u8],
@@ -92,26 +45,11 @@ fn answer_text(
     requires { ⌜ Work (tables 96 (now legs) (now latest) (now service)) (now stops) (now out) ⌝ }
     ensures { λ r. ⌜ Printed (program (now (text .entry))) (now (out .entry)) (now (out .exit)) r ⌝ }
 {
-    let answer = text_question::read_question(text, legs, latest, service, stops);
-    let Reading::Question(header, count) = answer else {
-        return text_printing::print_refusal(10, out);
-    };
-    let k = header.k as usize;
-    let allowance = header.allowance as u64;
-    let locations = header.locations;
-    let cells = locations * locations;
-    answer_question(
-        k,
-        allowance,
-        locations,
-        &legs[..cells],
-        &latest[..locations],
-        &service[..locations],
-        header.depot,
-        header.end,
-        &mut stops[..count],
-        out,
-    )
+    let answer = text_polishing::polish_in_places(text, legs, latest, service, stops);
+    match answer {
+        TextAnswer::Refused(number) => text_printing::print_refusal(number, out),
+        TextAnswer::Polished(polished, count) => print_polished(polished, &stops[..count], out),
+    }
 }
 
 // What the program writes: the first `length` of the bytes.

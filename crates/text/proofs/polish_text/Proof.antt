@@ -1,6 +1,6 @@
 -- `text::polish_text` meets its contract. Assumes nothing.
 use borrow.Author.Needs.{needs}
-use Rattle.text.proofs.Asked.{shown}
+use Rattle.text.proofs.Answering.{shown}
 use Rattle.text.proofs.polish_text.Statement.{statement}
 use Rattle.text.proofs.polish_text.Tie as tie
 
