@@ -78,7 +78,7 @@ slice-aggregate-read-tables-3 : tie.Need-slice-aggregate-read-tables-3
 slice-aggregate-read-tables-3 c = sym (length-take-le _ _ (omega (arith, few (c .before .before .before .before))))
 
 read-tables-requires : tie.Need-read-tables-requires
-read-tables-requires c κs = 
+read-tables-requires c κs =
     let h = c .before .before .before .before in
     let s = c .before .before .before .before .before .before .before .before .before .before .before .before in
     let n = h .header .given .0 .0 .locations in
@@ -104,7 +104,7 @@ same-length-3 : tie.Need-same-length-3
 same-length-3 c = search needs
 
 returns-3 : tie.Need-returns-3
-returns-3 c = 
+returns-3 c =
     let h = c .before .before .before .before .before .before .before .before .before .before .before .before .before in
     tables-missing (c .before .before .before .before .before .before .before .before .before .before .before .before .before .before .before .before .before .before .before .before .before .args .text .now) (h .before .before .before .if1 .left) (header-is h) (rw (c .enum-told2 .given .1) at (c .before .before .before .before .before .before .before .before .read-tables .ensures))
 
