@@ -1,4 +1,4 @@
--- `problem_calls::read_problem` meets its contract. Assumes nothing.
+-- `problem_reading::read_problem` meets its contract. Assumes nothing.
 use mathlib.Core.Path.{_≡_, refl, sym, _∙_}
 use mathlib.Core.List.{List}
 use Prim.Native.Nat.{ℕ, _*_}
@@ -8,11 +8,11 @@ use Rattle.theory.specs.Tables.{Tables, tables}
 use Rattle.text_problem.specs.Judged.{Judges}
 use Rattle.text_problem.specs.declared.ProblemRead.the-variants as P
 use Rattle.text_problem.proofs.Judged.{Fits, fitting}
-use Rattle.problem_calls.proofs.Reading.{read-refused, read-taken}
+use Rattle.problem_reading.proofs.Reading.{read-refused, read-taken}
 use borrow.Author.Needs.{needs}
 use native.Mathlib.Omega.{arith}
-use Rattle.problem_calls.proofs.read_problem.Statement.{statement}
-use Rattle.problem_calls.proofs.read_problem.Tie as tie
+use Rattle.problem_reading.proofs.read_problem.Statement.{statement}
+use Rattle.problem_reading.proofs.read_problem.Tie as tie
 
 -- The tables and the stops that were read.
 abbrev own : tie.After-answer2 → Tables

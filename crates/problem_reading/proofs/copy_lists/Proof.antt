@@ -1,8 +1,8 @@
--- `problem_calls::copy_lists` meets its contract. Assumes nothing.
-use Rattle.problem_calls.proofs.Reading.{from-first}
+-- `problem_reading::copy_lists` meets its contract. Assumes nothing.
+use Rattle.problem_reading.proofs.Reading.{from-first}
 use borrow.Author.Needs.{needs}
-use Rattle.problem_calls.proofs.copy_lists.Statement.{statement}
-use Rattle.problem_calls.proofs.copy_lists.Tie as tie
+use Rattle.problem_reading.proofs.copy_lists.Statement.{statement}
+use Rattle.problem_reading.proofs.copy_lists.Tie as tie
 
 copy-in-requires : tie.Need-copy-in-requires
 copy-in-requires c κs = search needs

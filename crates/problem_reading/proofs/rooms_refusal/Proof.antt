@@ -1,10 +1,10 @@
--- `problem_calls::rooms_refusal` meets its contract. Assumes nothing.
+-- `problem_reading::rooms_refusal` meets its contract. Assumes nothing.
 use mathlib.Core.Path.{ap, _∙_}
 use Rattle.theory.specs.Refusals.{either, room}
-use Rattle.problem_calls.proofs.Reading.{rooms-parts}
+use Rattle.problem_reading.proofs.Reading.{rooms-parts}
 use borrow.Author.Needs.{needs}
-use Rattle.problem_calls.proofs.rooms_refusal.Statement.{statement}
-use Rattle.problem_calls.proofs.rooms_refusal.Tie as tie
+use Rattle.problem_reading.proofs.rooms_refusal.Statement.{statement}
+use Rattle.problem_reading.proofs.rooms_refusal.Tie as tie
 
 check-room-requires : tie.Need-check-room-requires
 check-room-requires c κs = search needs

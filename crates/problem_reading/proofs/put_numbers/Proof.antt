@@ -1,10 +1,10 @@
--- `problem_calls::put_numbers` meets its contract. Assumes nothing.
+-- `problem_reading::put_numbers` meets its contract. Assumes nothing.
 use lib.ListN.{length-set}
-use Rattle.problem_calls.proofs.Reading.{six-put}
+use Rattle.problem_reading.proofs.Reading.{six-put}
 use borrow.Author.Needs.{needs}
 use native.Mathlib.Omega.{arith}
-use Rattle.problem_calls.proofs.put_numbers.Statement.{statement}
-use Rattle.problem_calls.proofs.put_numbers.Tie as tie
+use Rattle.problem_reading.proofs.put_numbers.Statement.{statement}
+use Rattle.problem_reading.proofs.put_numbers.Tie as tie
 
 cast-result : tie.Need-cast-result
 cast-result c = search needs

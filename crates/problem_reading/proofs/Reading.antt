@@ -19,8 +19,9 @@ use Rattle.text_question.specs.Reading.{read}
 use Rattle.text_question.specs.declared.Header.{Header}
 use Rattle.text_question.proofs.Texts.{read-exactly}
 use Rattle.text_problem.specs.Judged.{Judged, refused, taken, judge, judge-read, judged}
-use Rattle.problem_calls.specs.Problems.{numbers-of, list-rooms, read-rules, put-before, put-read, handed, headed, Roomy, Copied, HandedOver, ReadReply}
+use Rattle.problem_calls.specs.Problems.{numbers-of, list-rooms, read-rules, put-before, put-read, handed, ReadReply}
 use Rattle.problem_calls.proofs.Laws.{is-taken}
+use Rattle.problem_reading.specs.Handing.{headed, Roomy, Copied, HandedOver}
 
 -- ---- handed over
 

@@ -1,10 +1,10 @@
--- `problem_calls::hand_over` meets its contract. Assumes nothing.
+-- `problem_reading::hand_over` meets its contract. Assumes nothing.
 use Rattle.theory.specs.Question.{Question}
-use Rattle.problem_calls.specs.Problems.{headed}
-use Rattle.problem_calls.proofs.Reading.{not-handed, roomy, result-room, all-handed}
+use Rattle.problem_reading.specs.Handing.{headed}
+use Rattle.problem_reading.proofs.Reading.{not-handed, roomy, result-room, all-handed}
 use borrow.Author.Needs.{needs}
-use Rattle.problem_calls.proofs.hand_over.Statement.{statement}
-use Rattle.problem_calls.proofs.hand_over.Tie as tie
+use Rattle.problem_reading.proofs.hand_over.Statement.{statement}
+use Rattle.problem_reading.proofs.hand_over.Tie as tie
 
 abbrev of : tie.Start → Question
 of s = headed (s .args .header) (s .args .from-legs .now) (s .args .from-latest .now) (s .args .from-service .now) (s .args .from-stops .now)
