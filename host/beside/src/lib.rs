@@ -41,6 +41,7 @@ pub mod pairs;
 pub mod parts;
 pub mod polish;
 pub mod precedence;
+pub mod problems;
 pub mod random;
 pub mod rules;
 pub mod run;

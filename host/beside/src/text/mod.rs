@@ -2,7 +2,7 @@
 
 mod case;
 pub mod damage;
-mod generate;
+pub mod generate;
 pub mod reader;
 
 use crate::trial::{Family, Source};
