@@ -9,7 +9,7 @@ use beside::trial::{judge, Drawn, Family, Reply, Source, Trial};
 use beside::watch::Watch;
 use beside::{
     checks, ends, every, first_move, in_shares, lists, moves, nearby, pairs, parts, polish,
-    precedence, problems, run, text,
+    precedence, problems, run, season, text,
 };
 use std::collections::BTreeMap;
 use std::env;
@@ -146,6 +146,10 @@ fn families() -> Vec<Family> {
     match text::program() {
         Ok(_) => all.extend(text::FAMILIES),
         Err(reason) => println!("the text program is not compared: {reason}"),
+    }
+    match season::program() {
+        Ok(_) => all.extend(season::FAMILIES),
+        Err(reason) => println!("the season report is not compared: {reason}"),
     }
     all
 }

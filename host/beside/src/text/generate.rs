@@ -21,11 +21,11 @@ const NUMBERS: [u32; 6] = [5, 24, 4, 23, 3, 1];
 /// How many sets of them there are.
 pub const SETS: u64 = 1 << NUMBERS.len();
 
-/// A text of the form whose values are refused: a set of damages to them.
 pub fn draw_refused(random: &mut Random, index: u64) -> Drawn {
     (Box::new(Text(refused(random, index))), None)
 }
 
+/// A text of the form whose values are refused: a set of damages to them.
 pub fn refused(random: &mut Random, index: u64) -> Vec<u8> {
     let mut case = random_ended(random);
     for (bit, &number) in NUMBERS.iter().enumerate() {

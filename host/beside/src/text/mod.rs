@@ -5,8 +5,8 @@ pub mod damage;
 pub mod generate;
 pub mod reader;
 
+use crate::program::named;
 use crate::trial::{Family, Source};
-use std::env;
 use std::path::PathBuf;
 
 const CALL: &str = "the program polish";
@@ -31,11 +31,5 @@ pub const FAMILIES: [Family; 4] = [
 
 /// The program, if it is there; else the reason why texts are not compared.
 pub fn program() -> Result<PathBuf, String> {
-    let Some(path) = env::var_os(VARIABLE).map(PathBuf::from) else {
-        return Err(format!("{VARIABLE} does not name the program"));
-    };
-    if path.is_file() {
-        return Ok(path);
-    }
-    Err(format!("no {}; rt check polish builds it", path.display()))
+    named(VARIABLE, "polish")
 }

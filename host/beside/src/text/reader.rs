@@ -9,30 +9,57 @@ use crate::tables::{listed, Tables};
 
 pub const MOST_LOCATIONS: usize = 96;
 
+/// A round polished by the unchanged Rust, with its lengths before and after.
+struct Polished {
+    counts: Counts,
+    before: u64,
+    after: u64,
+    route: Vec<u32>,
+}
+
 /// What the program writes for a text.
 pub fn answer(text: &[u8]) -> String {
-    let Some(case) = read(text) else {
-        return refused(10);
-    };
-    match case.refusal() {
-        0 => answered(&case),
-        number => refused(number),
+    match taken(text) {
+        Ok(case) => answered(&case),
+        Err(number) => format!("refused={number}\n"),
     }
 }
 
-fn refused(number: u32) -> String {
-    format!("refused={number}\n")
+/// The lengths before and after of a text that is answered.
+pub fn lengths(text: &[u8]) -> Option<(u64, u64)> {
+    let Polished { before, after, .. } = polished(&taken(text).ok()?);
+    Some((before, after))
+}
+
+/// The question of a text, or the number by which it is refused.
+fn taken(text: &[u8]) -> Result<Case, u32> {
+    let case = read(text).ok_or(10u32)?;
+    match case.refusal() {
+        0 => Ok(case),
+        number => Err(number),
+    }
+}
+
+fn polished(case: &Case) -> Polished {
+    let mut route = case.closed.route.clone();
+    let counts = polish(&case.as_closed(), case.closed.allowance, &mut route);
+    Polished {
+        counts,
+        before: case.length(&case.closed.route),
+        after: case.length(&route),
+        route,
+    }
 }
 
 fn answered(case: &Case) -> String {
-    let mut route = case.closed.route.clone();
-    let Counts {
-        spent,
-        examined,
-        accepted,
-    } = polish(&case.as_closed(), case.closed.allowance, &mut route);
-    let answer = if spent { "spent" } else { "finished" };
-    let (before, after) = (case.length(&case.closed.route), case.length(&route));
+    let Polished {
+        counts,
+        before,
+        after,
+        route,
+    } = polished(case);
+    let answer = if counts.spent { "spent" } else { "finished" };
+    let (examined, accepted) = (counts.examined, counts.accepted);
     let (round, late) = (listed(&route), late(case, &route));
     format!("answer={answer}\nexamined={examined}\naccepted={accepted}\nbefore={before}\nafter={after}\nround={round}\nlate={late}\n")
 }
