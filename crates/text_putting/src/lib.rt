@@ -47,6 +47,6 @@ pub fn put_line(key: &[u8], values: &[u32], out: &mut [u8], at: usize) -> usize
     ensures { λ r. ⌜ Put (line (now (key .entry)) (now (values .entry))) (now (out .entry)) at (now (out .exit)) r ⌝ }
 {
     let list = put_text(key, out, at);
-    let end = put_list(values, out, list);
-    put_text(b"\n", out, end)
+    let line_end = put_list(values, out, list);
+    put_text(b"\n", out, line_end)
 }
