@@ -42,6 +42,7 @@ enum {
     MITTENSCHIST_OTHER_ROUND = 8,    /* a cut that names another round */
     MITTENSCHIST_NEARBY_INPUT = 9,   /* m outside 1 to 512, neighbours above 32, distances not n x n, or an entry that is no number */
     MITTENSCHIST_MOVE_ROUNDS = 25,   /* the first move: rounds of other lengths, or longer than 48 stops */
+    MITTENSCHIST_TEXT_BOUNDS = 31,   /* a problem to be written with more than 96 locations, an allowance above 4294967295 or a text longer than 60,000 bytes */
     MITTENSCHIST_ROOM = 21,          /* a lent result, list of sets, buffer or journal that is too short */
     MITTENSCHIST_JOURNAL_LENGTH = 22 /* undo: a journal not as long as the route */
 };
@@ -136,6 +137,30 @@ uint32_t mittenschist_route_length_to_end(size_t locations, const uint32_t *legs
 uint32_t mittenschist_delta_to_end(size_t k, size_t pattern, const size_t *cuts, size_t cuts_len,
     size_t locations, const uint32_t *legs, size_t legs_len, uint32_t depot, uint32_t end,
     const uint32_t *route, size_t route_len, int64_t *result, size_t result_len);
+
+/* ---- A problem as text ---- */
+
+/* Writes a problem as text: the lines `k=`, `allowance=`, `locations=`, `depot=`, `end=`, a line `legs=` for each location, `latest=`, `service=` and `round=`,
+ * numbers with commas between them; each line ends with a line feed. Pairs and lists of patterns are not part of a problem. What is written is read back as the same problem,
+ * and no other problem has the same text.
+ *   k, allowance, legs, latest, service, depot, end, route  read  as for polishing; at most 96 locations and an allowance of 4294967295
+ *   text    written  the bytes; 60,000 suffice for every problem
+ *   result  written  1 place: how many bytes
+ * How many there are is known before the first is written. Refuses 1, 2, 3, 23, 4, 24, 5, 31, 21 (text under so many bytes, or result under 1 place). */
+uint32_t mittenschist_write_problem(size_t k, uint64_t allowance, size_t locations, const uint32_t *legs, size_t legs_len,
+    const uint32_t *latest, size_t latest_len, const uint32_t *service, size_t service_len, uint32_t depot, uint32_t end,
+    const uint32_t *route, size_t route_len, uint8_t *text, size_t text_len, uint64_t *result, size_t result_len);
+
+/* Reads a problem from a text of that form. Written again it is the same bytes. It is judged as polishing judges it, so that polishing takes every problem that is read.
+ *   text    read     at most 60,000 bytes
+ *   legs    written  locations x locations entries; 9,216 suffice for every text
+ *   latest  written  an entry for each location; 96 suffice
+ *   service written  an entry for each location; 96 suffice
+ *   route   written  the stops; 512 suffice
+ *   result  written  6 places: k, allowance, locations, depot, end, number of stops
+ * Nothing is written before the whole text is judged. Refuses 10, 1, 3, 23, 4, 24, 5, 21 (a list under as many places as the text has entries for it, or result under 6 places). */
+uint32_t mittenschist_read_problem(const uint8_t *text, size_t text_len, uint32_t *legs, size_t legs_len, uint32_t *latest, size_t latest_len,
+    uint32_t *service, size_t service_len, uint32_t *route, size_t route_len, uint64_t *result, size_t result_len);
 
 /* ---- Own lists of patterns ---- */
 

@@ -32,6 +32,7 @@ mod parts;
 mod patterns;
 mod polish;
 mod precedence;
+mod problem;
 #[allow(unsafe_code)]
 pub mod raw;
 mod refusal;
@@ -51,6 +52,7 @@ pub use parts::{
 pub use patterns::{polish_with_patterns, polish_with_patterns_and_pairs, PatternList, Patterns};
 pub use polish::{polish_route, polish_route_with_pairs, Ending, Polished};
 pub use precedence::Pair;
+pub use problem::Problem;
 pub use refusal::Refusal;
 pub use run::{
     run_in_shares, run_list_k_opt, run_list_k_opt_with_pairs, RoundReply, RoundState, Rounds,

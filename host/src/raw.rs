@@ -56,6 +56,39 @@ extern "C" {
         result: *mut u64,
         result_len: usize,
     ) -> u32;
+    fn mittenschist_write_problem(
+        k: usize,
+        allowance: u64,
+        locations: usize,
+        legs: *const u32,
+        legs_len: usize,
+        latest: *const u32,
+        latest_len: usize,
+        service: *const u32,
+        service_len: usize,
+        depot: u32,
+        end: u32,
+        route: *const u32,
+        route_len: usize,
+        text: *mut u8,
+        text_len: usize,
+        result: *mut u64,
+        result_len: usize,
+    ) -> u32;
+    fn mittenschist_read_problem(
+        text: *const u8,
+        text_len: usize,
+        legs: *mut u32,
+        legs_len: usize,
+        latest: *mut u32,
+        latest_len: usize,
+        service: *mut u32,
+        service_len: usize,
+        route: *mut u32,
+        route_len: usize,
+        result: *mut u64,
+        result_len: usize,
+    ) -> u32;
     fn mittenschist_load_patterns(
         text: *const u8,
         text_len: usize,
@@ -478,6 +511,75 @@ pub fn polish_route_with_pairs(
             end,
             pairs.as_ptr(),
             pairs.len(),
+            route.as_mut_ptr(),
+            route.len(),
+            result.as_mut_ptr(),
+            result.len(),
+        )
+    }
+}
+
+/// The text begins with the problem's lines; the result with their number of bytes.
+#[must_use]
+#[allow(clippy::too_many_arguments)]
+pub fn write_problem(
+    k: usize,
+    allowance: u64,
+    locations: usize,
+    legs: &[u32],
+    latest: &[u32],
+    service: &[u32],
+    depot: u32,
+    end: u32,
+    route: &[u32],
+    text: &mut [u8],
+    result: &mut [u64],
+) -> u32 {
+    // SAFETY: as said above.
+    unsafe {
+        mittenschist_write_problem(
+            k,
+            allowance,
+            locations,
+            legs.as_ptr(),
+            legs.len(),
+            latest.as_ptr(),
+            latest.len(),
+            service.as_ptr(),
+            service.len(),
+            depot,
+            end,
+            route.as_ptr(),
+            route.len(),
+            text.as_mut_ptr(),
+            text.len(),
+            result.as_mut_ptr(),
+            result.len(),
+        )
+    }
+}
+
+/// The lists begin with the problem's; the result with k, allowance, locations, depot, end and the number of stops.
+#[must_use]
+pub fn read_problem(
+    text: &[u8],
+    legs: &mut [u32],
+    latest: &mut [u32],
+    service: &mut [u32],
+    route: &mut [u32],
+    result: &mut [u64],
+) -> u32 {
+    // SAFETY: as said above.
+    unsafe {
+        mittenschist_read_problem(
+            text.as_ptr(),
+            text.len(),
+            legs.as_mut_ptr(),
+            legs.len(),
+            latest.as_mut_ptr(),
+            latest.len(),
+            service.as_mut_ptr(),
+            service.len(),
             route.as_mut_ptr(),
             route.len(),
             result.as_mut_ptr(),

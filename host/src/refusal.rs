@@ -48,6 +48,8 @@ pub enum Refusal {
     NearbyInput,
     /// 25: the first move of rounds whose lengths differ or are above 48.
     MoveRounds,
+    /// 31: a problem to be written with more than 96 locations, an allowance above 4294967295 or a text longer than 60,000 bytes.
+    TextBounds,
     /// 21: a lent buffer or journal that is too short.
     Room,
     /// 22: undo with a journal of another length than the route.
@@ -77,6 +79,7 @@ impl Refusal {
             Self::OtherRound => 8,
             Self::NearbyInput => 9,
             Self::MoveRounds => 25,
+            Self::TextBounds => 31,
             Self::Room => 21,
             Self::JournalLength => 22,
             Self::Other(number) => number,
@@ -102,6 +105,7 @@ impl Refusal {
             8 => Self::OtherRound,
             9 => Self::NearbyInput,
             25 => Self::MoveRounds,
+            31 => Self::TextBounds,
             21 => Self::Room,
             22 => Self::JournalLength,
             number => Self::Other(number),
@@ -152,6 +156,9 @@ impl Display for Refusal {
                  the distances do not fit the positions, or one of them is no number"
             }
             Self::MoveRounds => "the two rounds differ in length or have more than 48 stops",
+            Self::TextBounds => {
+                "no text holds the problem: more than 96 locations, an allowance above 4294967295, or more than 60,000 bytes"
+            }
             Self::Room => "a lent buffer or journal is too short",
             Self::JournalLength => "the journal is not as long as the route",
             Self::Other(number) => return write!(out, "refused with number {number}"),

@@ -17,6 +17,7 @@ ghost use Rattle.pattern_list_polishing.specs.Polishing.{PolishWithPatternsRepl
 ghost use Rattle.refusal_rules.specs.Rules.{route-length-rules, route-length-to-end-rules, pattern-rules, delta-rules, delta-to-end-rules};
 ghost use Rattle.measure_calls.specs.Measures.{late-values};
 ghost use Rattle.cut_calls.specs.Cuts.{NextCutSetWritten, ReconnectReply, FindMoveWritten};
+ghost use Rattle.problem_calls.specs.Problems.{WriteReply, ReadReply};
 ghost use Rattle.polish_calls.specs.Polishing.{PolishReply, PolishToEndReply, PolishWithPairsReply, PairLoopReply};
 ghost use Rattle.run_calls.specs.Runs.{RunReply, RunToEndsReply, RunWithPairsReply, SharesReply};
 pub use cut_calls::find_move;
@@ -581,4 +582,52 @@ pub extern "C" fn mittenschist_polish_with_patterns_and_pairs(
         route,
         result,
     )
+}
+
+// Writes a problem as text, in the form that the text program reads, into the first places of the lent text; its number of bytes into the result. Refuses 1, 2,
+// 3, 23, 4, 24, 5, 31, 21.
+#[no_mangle]
+pub extern "C" fn mittenschist_write_problem(
+    k: usize,
+    allowance: u64,
+    locations: usize,
+    legs: &[u32],
+    latest: &[u32],
+    service: &[u32],
+    depot: u32,
+    end: u32,
+    route: &[u32],
+    text: &mut [u8],
+    result: &mut [u64],
+) -> u32
+    ensures { λ r. ⌜ WriteReply (question k allowance locations (now (legs .entry)) (now (latest .entry)) (now (service .entry)) depot end (now (route .entry))) (now (text .entry)) (now (result .entry)) r (now (text .exit)) (now (result .exit)) ⌝ }
+{
+    problem_calls::write_problem(
+        k,
+        allowance,
+        locations,
+        legs,
+        latest,
+        service,
+        depot,
+        end,
+        route,
+        text,
+        result,
+    )
+}
+
+// Reads a problem from text into lent lists, and into the result its k, allowance, locations, depot, end and number of stops. Refuses 10, 1, 3, 23, 4, 24, 5, 21.
+#[no_mangle]
+pub extern "C" fn mittenschist_read_problem(
+    text: &[u8],
+    legs: &mut [u32],
+    latest: &mut [u32],
+    service: &mut [u32],
+    route: &mut [u32],
+    result: &mut [u64],
+) -> u32
+    ensures { λ r. ⌜ ReadReply (now (text .entry)) (now (legs .entry)) (now (latest .entry)) (now (service .entry)) (now (route .entry)) (now (result .entry)) r (now (legs .exit)) (now (latest .exit)) (now (service .exit)) (now (route .exit)) (now (result .exit)) ⌝ }
+{
+    problem_reading::read_problem(text, legs, latest, service, route, result)
 }

@@ -9,7 +9,7 @@ use lib.Dec.{eqb}
 use lib.ListN.{length, length-append}
 use borrow.Author.Tests.{eq-eqb, ne-eqb}
 use Rattle.text_decimal.specs.Text.{ascii, line}
-use Rattle.text_printing.proofs.Lengths.{value-length}
+use Rattle.text_putting.proofs.Lengths.{value-length}
 use Rattle.season_numbers.specs.Season.{accepted, refused-blocks, sum, greatest, in-order, inserted}
 use Rattle.season_printing.specs.Lines.{value-or-none, season-lines, season-text}
 

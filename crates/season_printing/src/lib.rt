@@ -1,7 +1,7 @@
 // The season report as text, put into lent bytes. No entry: crate season_report calls it.
 use season_numbers::Sums;
 use text_decimal::put_text;
-use text_printing::put_value;
+use text_putting::put_value;
 ghost use Rattle.text_decimal.specs.Text.{Room, Put};
 ghost use Rattle.text_printing.specs.Answer.{Printed};
 ghost use Rattle.season_printing.specs.Lines.{value-or-none, sums-text, Printable};

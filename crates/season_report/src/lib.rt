@@ -84,7 +84,7 @@ fn report_blocks(text: &[u8], ends: &[usize], out: &mut [u8]) -> usize
     let mut legs = [0u32; 9216];
     let mut latest = [0u32; 96];
     let mut service = [0u32; 96];
-    let mut stops = [0u32; 30000];
+    let mut stops = [0u32; 512];
     let mut afters = [0u64; 64];
     let sums = add_blocks(
         text,

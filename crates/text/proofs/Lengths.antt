@@ -12,7 +12,7 @@ use Rattle.text_decimal.specs.Decimal.{digits}
 use Rattle.text_decimal.specs.Text.{ascii, line}
 use Rattle.text_decimal.proofs.Values.{Digits, digits-all, digits-injective}
 use Rattle.text_printing.specs.Answer.{outcome, late-line, answer-text, refusal-text}
-use Rattle.text_printing.proofs.Lists.{line-one}
+use Rattle.text_putting.proofs.Lists.{line-one}
 use Rattle.text_polishing.specs.Outcome.{Answer, Outcome, no, yes, outcome as outcome-to, lengths-of, lengths}
 use Rattle.text.specs.Program.{answer-lines, outcome-text, program, Answers}
 

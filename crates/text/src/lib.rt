@@ -65,7 +65,7 @@ pub fn polish_text(text: &[u8]) -> Output
     let mut legs = [0u32; 9216];
     let mut latest = [0u32; 96];
     let mut service = [0u32; 96];
-    let mut stops = [0u32; 30000];
+    let mut stops = [0u32; 512];
     let mut bytes = [0u8; 6500];
     let length = answer_text(
         text,

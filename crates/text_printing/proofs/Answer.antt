@@ -12,7 +12,7 @@ use borrow.Author.Tests.{eq-eqb, ne-eqb}
 use Rattle.text_decimal.specs.Decimal.{last-digit, leading, digits}
 use Rattle.text_decimal.specs.Text.{ascii, line, Room, Put}
 use Rattle.text_printing.specs.Answer.{outcome, none-line, late-line, answer-text, Fits, Printed}
-use Rattle.text_printing.proofs.Lists.{line-one}
+use Rattle.text_putting.proofs.Lists.{line-one}
 
 abbrev pub from-round : ℕ → List ℕ → List ℕ
 from-round late route = line (ascii "round=") route ++ late-line late route

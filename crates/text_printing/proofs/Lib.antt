@@ -1,4 +1,3 @@
 pub mod Answer
 pub mod Examples
 pub mod Lengths
-pub mod Lists

@@ -1,17 +1,17 @@
 -- A text judged: the question that polishing takes, or the number by which the text is refused.
 use mathlib.Core.Path.{_≡_}
 use mathlib.Core.Bool.{cond}
-use mathlib.Core.List.{List, []}
+use mathlib.Core.List.{List, [], _∷_}
 use mathlib.Core.Option.{Option, none, some}
-use Prim.Native.Nat.{ℕ, _*_, _≤_}
+use Prim.Native.Nat.{ℕ, _≤_}
 use lib.Dec.{eqb}
 use lib.ListN.{length, take}
 use Rattle.theory.specs.Tables.{Tables}
-use Rattle.theory.specs.Refusals.{refusal}
+use Rattle.theory.specs.Refusals.{either, number, refusal, stop-count}
 use Rattle.theory.specs.Question.{Question, question-rules}
 use Rattle.text_tables.specs.Tables.{Sized}
 use Rattle.text_question.specs.Reading.{read}
-use Rattle.text_question.specs.Told.{front}
+use Rattle.text_question.specs.Told.{question-with, Places}
 use Rattle.text_question.specs.declared.Header.{Header}
 use Rattle.text_problem.specs.declared.ProblemRead.{ProblemRead}
 use Rattle.text_problem.specs.declared.ProblemRead.the-variants as P
@@ -39,12 +39,20 @@ judged text = judge-read (read text)
 pub record ProblemPlaces (T : Tables) (stops : List ℕ) : Type 0 where
   pub most : T .locations ≡ 96
   pub sized : Sized T
-  pub stops-places : length stops ≡ 30000
+  pub stops-places : length stops ≡ 512
+
+-- Tables of no more locations than there are places for.
+pub record Lies (h : Header) (T : Tables) : Type 0 where
+  pub places : Places T
+  pub few : h .locations ≤ 96
+
+-- Of a problem with so many stops, the highest of them: its number with that stop alone, and then that of so many.
+abbrev pub first-refusal : Header → Tables → (count top : ℕ) → ℕ
+first-refusal h T count top = either (refusal (question-rules (question-with h T (top ∷ [])))) (number (stop-count count))
 
 -- The question of a header, the front of the tables, and so many stops.
 abbrev pub question-in : Header → (count : ℕ) → Tables → (stops : List ℕ) → Question
-question-in h count T stops =
-    record { k = h .k; allowance = h .allowance; trip = record { tables = front (h .locations) T; depot = h .depot; end = h .end; pairs = [] }; route = take count stops }
+question-in h count T stops = question-with h T (take count stops)
 
 abbrev pub judged-told : ProblemRead → Tables → (stops : List ℕ) → Judged
 judged-told (P.Refused number) T stops = refused number

@@ -2,12 +2,16 @@
 use mathlib.Core.Path.{_≡_}
 use mathlib.Core.List.{List, []}
 use mathlib.Core.Option.{Option, none, some}
-use Prim.Native.Nat.{ℕ, _*_, _≤_}
+use Prim.Native.Nat.{ℕ, _*_}
 use lib.ListN.{length, take, drop}
 use Rattle.theory.specs.Tables.{Tables, tables}
 use Rattle.theory.specs.Question.{Question}
+use Rattle.text_decimal.specs.Text.{ascii}
+use Rattle.text_lines.specs.Reading.{line-of}
+use Rattle.text_round.specs.Round.{highest}
 use Rattle.text_tables.specs.Tables.{Sized}
 use Rattle.text_question.specs.Reading.{Heading, read}
+use Rattle.text_question.specs.declared.Header.{Header}
 use Rattle.text_question.specs.declared.Start.{Start}
 use Rattle.text_question.specs.declared.Start.the-variants as S
 use Rattle.text_question.specs.declared.Reading.{Reading}
@@ -21,23 +25,24 @@ start-told t (S.Read h next) = some (record { k = h .k; allowance = h .allowance
 abbrev pub front : ℕ → Tables → Tables
 front n T = tables n (take (n * n) (T .legs)) (take n (T .latest)) (take n (T .service))
 
--- The question that an answer and the lent places tell: the front of the tables, and so many stops.
-abbrev pub question-told : Reading → Tables → (stops : List ℕ) → Option Question
-question-told R.Malformed T stops = none
-question-told (R.Question h count) T stops =
-    some (record { k = h .k; allowance = h .allowance; trip = record { tables = front (h .locations) T; depot = h .depot; end = h .end; pairs = [] }; route = take count stops })
+-- The question of a header, the front of the lent tables, and stops.
+abbrev pub question-with : Header → Tables → (stops : List ℕ) → Question
+question-with h T stops = record { k = h .k; allowance = h .allowance; trip = record { tables = front (h .locations) T; depot = h .depot; end = h .end; pairs = [] }; route = stops }
 
-abbrev pub stop-count : Reading → ℕ
-stop-count R.Malformed = 0
-stop-count (R.Question h count) = count
+-- A question that `read` gives, whose stops stand in the text: so many, the highest of them, the line at a place, which is the last.
+pub record ReadAs (t : List ℕ) (T : Tables) (h : Header) (count top round : ℕ) : Type 0 where
+  pub stops : List ℕ
+  pub reads : read t ≡ some (question-with h T stops)
+  pub count-is : count ≡ length stops
+  pub top-is : top ≡ highest 0 stops
+  pub line-is : line-of (ascii "round=") 30000 (drop round t) ≡ some (stops, [])
 
--- Lent places for the largest question: the tables of 96 locations, and as many stops as 60,000 bytes can hold.
-pub record Places (T : Tables) (stops : List ℕ) : Type 0 where
+-- Lent places for the tables of 96 locations.
+pub record Places (T : Tables) : Type 0 where
   pub most : T .locations ≡ 96
   pub sized : Sized T
-  pub stops-places : length stops ≡ 30000
 
--- The answer tells what `read` gives, and the stops are among the lent places.
-pub record Answered (t : List ℕ) (T : Tables) (stops : List ℕ) (answer : Reading) : Type 0 where
-  pub reads : read t ≡ question-told answer T stops
-  pub within : stop-count answer ≤ length stops
+-- The answer tells what `read` gives.
+abbrev pub Answered : List ℕ → Tables → Reading → Type 0
+Answered t T R.Malformed = read t ≡ none
+Answered t T (R.Question h count top round) = ReadAs t T h count top round

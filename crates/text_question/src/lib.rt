@@ -1,7 +1,7 @@
 // The text program's question, read from bytes. No entry: the program above calls it.
-use text_lines::Entries;
-use text_lines::read_line;
 use text_lines::read_value;
+use text_round::Round;
+use text_round::scan_round;
 use text_tables::read_tables;
 use text_tokens::Numeral;
 use text_tokens::Place;
@@ -25,9 +25,9 @@ enum Start {
     Malformed,
 }
 
-// A question and how many stops it has; its tables and stops are in lent places.
+// A question, whose tables are in lent places and whose stops stand in the text: how many there are, the highest of them, and where their line begins.
 pub enum Reading {
-    Question(Header, usize),
+    Question(Header, usize, u32, usize),
     Malformed,
 }
 
@@ -70,16 +70,15 @@ fn read_header(text: &[u8]) -> Start
     )
 }
 
-// The whole text: its tables and stops into the lent places, its numbers as the answer.
+// The whole text: its tables into the lent places, its numbers and what is told of its round as the answer.
 pub fn read_question(
     text: &[u8],
     legs: &mut [u32],
     latest: &mut [u32],
     service: &mut [u32],
-    stops: &mut [u32],
 ) -> Reading
-    requires { ⌜ Places (tables 96 (now legs) (now latest) (now service)) (now stops) ⌝ }
-    ensures { λ r. ⌜ Answered (now (text .entry)) (tables 96 (now (legs .exit)) (now (latest .exit)) (now (service .exit))) (now (stops .exit)) r ⌝ }
+    requires { ⌜ Places (tables 96 (now legs) (now latest) (now service)) ⌝ }
+    ensures { λ r. ⌜ Answered (now (text .entry)) (tables 96 (now (legs .exit)) (now (latest .exit)) (now (service .exit))) r ⌝ }
 {
     if text.len() > 60000 {
         return Reading::Malformed;
@@ -99,11 +98,11 @@ pub fn read_question(
     ) else {
         return Reading::Malformed;
     };
-    let Entries::Read(count, end) = read_line(text, round, b"round=", stops) else {
+    let Round::Read(count, top, end) = scan_round(text, round) else {
         return Reading::Malformed;
     };
     if end < text.len() {
         return Reading::Malformed;
     }
-    Reading::Question(header, count)
+    Reading::Question(header, count, top, round)
 }

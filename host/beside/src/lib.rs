@@ -41,6 +41,7 @@ pub mod pairs;
 pub mod parts;
 pub mod polish;
 pub mod precedence;
+pub mod problems;
 mod program;
 pub mod random;
 pub mod rules;

@@ -31,7 +31,7 @@ fn work(question: &Question, next: &AtomicUsize, done: &Sender<(usize, Outcome)>
         let Some(round) = question.rounds.get(place) else {
             return;
         };
-        let outcome = polish(question, round.clone());
+        let outcome = round.clone().and_then(|round| polish(question, round));
         if done.send((place, outcome)).is_err() {
             return;
         }

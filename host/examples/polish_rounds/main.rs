@@ -1,6 +1,6 @@
 //! cargo run --release --example polish_rounds [--jobs N] [--patterns LIST] [--pairs LIST] [--shares] FILE: polishes each round of a file and says what was saved, which stop is
 //! late and which pair is not kept, if one is, a line for each round as it is done. The file has the form of the text program, with any number of lines `round=` at its
-//! end; see rounds.txt beside this file. Each round has the whole allowance; with --shares they share it. Exit 1 if the file is not of the form or a round is refused,
+//! end, each of which the library reads; see rounds.txt beside this file. Each round has the whole allowance; with --shares they share it. Exit 1 if the file is not of the form or a round is refused,
 //! 2 if the words are not understood.
 
 #![forbid(unsafe_code)]
@@ -236,7 +236,7 @@ mod tests {
             "round 3: 7 s before, 7 s after; under 4 stops after 0 candidates; order 3,4",
         ];
         assert_eq!(told, wanted);
-        question.rounds = vec![Vec::new(); 65];
+        question.rounds = vec![Ok(Vec::new()); 65];
         assert!(tell_shares(&question, &mut |line| told.push(line)));
     }
 

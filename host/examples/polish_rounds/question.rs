@@ -1,7 +1,6 @@
-//! The files of rounds and of pairs. Their form is judged here, the lengths of rows too; their numbers are judged by the library.
+//! The files of rounds and of pairs. A file of rounds is read by the library, round by round, each after the lines before the first of them.
 
-use mittenschist::{Harbours, Pair, PatternList, Tables};
-use std::str::{FromStr, Lines};
+use mittenschist::{Harbours, Pair, PatternList, Problem, Refusal, Tables};
 
 pub struct Question {
     pub k: usize,
@@ -11,97 +10,56 @@ pub struct Question {
     pub legs: Vec<u32>,
     pub latest: Vec<u32>,
     pub service: Vec<u32>,
-    pub rounds: Vec<Vec<u32>>,
+    /// The stops of each round, or why it is refused.
+    pub rounds: Vec<Result<Vec<u32>, Refusal>>,
     /// The patterns that are tried, where they are not all of them.
     pub patterns: Option<PatternList>,
     /// The pairs that each round is to keep.
     pub pairs: Vec<Pair>,
 }
 
-/// The lines not yet read, and the number of the one that was read last.
-struct Reader<'t> {
-    lines: Lines<'t>,
-    number: usize,
-}
-
-impl<'t> Reader<'t> {
-    fn new(text: &'t str) -> Self {
-        Self {
-            lines: text.lines(),
-            number: 0,
-        }
-    }
-
-    fn is_at_the_end(&self) -> bool {
-        self.lines.clone().next().is_none()
-    }
-
-    /// What follows `name=` in the next line.
-    fn value(&mut self, name: &str) -> Result<&'t str, String> {
-        self.number += 1;
-        let line = self.lines.next().unwrap_or_default();
-        line.strip_prefix(name)
-            .and_then(|rest| rest.strip_prefix('='))
-            .ok_or_else(|| format!("line {}: expected {name}=", self.number))
-    }
-
-    fn number<N: FromStr>(&mut self, name: &str) -> Result<N, String> {
-        let word = self.value(name)?;
-        self.parsed(word)
-    }
-
-    fn numbers(&mut self, name: &str) -> Result<Vec<u32>, String> {
-        let words = self.value(name)?;
-        if words.is_empty() {
-            return Ok(Vec::new());
-        }
-        words.split(',').map(|word| self.parsed(word)).collect()
-    }
-
-    /// A row with an entry for each location.
-    fn row(&mut self, name: &str, locations: usize) -> Result<Vec<u32>, String> {
-        let row = self.numbers(name)?;
-        if row.len() == locations {
-            return Ok(row);
-        }
-        let (number, entries) = (self.number, row.len());
-        Err(format!(
-            "line {number}: {name}= has {entries} entries, not {locations} as locations= says"
-        ))
-    }
-
-    fn parsed<N: FromStr>(&self, word: &str) -> Result<N, String> {
-        let fault = || format!("line {}: no number in range: {word:?}", self.number);
-        word.parse().map_err(|_| fault())
-    }
-}
-
 impl Question {
     pub fn parse(text: &str) -> Result<Self, String> {
-        let mut reader = Reader::new(text);
-        let k = reader.number("k")?;
-        let allowance = reader.number("allowance")?;
-        let locations = reader.number("locations")?;
-        let harbours = Harbours {
-            depot: reader.number("depot")?,
-            end: reader.number("end")?,
-        };
-        let mut legs = Vec::new();
-        for _ in 0..locations {
-            legs.extend(reader.row("legs", locations)?);
-        }
-        Ok(Self {
+        let start = text.find("\nround=").map_or(text.len(), |at| at + 1);
+        let (head, rounds) = text.split_at(start);
+        let before = head.lines().count();
+        let read = |round: &str| Problem::read(&[head, round].concat().into_bytes());
+        let Problem {
+            k,
+            allowance,
+            locations,
+            legs,
+            latest,
+            service,
+            harbours,
+            ..
+        } = read("round=\n").map_err(|refusal| format!("lines 1 to {before}: {refusal}"))?;
+        let mut question = Self {
             k,
             allowance,
             locations,
             harbours,
             legs,
-            latest: reader.row("latest", locations)?,
-            service: reader.row("service", locations)?,
-            rounds: rounds(&mut reader)?,
+            latest,
+            service,
+            rounds: Vec::new(),
             patterns: None,
             pairs: Vec::new(),
-        })
+        };
+        for (number, line) in (before + 1..).zip(rounds.split_inclusive('\n')) {
+            let round = read(line).map(|problem| problem.route);
+            if round == Err(Refusal::TextForm) {
+                return Err(format!("line {number}: {}", Refusal::TextForm));
+            }
+            question.rounds.push(round);
+        }
+        match question.rounds.is_empty() {
+            true => Err(format!(
+                "line {}: expected round=, as no round was given",
+                before + 1
+            )),
+            false => Ok(question),
+        }
     }
 
     pub fn tables(&self) -> Tables<'_> {
@@ -141,96 +99,78 @@ impl Question {
 
 /// The lines `pair=`, each with two locations.
 pub fn pairs(text: &str) -> Result<Vec<Pair>, String> {
-    let mut reader = Reader::new(text);
-    let mut pairs = Vec::new();
-    while !reader.is_at_the_end() {
-        let members = reader.numbers("pair")?;
-        let fault = |_| format!("line {}: pair= wants two locations", reader.number);
-        pairs.push(Pair::try_from(members).map_err(fault)?);
-    }
-    Ok(pairs)
-}
-
-fn rounds(reader: &mut Reader) -> Result<Vec<Vec<u32>>, String> {
-    let mut rounds = Vec::new();
-    while !reader.is_at_the_end() {
-        rounds.push(reader.numbers("round")?);
-    }
-    if rounds.is_empty() {
-        return Err(format!(
-            "line {}: expected round=, as no round was given",
-            reader.number + 1
-        ));
-    }
-    Ok(rounds)
+    let numbered = (1..).zip(text.lines());
+    let pair = |(number, line): (usize, &str)| {
+        let words = line
+            .strip_prefix("pair=")
+            .and_then(|rest| rest.split_once(','));
+        let fault = || format!("line {number}: pair= wants two locations");
+        let (first, second) = words.ok_or_else(fault)?;
+        let parsed = |word: &str| word.parse().map_err(|_| fault());
+        Ok([parsed(first)?, parsed(second)?])
+    };
+    numbered.map(pair).collect()
 }
 
 #[cfg(test)]
 mod tests {
     use super::{pairs, Question};
+    use mittenschist::Refusal;
 
     #[test]
     fn pairs_line_by_line() {
         assert_eq!(pairs(""), Ok(Vec::new()));
         assert_eq!(pairs("pair=1,2\npair=2,0\n"), Ok(vec![[1, 2], [2, 0]]));
         let fault = |text| pairs(text).unwrap_err();
-        assert_eq!(
-            fault("pair=1,2\npair=1\n"),
-            "line 2: pair= wants two locations"
-        );
+        for text in ["pair=1,2\npair=1\n", "pair=1,2\n\n", "pair=0,1\npair=1,x"] {
+            assert_eq!(fault(text), "line 2: pair= wants two locations");
+        }
         assert_eq!(fault("pair=1,2,3"), "line 1: pair= wants two locations");
-        assert_eq!(fault("pair=1,x"), "line 1: no number in range: \"x\"");
-        assert_eq!(fault("pair=1,2\n\n"), "line 2: expected pair=");
+    }
+
+    const HEAD: &str = "k=2\nallowance=1\nlocations=2\ndepot=0\nend=1\nlegs=0,1\nlegs=1,0\nlatest=1,2\nservice=0,0\n";
+
+    fn fault(text: &str) -> String {
+        Question::parse(text).err().unwrap()
     }
 
     #[test]
-    fn says_which_line_is_wrong() {
-        let fault = |text: &str| Question::parse(text).err().unwrap();
-        assert_eq!(fault(""), "line 1: expected k=");
+    fn rounds_one_by_one() {
+        let question = Question::parse(&format!("{HEAD}round=1\nround=2\nround=\n")).unwrap();
+        let rounds = [Ok(vec![1]), Err(Refusal::UnknownStop), Ok(vec![])];
+        assert_eq!(question.rounds, rounds);
         assert_eq!(
-            fault("k=2\nallowance=x\n"),
-            "line 2: no number in range: \"x\""
+            (question.k, question.allowance, question.locations),
+            (2, 1, 2)
         );
+        assert_eq!((question.harbours.depot, question.harbours.end), (0, 1));
         assert_eq!(
-            fault("k=2\nallowance=1\nlocations=-1\n").split(':').next(),
-            Some("line 3")
-        );
-        let head = "k=2\nallowance=1\nlocations=0\ndepot=0\nend=0\nlatest=\nservice=\nround=1\n";
-        assert_eq!(Question::parse(head).unwrap().rounds, [[1]]);
-        assert_eq!(
-            fault(&format!("{head}rounds=2\n")),
-            "line 9: expected round="
+            (&question.legs[..], &question.latest[..]),
+            (&[0, 1, 1, 0][..], &[1, 2][..])
         );
     }
 
     #[test]
-    fn rows_as_long_as_there_are_locations() {
-        let fault = |text: &str| Question::parse(text).err().unwrap();
-        let head = "k=2\nallowance=1\nlocations=2\ndepot=0\nend=0\nlegs=0,1\n";
+    fn says_which_lines_are_wrong() {
+        let form = Refusal::TextForm;
+        assert_eq!(fault(""), format!("lines 1 to 0: {form}"));
+        assert_eq!(fault("k=2\nround=1\n"), format!("lines 1 to 1: {form}"));
+        let long = HEAD.replace("0,1", "0,1000001");
         assert_eq!(
-            fault(&format!("{head}legs=1\n")),
-            "line 7: legs= has 1 entries, not 2 as locations= says"
+            fault(&format!("{long}round=1\n")),
+            format!("lines 1 to 9: {}", Refusal::LongLeg)
         );
-        assert_eq!(
-            fault(&format!("{head}legs=1,0\nlatest=1,2,3\nround=1\n")),
-            "line 8: latest= has 3 entries, not 2 as locations= says"
-        );
-        assert_eq!(
-            fault(&format!("{head}legs=1,0\nlatest=1,2\nservice=1\nround=1\n")),
-            "line 9: service= has 1 entries, not 2 as locations= says"
-        );
-        assert_eq!(
-            fault(&format!("{head}latest=1,2\n")),
-            "line 7: expected legs="
-        );
+        for line in ["rounds=2\n", "round=01\n", "round=1", "round=1\r\n", "\n"] {
+            let text = format!("{HEAD}round=1\n{line}");
+            assert_eq!(fault(&text), format!("line 11: {form}"));
+        }
     }
 
     #[test]
     fn no_round() {
-        let text = "k=2\nallowance=1\nlocations=1\ndepot=0\nend=0\nlegs=0\nlatest=1\nservice=0\n";
         assert_eq!(
-            Question::parse(text).err().unwrap(),
-            "line 9: expected round=, as no round was given"
+            fault(HEAD),
+            "line 10: expected round=, as no round was given"
         );
     }
 }

@@ -5,8 +5,9 @@ use mittenschist::{route_length, run_in_shares, Refusal, RoundReply, RoundState,
 
 /// A line for each round, or why the call was refused.
 pub fn share_all(question: &Question) -> Result<Vec<String>, Refusal> {
-    let lengths: Vec<usize> = question.rounds.iter().map(Vec::len).collect();
-    let mut stops = question.rounds.concat();
+    let before: Vec<Vec<u32>> = question.rounds.iter().cloned().collect::<Result<_, _>>()?;
+    let lengths: Vec<usize> = before.iter().map(Vec::len).collect();
+    let mut stops = before.concat();
     let rounds = Rounds {
         stops: &mut stops,
         lengths: &lengths,
@@ -18,7 +19,7 @@ pub fn share_all(question: &Question) -> Result<Vec<String>, Refusal> {
     let replies = run_in_shares(k, allowance, &question.tables(), rounds, &question.pairs)?;
     let mut rest = &stops[..];
     let mut lines = Vec::new();
-    for (reply, before) in replies.iter().zip(&question.rounds) {
+    for (reply, before) in replies.iter().zip(&before) {
         let (after, others) = rest.split_at(before.len());
         rest = others;
         lines.push(told(question, reply, before, after)?);

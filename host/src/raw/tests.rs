@@ -508,3 +508,48 @@ fn lists_and_rounds_of_nothing_with_no_pairs() {
     };
     assert_eq!(returned, [26, 0, 0]);
 }
+
+#[test]
+fn texts_of_nothing() {
+    let (legs, latest, service) = (LEGS.as_ptr(), LATEST.as_ptr(), SERVICE.as_ptr());
+    let mut size = [0];
+    // SAFETY: as said above.
+    let returned = unsafe {
+        [
+            mittenschist_read_problem(
+                null(),
+                0,
+                null_mut(),
+                0,
+                null_mut(),
+                0,
+                null_mut(),
+                0,
+                null_mut(),
+                0,
+                null_mut(),
+                0,
+            ),
+            mittenschist_write_problem(
+                2,
+                1,
+                1,
+                legs,
+                1,
+                latest,
+                1,
+                service,
+                1,
+                0,
+                0,
+                null(),
+                0,
+                null_mut(),
+                0,
+                size.as_mut_ptr(),
+                1,
+            ),
+        ]
+    };
+    assert_eq!((returned, size), ([10, 21], [0]));
+}

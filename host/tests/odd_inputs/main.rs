@@ -13,6 +13,7 @@ mod pairs;
 mod parts;
 mod polish;
 mod pools;
+mod problems;
 mod run;
 #[path = "../support/mod.rs"]
 mod support;

@@ -4,7 +4,7 @@ use native.Mathlib.Omega.{arith}
 use lib.Seq.{length-take-le}
 use Rattle.theory.specs.Tables.{tables}
 use Rattle.text_problem.specs.Judged.{question-in}
-use Rattle.text_problem.proofs.Judged.{Fits, fitting}
+use Rattle.text_problem.proofs.Judged.{lent-tables, Fits, fitting}
 use Rattle.text_polishing.proofs.Outcome.{fine, polished-in}
 use borrow.Author.Needs.{needs}
 use Rattle.text_polishing.proofs.polish_problem.Statement.{statement}
@@ -12,7 +12,7 @@ use Rattle.text_polishing.proofs.polish_problem.Tie as tie
 
 -- The problem lies within the lent places.
 fits-at : (s : tie.Start) → Fits (s .args .header) (s .args .count) (tables 96 (s .args .legs .now) (s .args .latest .now) (s .args .service .now)) (s .args .stops .now)
-fits-at s = fitting (s .args .header) (s .args .count) (s .pre .places) (s .pre .few-locations) (s .pre .few-stops)
+fits-at s = fitting (s .args .header) (s .args .count) (lent-tables (s .pre .places)) (s .pre .few-locations) (s .pre .few-stops)
 
 cast-k : tie.Need-cast-k
 cast-k c = search needs

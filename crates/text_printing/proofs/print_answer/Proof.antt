@@ -1,5 +1,5 @@
 -- `text_printing::print_answer` meets its contract: line by line. Assumes nothing.
-use mathlib.Core.Path.{_≡_, refl, sym}
+use mathlib.Core.Path.{_≡_, refl, sym, _∙_}
 use mathlib.Core.List.{List, [], _++_, append-nil}
 use Prim.Native.Nat.{ℕ}
 use Rattle.text_decimal.specs.Text.{ascii, line}
@@ -45,10 +45,10 @@ after-put : (c : tie.After-put-value4) →
     Left s (from-round (s .args .late) (s .args .route .now)) (c .put-value4 .last .1 .1 .0) (c .put-value4 .result)
 after-put c = put-more refl (before-put (c .before .before .before .before .before)) (c .put-value4 .ensures)
 
-round-put : (c : tie.After-put-route) →
-    let s = c .before .before .before .before .before .before .before .before .before .before .before .before .before .before .before .before .before .before .before .before .before .before .before .before .before .before .before .before in
-    Left s (late-line (s .args .late) (s .args .route .now)) (c .put-route .last .1 .0) (c .put-route .result)
-round-put c = put-more refl (after-put (c .before .before .before .before)) (c .put-route .ensures)
+round-put : (c : tie.After-put-line) →
+    let s = c .before .before .before .before .before .before .before .before .before .before .before .before .before .before .before .before .before .before .before .before .before .before .before .before .before .before .before .before .before in
+    Left s (late-line (s .args .late) (s .args .route .now)) (c .put-line .last .1 .1 .0) (c .put-line .result)
+round-put c = put-more refl (after-put (c .before .before .before .before .before)) (c .put-line .ensures)
 
 put-outcome-requires : tie.Need-put-outcome-requires
 put-outcome-requires c κs = put-room _ (lines (c .before .before .before)) (put-none (from-start (c .before .before .before .pre)))
@@ -77,14 +77,29 @@ slice-aggregate-put-value-4 c = search needs
 put-value-requires-4 : tie.Need-put-value-requires-4
 put-value-requires-4 c κs = put-room _ refl (before-put (c .before .before .before .before))
 
-put-route-requires : tie.Need-put-route-requires
-put-route-requires c κs = put-room _ refl (after-put (c .before .before .before))
+slice-aggregate-put-line : tie.Need-slice-aggregate-put-line
+slice-aggregate-put-line c = search needs
+
+put-line-requires : tie.Need-put-line-requires
+put-line-requires c κs = put-room _ refl (after-put (c .before .before .before .before))
 
 put-late-requires : tie.Need-put-late-requires
 put-late-requires c κs = put-room [] (sym (append-nil _)) (round-put (c .before .before .before))
 
 same-length : tie.Need-same-length
-same-length c = search needs
+same-length c =
+    let line = c .before .before .before .before .before .before in
+    let fourth = line .before .before .before .before .before in
+    let third = fourth .before .before .before .before .before in
+    let second = third .before .before .before .before .before in
+    let first = second .before .before .before .before .before in
+    c .before .before .put-late .kept .1 .1 .0
+    ∙ line .put-line .kept .1 .1 .0
+    ∙ fourth .put-value4 .kept .1 .1 .0
+    ∙ third .put-value3 .kept .1 .1 .0
+    ∙ second .put-value2 .kept .1 .1 .0
+    ∙ first .put-value .kept .1 .1 .0
+    ∙ first .before .before .before .before .before .put-outcome .kept .1 .0
 
 returns : tie.Need-returns
 returns c = printed (put-rest (round-put (c .before .before .before .before .before .before)) (c .before .before .put-late .ensures))
@@ -102,7 +117,8 @@ print-answer-spec =
     put-value-requires-3
     slice-aggregate-put-value-4
     put-value-requires-4
-    put-route-requires
+    slice-aggregate-put-line
+    put-line-requires
     put-late-requires
     same-length
     returns)

@@ -56,8 +56,15 @@ fn written(case: &Case) -> Vec<u8> {
 
 /// A case as the program reads it; an allowance that no text can hold becomes the largest.
 fn written_to(ended: &ends::Case) -> Vec<u8> {
+    let mut ended = ended.clone();
+    ended.closed.allowance = ended.closed.allowance.min(u64::from(u32::MAX));
+    text_of(&ended)
+}
+
+/// The lines of a case, whatever its values are.
+pub fn text_of(ended: &ends::Case) -> Vec<u8> {
     let case = &ended.closed;
-    let allowance = case.allowance.min(u64::from(u32::MAX));
+    let allowance = case.allowance;
     let Tables {
         locations,
         legs,
@@ -69,7 +76,7 @@ fn written_to(ended: &ends::Case) -> Vec<u8> {
         "k={}\nallowance={allowance}\nlocations={locations}\ndepot={}\nend={}\n",
         case.k, case.depot, ended.end
     );
-    for row in legs.chunks(*locations) {
+    for row in legs.chunks((*locations).max(1)) {
         text += &format!("legs={}\n", listed(row));
     }
     text += &format!("latest={}\nservice={}\n", listed(latest), listed(service));
@@ -78,11 +85,16 @@ fn written_to(ended: &ends::Case) -> Vec<u8> {
 }
 
 pub fn each_bound(random: &mut Random, visit: Visit) {
+    bounds(random, &mut |text| visit(Box::new(Text(text))));
+}
+
+/// Texts at the bounds of the form and of its values.
+pub fn bounds(random: &mut Random, visit: &mut dyn FnMut(Vec<u8>)) {
     for end in 0..4 {
         let closed = text_case(100);
-        visit(Box::new(Text(written_to(&ends::Case { closed, end }))));
+        visit(written_to(&ends::Case { closed, end }));
     }
-    let mut visit = |case: &Case| visit(Box::new(Text(written(case))));
+    let mut visit = |case: &Case| visit(written(case));
     for allowance in [0, 3, 10, 11, 100, u64::MAX] {
         visit(&text_case(allowance));
     }

@@ -7,7 +7,7 @@ use crate::oracle::polish::{polish, Counts};
 use crate::rules::MOST_BYTES;
 use crate::tables::{listed, Tables};
 
-const MOST_LOCATIONS: usize = 96;
+pub const MOST_LOCATIONS: usize = 96;
 
 /// A round polished by the unchanged Rust, with its lengths before and after.
 struct Polished {
@@ -75,7 +75,7 @@ fn late(case: &Case, round: &[u32]) -> String {
 }
 
 /// None where a text is not of the form.
-fn read(text: &[u8]) -> Option<Case> {
+pub fn read(text: &[u8]) -> Option<Case> {
     if text.len() > MOST_BYTES {
         return None;
     }
