@@ -4,7 +4,7 @@ ghost use Prim.Native.Nat.{_+_};
 ghost use Rattle.theory.specs.Route.{tour-length};
 ghost use Rattle.theory.specs.Polish.{move-at};
 ghost use Rattle.theory.specs.Moves.{patterns};
-ghost use Rattle.theory.specs.Tables.{tables, fleet, legs-only};
+ghost use Rattle.theory.specs.Tables.{tables, trip, fleet, legs-only};
 ghost use Rattle.theory.specs.Question.{question, question-with-pairs};
 ghost use Rattle.theory.specs.Refusals.{problem-rules};
 ghost use Rattle.entry_results.specs.Written.{Written};
@@ -17,6 +17,7 @@ ghost use Rattle.refusal_rules.specs.Rules.{route-length-rules, route-length-to
 ghost use Rattle.measure_calls.specs.Measures.{RouteLengthReply, RouteLengthToEndReply, DeltaReply, DeltaToEndReply, FeasibleReply, late-values};
 ghost use Rattle.cut_calls.specs.Cuts.{ReconnectionReply, NextCutSetReply, NextCutSetWritten, ReconnectReply, FindMoveReply, FindMoveWritten};
 ghost use Rattle.polish_calls.specs.Polishing.{PolishReply, PolishToEndReply, PolishWithPairsReply, PairLoopReply};
+ghost use Rattle.desks.specs.Desks.{WhichDesk, WhichOfTwo};
 ghost use Rattle.run_calls.specs.Runs.{RunReply, RunToEndsReply, RunWithPairsReply, SharesReply};
 use first_move::SoughtMove;
 use theory::CutStep;
@@ -696,5 +697,61 @@ pub extern "C" fn mittenschist_polish_with_patterns_and_pairs(
         pairs,
         route,
         result,
+    )
+}
+
+// Of two lists for one boat the desk's own, not a copy: the shorter that keeps deadlines and pairs, the first where they are equal; the part of the first with no
+// stop where neither does or polishing would refuse. No refusal number.
+pub fn which_of_two<'a>(
+    locations: usize,
+    legs: &[u32],
+    latest: &[u32],
+    service: &[u32],
+    depot: u32,
+    end: u32,
+    pairs: &[u32],
+    first: &'a [u32],
+    second: &'a [u32],
+) -> &'a [u32]
+    ensures { λ r. ⌜ WhichOfTwo (trip locations (now (legs .entry)) (now (latest .entry)) (now (service .entry)) depot end (now (pairs .entry))) (first .entry) (second .entry) r ⌝ }
+{
+    desks::which_of_two(
+        locations,
+        legs,
+        latest,
+        service,
+        depot,
+        end,
+        pairs,
+        first,
+        second,
+    )
+}
+
+// The same as a number, since C has no part of a slice: 1 the first, 2 the second, 0 neither.
+#[no_mangle]
+pub extern "C" fn mittenschist_which_of_two(
+    locations: usize,
+    legs: &[u32],
+    latest: &[u32],
+    service: &[u32],
+    depot: u32,
+    end: u32,
+    pairs: &[u32],
+    first: &[u32],
+    second: &[u32],
+) -> u32
+    ensures { λ r. ⌜ WhichDesk (trip locations (now (legs .entry)) (now (latest .entry)) (now (service .entry)) depot end (now (pairs .entry))) (now (first .entry)) (now (second .entry)) r ⌝ }
+{
+    desks::which_desk(
+        locations,
+        legs,
+        latest,
+        service,
+        depot,
+        end,
+        pairs,
+        first,
+        second,
     )
 }
