@@ -19,6 +19,12 @@ module _ (P : Problem) (first second : List ℕ) where
   does-not : (list : List ℕ) → feasible P list ≡ false → Feasible P list → ⊥
   does-not list e f = true≢false (sym (feasible-iff P list .1 f) ∙ e)
 
+  one-shorter : Chosen P first second 1 → Chosen P first second 2 → ⊥
+  one-shorter x y =
+      let a = x .of-first refl in
+      let b = y .of-second refl in
+      omega (arith, a .1 (b .0), b .1 (a .0))
+
   -- "Whichever is shorter and keeps deadlines and pairs. Where both keep them and are equal in length, the first. If only one keeps them, that one."
   pub which-chosen : Chosen P first second (which P first second)
   which-chosen = by (feasible P first) refl (feasible P second) refl (leb (tour-length P first) (tour-length P second)) refl
@@ -60,6 +66,22 @@ module _ (P : Problem) (first second : List ℕ) where
             of-second = λ h. absurd (omega (arith, h));
             of-neither = λ _. (does-not first e, does-not second f);
           }
+
+  -- No two answers say it of the same lists.
+  pub chosen-one : (a b : ℕ) → Chosen P first second a → Chosen P first second b → a ≡ b
+  chosen-one zero zero x y = refl
+  chosen-one zero (suc zero) x y = absurd (x .of-neither refl .0 (y .of-first refl .0))
+  chosen-one zero (suc (suc zero)) x y = absurd (x .of-neither refl .1 (y .of-second refl .0))
+  chosen-one (suc zero) zero x y = absurd (y .of-neither refl .0 (x .of-first refl .0))
+  chosen-one (suc zero) (suc zero) x y = refl
+  chosen-one (suc zero) (suc (suc zero)) x y = absurd (one-shorter x y)
+  chosen-one (suc (suc zero)) zero x y = absurd (y .of-neither refl .1 (x .of-second refl .0))
+  chosen-one (suc (suc zero)) (suc zero) x y = absurd (one-shorter y x)
+  chosen-one (suc (suc zero)) (suc (suc zero)) x y = refl
+  chosen-one (suc (suc (suc a))) b x y = absurd (omega (arith, x .known))
+  chosen-one zero (suc (suc (suc b))) x y = absurd (omega (arith, y .known))
+  chosen-one (suc zero) (suc (suc (suc b))) x y = absurd (omega (arith, y .known))
+  chosen-one (suc (suc zero)) (suc (suc (suc b))) x y = absurd (omega (arith, y .known))
 
 module _ (T : Trip) (first second : List ℕ) where
   -- Neither list is refused.

@@ -5,7 +5,7 @@ use crate::lent::Lent;
 use crate::rules::too_many_stops;
 use crate::tables::{listed, Tables};
 use crate::trial::{Reply, Trial};
-use mittenschist::{which_of_two, Harbours};
+use mittenschist::{which_of_two, Harbours, Pair};
 use std::fmt::{Display, Formatter, Result as Written};
 
 #[derive(Clone)]
@@ -52,9 +52,14 @@ impl Case {
 
     /// Which of the lists a part is of, by its place in memory, and how long it is. Pairs without a partner cannot be handed to the crate.
     fn handed(&self) -> Vec<u64> {
-        let (pairs, []) = self.tables.pairs().as_chunks::<2>() else {
+        let members = self.tables.pairs();
+        if members.len() % 2 == 1 {
             return vec![0, 0];
-        };
+        }
+        let pairs: Vec<Pair> = members
+            .chunks_exact(2)
+            .map(|pair| [pair[0], pair[1]])
+            .collect();
         let tables = mittenschist::Tables {
             locations: self.tables.locations,
             legs: &self.tables.legs,
@@ -65,7 +70,7 @@ impl Case {
             depot: self.depot,
             end: self.end,
         };
-        let part = which_of_two(&tables, harbours, pairs, &self.first, &self.second);
+        let part = which_of_two(&tables, harbours, &pairs, &self.first, &self.second);
         let lists = [&self.first, &self.second];
         let own = lists.iter().position(|list| list.as_ptr() == part.as_ptr());
         vec![own.map_or(9, |place| place as u64), part.len() as u64]

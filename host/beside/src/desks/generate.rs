@@ -7,7 +7,7 @@ use crate::ends::generate::some_end;
 use crate::parts::route::{damage_route, random_route, Route};
 use crate::precedence::lists::set_pairs;
 use crate::random::Random;
-use crate::trial::{damaged, Drawn, Trial};
+use crate::trial::{damaged, Drawn};
 use std::mem::{swap, take};
 
 pub fn draw(random: &mut Random, _index: u64) -> Drawn {
