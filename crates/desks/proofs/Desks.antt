@@ -98,3 +98,11 @@ module _ (T : Trip) (first second : List ℕ) where
       by : (a : Bool) → _≡_ {A = ℕ} (cond (a && false) (which (problem T) first second) 0) 0
       by true = refl
       by false = refl
+
+  -- There is no fourth answer.
+  pub desk-known : desk T first second ≤ 2
+  desk-known = by (taken T first && taken T second)
+    where
+      by : (b : Bool) → cond b (which (problem T) first second) 0 ≤ 2
+      by true = which-chosen (problem T) first second .known
+      by false = omega arith
