@@ -99,29 +99,15 @@ fn show_which<'a>(latest_of_1: u32, end: u32, pairs: &[u32], first: &'a [u32], s
     write(&line[..end_of_line]);
 }
 
-// Equal lists, a deadline, a pair, fewer stops that are longer, empty lists, another end.
+// The shorter, equal lists, a deadline, a pair, fewer stops that are longer to another end; neither, and a stop that is no location.
 fn show_desks() {
     show_which(99, 0, &[], &[1, 2], &[2, 1]);
-    show_which(99, 0, &[], &[2, 1], &[1, 2]);
     show_which(99, 0, &[], &[2, 1, 2], &[2, 1, 2]);
     show_which(4, 0, &[], &[1], &[2, 1]);
-    show_which(1, 0, &[], &[1, 2], &[2, 1]);
     show_which(99, 0, &[1, 2], &[1, 2], &[2, 1]);
-    show_which(99, 0, &[1, 2, 2, 1], &[1, 2], &[2, 1]);
-    show_which(99, 0, &[], &[1], &[2, 1]);
-    show_which(99, 0, &[], &[1, 2], &[]);
-    show_which(99, 0, &[], &[], &[0]);
     show_which(99, 2, &[], &[1], &[2, 1, 0, 2]);
-}
-
-// What polishing would refuse: a stop of either list, too many of them, the end, the pairs.
-fn show_refusable() {
+    show_which(1, 0, &[], &[1, 2], &[2, 1]);
     show_which(99, 0, &[], &[1, 2], &[3]);
-    show_which(99, 0, &[], &[3], &[1, 2]);
-    show_which(99, 0, &[], &[1, 2], &[0; 513]);
-    show_which(99, 3, &[], &[1, 2], &[2, 1]);
-    show_which(99, 0, &[1, 1], &[1, 2], &[2, 1]);
-    show_which(99, 0, &[1], &[1, 2], &[2, 1]);
 }
 
 fn main() {
@@ -133,5 +119,4 @@ fn main() {
     show_nearby(2.0, &mut [99usize; 2]);
     show_nearby(0.0 / 0.0, &mut [99usize; 3]);
     show_desks();
-    show_refusable();
 }
