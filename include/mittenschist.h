@@ -1,6 +1,6 @@
 /* Mittenschist: a route polisher by k-opt in which every answer is proved. Link libmittenschist.a (`rt staticlib mittenschist`).
  *
- * Every function returns 0, or the number of a refusal. It takes any numbers and any contents, judges them first, and then refuses or works;
+ * Every function returns 0, or the number of a refusal, but for mittenschist_which_of_two, which says of itself what it returns. It takes any numbers and any contents, judges them first, and then refuses or works;
  * every call ends. After a refusal all lent memory is as before. After 0, places beyond those that are said to be written are as before.
  * No pointer is kept, nothing is allocated, and there is no state between calls, so that calls may run on several threads at once. A
  * stack of 128 KiB suffices.
@@ -236,6 +236,19 @@ uint32_t mittenschist_run_in_shares(size_t k, uint64_t allowance, size_t locatio
     uint32_t *stops, size_t stops_len, const size_t *lengths, size_t lengths_len,
     const uint32_t *depots, size_t depots_len, const uint32_t *ends, size_t ends_len, const uint8_t *pins, size_t pins_len,
     const uint32_t *pairs, size_t pairs_len, uint64_t *result, size_t result_len);
+
+/* ---- Which of two lists ---- */
+
+/* Two desks each hand in a list for one boat: which of them to take. The shorter, from the depot to the end harbour, of those that keep every deadline
+ * and every pair; the first where both keep them and are equally long; the one that keeps them where only one does. The lists may have different stops.
+ *   legs, latest, service, depot, end, pairs  read     as for polishing with pairs
+ *   first, second                             read     the stops of each list, at most 512; they may be one and the same slice
+ * Returns 1 for the first, 2 for the second, 0 for neither; never the number of a refusal: where polishing would refuse the tables, depot, end, pairs or
+ * either list, whichever number that has, it is 0. */
+uint32_t mittenschist_which_of_two(size_t locations,
+    const uint32_t *legs, size_t legs_len, const uint32_t *latest, size_t latest_len, const uint32_t *service, size_t service_len,
+    uint32_t depot, uint32_t end, const uint32_t *pairs, size_t pairs_len, const uint32_t *first, size_t first_len,
+    const uint32_t *second, size_t second_len);
 
 /* ---- The others ---- */
 

@@ -1,8 +1,8 @@
 //! Polishes routes by k-opt. Every answer is proved: this crate calls the C functions of the Rattle library `mittenschist` and
 //! adds plain types.
 //!
-//! No input is out of bounds: each function judges what it is handed and answers a [`Refusal`] or does its work. After a refusal
-//! everything lent is as before. Nothing is judged here, so where several refusals apply, the one given is the library's first.
+//! No input is out of bounds: each function judges what it is handed and answers a [`Refusal`] or does its work; [`which_of_two`]
+//! alone has no refusal. After a refusal everything lent is as before. Nothing is judged here, so where several refusals apply, the one given is the library's first.
 //!
 //! ```
 //! use mittenschist::{polish_route, Ending, Tables};
@@ -23,6 +23,7 @@
 #![deny(unsafe_code)]
 #![warn(missing_docs)]
 
+mod desks;
 mod first_move;
 mod harbours;
 mod moves;
@@ -40,6 +41,7 @@ mod run;
 mod tables;
 mod unknown;
 
+pub use desks::which_of_two;
 pub use first_move::{find_move, Move};
 pub use harbours::Harbours;
 pub use moves::{k_opt_do_move, k_opt_is_doable, k_opt_undo_move};

@@ -89,6 +89,23 @@ extern "C" {
         result: *mut u64,
         result_len: usize,
     ) -> u32;
+    fn mittenschist_which_of_two(
+        locations: usize,
+        legs: *const u32,
+        legs_len: usize,
+        latest: *const u32,
+        latest_len: usize,
+        service: *const u32,
+        service_len: usize,
+        depot: u32,
+        end: u32,
+        pairs: *const u32,
+        pairs_len: usize,
+        first: *const u32,
+        first_len: usize,
+        second: *const u32,
+        second_len: usize,
+    ) -> u32;
     fn mittenschist_load_patterns(
         text: *const u8,
         text_len: usize,
@@ -584,6 +601,42 @@ pub fn read_problem(
             route.len(),
             result.as_mut_ptr(),
             result.len(),
+        )
+    }
+}
+
+/// 1 for the first list, 2 for the second, 0 for neither: no refusal number.
+#[must_use]
+#[allow(clippy::too_many_arguments)]
+pub fn which_of_two(
+    locations: usize,
+    legs: &[u32],
+    latest: &[u32],
+    service: &[u32],
+    depot: u32,
+    end: u32,
+    pairs: &[u32],
+    first: &[u32],
+    second: &[u32],
+) -> u32 {
+    // SAFETY: as said above.
+    unsafe {
+        mittenschist_which_of_two(
+            locations,
+            legs.as_ptr(),
+            legs.len(),
+            latest.as_ptr(),
+            latest.len(),
+            service.as_ptr(),
+            service.len(),
+            depot,
+            end,
+            pairs.as_ptr(),
+            pairs.len(),
+            first.as_ptr(),
+            first.len(),
+            second.as_ptr(),
+            second.len(),
         )
     }
 }

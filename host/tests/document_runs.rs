@@ -9,8 +9,9 @@ use mittenschist::{
     every_nearby_cuts, find_move, k_opt_do_move, k_opt_is_doable, k_opt_undo_move, nearby_cuts,
     next_cut_set, pair_loop, polish_route, polish_route_with_pairs, polish_with_patterns,
     polish_with_patterns_and_pairs, reconnection_at, route_feasible, route_length, run_in_shares,
-    run_list_k_opt, run_list_k_opt_with_pairs, Deadline, Ending, Harbours, Move, Pair, PairLooped,
-    PatternList, Patterns, Polished, Refusal, RoundReply, RoundState, Rounds, Tables,
+    run_list_k_opt, run_list_k_opt_with_pairs, which_of_two, Deadline, Ending, Harbours, Move,
+    Pair, PairLooped, PatternList, Patterns, Polished, Refusal, RoundReply, RoundState, Rounds,
+    Tables,
 };
 use support::lent::Lent;
 use support::{kept, written};
@@ -698,4 +699,50 @@ fn a_spent_round_keeps_its_changes() {
     let replies = run_in_shares(2, 5, &tables, rounds, &[]);
     assert_eq!(replies, Ok(vec![spent(3), spent(2)]));
     assert_eq!(stops, [2, 1, 3, 4, 2, 1, 3, 4]);
+}
+
+/// Where a list lies in memory, and how long it is.
+fn place(list: &[u32]) -> (*const u32, usize) {
+    (list.as_ptr(), list.len())
+}
+
+/// The text case's tables, with lists of two desks: the list that comes back is one of them, not a copy.
+#[test]
+fn the_desks_own_list() {
+    let which = |latest_of_1: u32, end: u32, pairs: &[Pair], first: &[u32], second: &[u32]| {
+        let latest = [NO_DEADLINE, latest_of_1, NO_DEADLINE];
+        let tables = Tables::without_service(3, &TEXT_LEGS, &latest);
+        let handed = which_of_two(&tables, Harbours { depot: 0, end }, pairs, first, second);
+        let lists = [first, second, &first[..0]];
+        let own = lists
+            .map(place)
+            .iter()
+            .position(|&list| list == place(handed));
+        own.expect("neither a list nor the empty part")
+    };
+    let (first, second, neither) = (0, 1, 2);
+    let free = |one: &[u32], other: &[u32]| which(NO_DEADLINE, 0, &[], one, other);
+    assert_eq!(free(&[1, 2], &[2, 1]), second);
+    assert_eq!(free(&[2, 1], &[1, 2]), first);
+    // Equal lists in two places, and one list twice.
+    assert_eq!(free(&[2, 1], &vec![2, 1]), first);
+    let list = [1, 2];
+    assert_eq!(free(&list, &list), first);
+    // 6 seconds and 3, then 10 and 4 to another end.
+    assert_eq!(free(&[1], &[2, 1]), second);
+    assert_eq!(which(NO_DEADLINE, 2, &[], &[1], &[2, 1, 0, 2]), second);
+    // An empty list has the one leg.
+    assert_eq!(free(&[1, 2], &[]), second);
+    // Deadlines and pairs.
+    assert_eq!(which(4, 0, &[], &[1, 2], &[2, 1]), second);
+    assert_eq!(which(1, 0, &[], &[1, 2], &[2, 1]), neither);
+    assert_eq!(which(NO_DEADLINE, 0, &[[1, 2]], &[1, 2], &[2, 1]), first);
+    let both_ways = [[1, 2], [2, 1]];
+    assert_eq!(which(NO_DEADLINE, 0, &both_ways, &[1, 2], &[2, 1]), neither);
+    // What polishing would refuse.
+    assert_eq!(free(&[1, 2], &[3]), neither);
+    assert_eq!(free(&[3], &[1, 2]), neither);
+    assert_eq!(free(&[1, 2], &[0; 513]), neither);
+    assert_eq!(which(NO_DEADLINE, 3, &[], &[1, 2], &[2, 1]), neither);
+    assert_eq!(which(NO_DEADLINE, 0, &[[1, 1]], &[1, 2], &[2, 1]), neither);
 }

@@ -5,7 +5,7 @@ ghost use Prim.Native.Nat.{_+_};
 ghost use Rattle.theory.specs.Route.{tour-length};
 ghost use Rattle.theory.specs.Polish.{move-at};
 ghost use Rattle.theory.specs.Moves.{patterns};
-ghost use Rattle.theory.specs.Tables.{tables, fleet, legs-only};
+ghost use Rattle.theory.specs.Tables.{tables, trip, fleet, legs-only};
 ghost use Rattle.theory.specs.Question.{question, question-with-pairs};
 ghost use Rattle.theory.specs.Refusals.{problem-rules};
 ghost use Rattle.entry_results.specs.Written.{Written};
@@ -18,12 +18,14 @@ ghost use Rattle.refusal_rules.specs.Rules.{route-length-rules, route-length-to
 ghost use Rattle.measure_calls.specs.Measures.{late-values};
 ghost use Rattle.cut_calls.specs.Cuts.{NextCutSetWritten, ReconnectReply, FindMoveWritten};
 ghost use Rattle.problem_calls.specs.Problems.{WriteReply, ReadReply};
+ghost use Rattle.desks.specs.Desks.{WhichDesk};
 ghost use Rattle.polish_calls.specs.Polishing.{PolishReply, PolishToEndReply, PolishWithPairsReply, PairLoopReply};
 ghost use Rattle.run_calls.specs.Runs.{RunReply, RunToEndsReply, RunWithPairsReply, SharesReply};
 pub use cut_calls::find_move;
 pub use cut_calls::next_cut_set;
 pub use cut_calls::reconnect;
 pub use cut_calls::reconnection_at;
+pub use desks::which_of_two;
 pub use listing_calls::every_nearby_cuts;
 pub use listing_calls::nearby_cuts;
 pub use measure_calls::delta;
@@ -630,4 +632,32 @@ pub extern "C" fn mittenschist_read_problem(
     ensures { λ r. ⌜ ReadReply (now (text .entry)) (now (legs .entry)) (now (latest .entry)) (now (service .entry)) (now (route .entry)) (now (result .entry)) r (now (legs .exit)) (now (latest .exit)) (now (service .exit)) (now (route .exit)) (now (result .exit)) ⌝ }
 {
     problem_reading::read_problem(text, legs, latest, service, route, result)
+}
+
+// Which of two lists for one boat, as `which_of_two`; as a number, since C has no part of a slice: 1 the first, 2 the second, 0 neither. No refusal number.
+#[no_mangle]
+pub extern "C" fn mittenschist_which_of_two(
+    locations: usize,
+    legs: &[u32],
+    latest: &[u32],
+    service: &[u32],
+    depot: u32,
+    end: u32,
+    pairs: &[u32],
+    first: &[u32],
+    second: &[u32],
+) -> u32
+    ensures { λ r. ⌜ WhichDesk (trip locations (now (legs .entry)) (now (latest .entry)) (now (service .entry)) depot end (now (pairs .entry))) (now (first .entry)) (now (second .entry)) r ⌝ }
+{
+    desks::which_desk(
+        locations,
+        legs,
+        latest,
+        service,
+        depot,
+        end,
+        pairs,
+        first,
+        second,
+    )
 }

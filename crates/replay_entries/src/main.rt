@@ -1,5 +1,5 @@
-// Runs what, beside the entries over cut points, only a Rattle program can call, a line each: the listing of nearby cuts with its answer as an enum, and the
-// first move with its answer as a struct.
+// Runs what, beside the entries over cut points, only a Rattle program can call, a line each: the listing of nearby cuts with its answer as an enum, the
+// first move with its answer as a struct, and which of two lists, with the list itself; beside it the number that C is told.
 use theory::Listing;
 ghost use Prim.Native.Nat.{_≤_};
 ghost use lib.ListN.{length};
@@ -61,6 +61,55 @@ fn show_move(k: usize, old: &[u32], wanted: &[u32]) {
     write(&line[..end]);
 }
 
+// The legs of the text case.
+const LEGS: [u32; 9] = [0, 5, 1, 1, 0, 5, 5, 1, 0];
+
+// Which of two lists from location 0: the number, and the list that is handed back.
+fn show_which<'a>(latest_of_1: u32, end: u32, pairs: &[u32], first: &'a [u32], second: &'a [u32]) {
+    let legs = LEGS;
+    let latest = [4294967295u32, latest_of_1, 4294967295];
+    let service = [0u32; 3];
+    let desk = mittenschist::mittenschist_which_of_two(
+        3,
+        &legs,
+        &latest,
+        &service,
+        0,
+        end,
+        pairs,
+        first,
+        second,
+    );
+    let list = mittenschist::which_of_two(
+        3,
+        &legs,
+        &latest,
+        &service,
+        0,
+        end,
+        pairs,
+        first,
+        second,
+    );
+    let mut line = [0u8; 1024];
+    let number = replay_lines::put_number(b"which ", desk as u64, &mut line, 0);
+    let word = replay_lines::put(b" list", &mut line, number);
+    let stops = replay_lines::put_stops(list, &mut line, word);
+    let end_of_line = replay_lines::put(b"\n", &mut line, stops);
+    write(&line[..end_of_line]);
+}
+
+// The shorter, equal lists, a deadline, a pair, fewer stops that are longer to another end; neither, and a stop that is no location.
+fn show_desks() {
+    show_which(99, 0, &[], &[1, 2], &[2, 1]);
+    show_which(99, 0, &[], &[2, 1, 2], &[2, 1, 2]);
+    show_which(4, 0, &[], &[1], &[2, 1]);
+    show_which(99, 0, &[1, 2], &[1, 2], &[2, 1]);
+    show_which(99, 2, &[], &[1], &[2, 1, 0, 2]);
+    show_which(1, 0, &[], &[1, 2], &[2, 1]);
+    show_which(99, 0, &[], &[1, 2], &[3]);
+}
+
 fn main() {
     show_move(3, &[1, 2], &[2, 1]);
     show_move(3, &[1], &[1]);
@@ -69,4 +118,5 @@ fn main() {
     show_nearby(2.0, &mut [99usize; 7]);
     show_nearby(2.0, &mut [99usize; 2]);
     show_nearby(0.0 / 0.0, &mut [99usize; 3]);
+    show_desks();
 }

@@ -22,6 +22,7 @@ mod heuristic;
 pub mod cases;
 pub mod checks;
 mod damage;
+pub mod desks;
 pub mod draw;
 pub mod driver;
 pub mod ends;

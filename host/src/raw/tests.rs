@@ -354,6 +354,33 @@ fn the_first_move_of_nothing() {
     assert_eq!((returned, result), ([25, 21, 0], [0, 9, 9, 9]));
 }
 
+/// Empty lists keep everything and are equally long; with no tables there is neither.
+#[test]
+fn which_of_nothing() {
+    // SAFETY: as said above.
+    let which = |locations| unsafe {
+        let none = null();
+        mittenschist_which_of_two(
+            locations,
+            LEGS.as_ptr(),
+            1,
+            LATEST.as_ptr(),
+            1,
+            SERVICE.as_ptr(),
+            1,
+            0,
+            0,
+            none,
+            0,
+            none,
+            0,
+            none,
+            0,
+        )
+    };
+    assert_eq!([which(1), which(2), which(0)], [1, 0, 0]);
+}
+
 /// No text, no rows and no room.
 #[test]
 fn lists_of_nothing() {

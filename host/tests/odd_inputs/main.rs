@@ -4,6 +4,7 @@
 
 #![forbid(unsafe_code)]
 
+mod desks;
 mod first_move;
 mod most_pairs;
 mod moves;

@@ -8,7 +8,7 @@ use beside::random::Random;
 use beside::trial::{judge, Drawn, Family, Reply, Source, Trial};
 use beside::watch::Watch;
 use beside::{
-    checks, ends, every, first_move, in_shares, lists, moves, nearby, pairs, parts, polish,
+    checks, desks, ends, every, first_move, in_shares, lists, moves, nearby, pairs, parts, polish,
     precedence, problems, run, season, text,
 };
 use std::collections::BTreeMap;
@@ -143,6 +143,7 @@ fn families() -> Vec<Family> {
     all.extend(precedence::FAMILIES);
     all.extend(in_shares::FAMILIES);
     all.extend(problems::FAMILIES);
+    all.extend(desks::FAMILIES);
     match text::program() {
         Ok(_) => all.extend(text::FAMILIES),
         Err(reason) => println!("the text program is not compared: {reason}"),

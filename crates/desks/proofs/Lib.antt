@@ -1,0 +1,4 @@
+pub mod Desks
+pub mod Judging
+pub mod Replies
+pub mod Runs
