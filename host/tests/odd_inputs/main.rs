@@ -18,3 +18,4 @@ mod run;
 #[path = "../support/mod.rs"]
 mod support;
 mod texts;
+mod way_back;
