@@ -319,6 +319,15 @@ uint32_t mittenschist_next_cut_set(size_t k, size_t n, size_t *cuts, size_t cuts
 uint32_t mittenschist_reconnect(size_t k, size_t pattern, const size_t *cuts, size_t cuts_len,
     const uint32_t *route, size_t route_len, uint32_t *out, size_t out_len);
 
+/* The way back of a move of a route of n stops, as a move: applied after it, it restores every route of n stops. Its first and last cut are
+ * the move's, and it reverses a segment exactly if that arrived reversed; the way back of the way back is the move. The index is always that
+ * of the built-in patterns.
+ *   cuts    read     k cuts
+ *   result  written  k + 1 places: the index of its pattern, then its k cuts
+ * Refuses 1, 5, 6, 7, 21 (result under k + 1 places). */
+uint32_t mittenschist_way_back(size_t k, size_t pattern, size_t n, const size_t *cuts, size_t cuts_len,
+    uint64_t *result, size_t result_len);
+
 /* The length of a route in seconds, from the depot back to it.
  *   legs, depot, route  read     as for polishing
  *   result              written  1 place: the length

@@ -40,6 +40,7 @@ mod refusal;
 mod run;
 mod tables;
 mod unknown;
+mod way_back;
 
 pub use desks::which_of_two;
 pub use first_move::{find_move, Move};
@@ -60,3 +61,4 @@ pub use run::{
     run_in_shares, run_list_k_opt, run_list_k_opt_with_pairs, RoundReply, RoundState, Rounds,
 };
 pub use tables::Tables;
+pub use way_back::way_back;

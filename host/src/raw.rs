@@ -278,6 +278,15 @@ extern "C" {
         result: *mut u64,
         result_len: usize,
     ) -> u32;
+    fn mittenschist_way_back(
+        k: usize,
+        pattern: usize,
+        n: usize,
+        cuts: *const usize,
+        cuts_len: usize,
+        result: *mut u64,
+        result_len: usize,
+    ) -> u32;
     fn mittenschist_nearby_cuts(
         n: usize,
         distances: *const f64,
@@ -976,6 +985,23 @@ pub fn find_move(k: usize, old: &[u32], wanted: &[u32], result: &mut [u64]) -> u
             old.len(),
             wanted.as_ptr(),
             wanted.len(),
+            result.as_mut_ptr(),
+            result.len(),
+        )
+    }
+}
+
+/// The result begins with the index of the pattern of the way back, then its k cuts.
+#[must_use]
+pub fn way_back(k: usize, pattern: usize, n: usize, cuts: &[usize], result: &mut [u64]) -> u32 {
+    // SAFETY: as said above.
+    unsafe {
+        mittenschist_way_back(
+            k,
+            pattern,
+            n,
+            cuts.as_ptr(),
+            cuts.len(),
             result.as_mut_ptr(),
             result.len(),
         )

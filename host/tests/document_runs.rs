@@ -9,9 +9,9 @@ use mittenschist::{
     every_nearby_cuts, find_move, k_opt_do_move, k_opt_is_doable, k_opt_undo_move, nearby_cuts,
     next_cut_set, pair_loop, polish_route, polish_route_with_pairs, polish_with_patterns,
     polish_with_patterns_and_pairs, reconnection_at, route_feasible, route_length, run_in_shares,
-    run_list_k_opt, run_list_k_opt_with_pairs, which_of_two, Deadline, Ending, Harbours, Move,
-    Pair, PairLooped, PatternList, Patterns, Polished, Refusal, RoundReply, RoundState, Rounds,
-    Tables,
+    run_list_k_opt, run_list_k_opt_with_pairs, way_back, which_of_two, Deadline, Ending, Harbours,
+    Move, Pair, PairLooped, PatternList, Patterns, Polished, Refusal, RoundReply, RoundState,
+    Rounds, Tables,
 };
 use support::lent::Lent;
 use support::{kept, written};
@@ -484,6 +484,31 @@ fn first_moves() {
     assert_eq!(first(2, &long[..3], &long[..4]), Err(Refusal::MoveRounds));
     assert_eq!(first(2, &long, &long), Err(Refusal::RoundSize));
     assert_eq!(first(6, &long, &long), Err(Refusal::CutCount));
+}
+
+/// The way back of a move, as the request's runs give it.
+#[test]
+fn ways_back() {
+    let back = |pattern, n, cuts: &[usize]| {
+        let back = way_back(3, pattern, n, cuts)?;
+        Ok::<_, Refusal>((back.pattern, back.cuts))
+    };
+    assert_eq!(back(3, 4, &[0, 1, 4]), Ok((3, vec![0, 3, 4])));
+    assert_eq!(back(4, 4, &[0, 1, 4]), Ok((5, vec![0, 3, 4])));
+    assert_eq!(back(5, 4, &[0, 1, 4]), Ok((4, vec![0, 3, 4])));
+    // Segments of one stop: pattern 1 would restore too.
+    assert_eq!(back(0, 2, &[0, 1, 2]), Ok((0, vec![0, 1, 2])));
+}
+
+/// How many patterns are their own inverses.
+#[test]
+fn own_inverses() {
+    let counts = [(2, 1), (3, 7), (4, 47), (5, 383)].map(|(k, patterns)| {
+        let cuts: Vec<usize> = (0..k).collect();
+        let own = |&pattern: &usize| way_back(k, pattern, k, &cuts).unwrap().pattern == pattern;
+        (0..patterns).filter(own).count()
+    });
+    assert_eq!(counts, [1, 5, 19, 75]);
 }
 
 /// The cases of ruling B57.

@@ -21,6 +21,7 @@ ghost use Rattle.problem_calls.specs.Problems.{WriteReply, ReadReply};
 ghost use Rattle.desks.specs.Desks.{WhichDesk};
 ghost use Rattle.polish_calls.specs.Polishing.{PolishReply, PolishToEndReply, PolishWithPairsReply, PairLoopReply};
 ghost use Rattle.run_calls.specs.Runs.{RunReply, RunToEndsReply, RunWithPairsReply, SharesReply};
+ghost use Rattle.way_back.specs.WayBack.{WayBackReply};
 pub use cut_calls::find_move;
 pub use cut_calls::next_cut_set;
 pub use cut_calls::reconnect;
@@ -498,6 +499,20 @@ pub extern "C" fn mittenschist_find_move(
     ensures { λ r. ⌜ FindMoveWritten k (now (old .entry)) (now (wanted .entry)) (now (result .entry)) r (now (result .exit)) ⌝ }
 {
     cut_calls::write_find_move(k, old, wanted, result)
+}
+
+// The way back of a move of a route of n stops, as a move: the result receives the index of its pattern, then its k cuts. Refuses 1, 5, 6, 7, 21.
+#[no_mangle]
+pub extern "C" fn mittenschist_way_back(
+    k: usize,
+    pattern: usize,
+    n: usize,
+    cuts: &[usize],
+    result: &mut [u64],
+) -> u32
+    ensures { λ r. ⌜ WayBackReply k pattern n (now (cuts .entry)) (now (result .entry)) r (now (result .exit)) ⌝ }
+{
+    way_back::way_back(k, pattern, n, cuts, result)
 }
 
 // ---- lists of patterns

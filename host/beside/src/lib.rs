@@ -54,3 +54,4 @@ pub mod text;
 pub mod trial;
 pub mod turns;
 pub mod watch;
+pub mod way_back;

@@ -381,6 +381,20 @@ fn which_of_nothing() {
     assert_eq!([which(1), which(2), which(0)], [1, 0, 0]);
 }
 
+/// No cuts, and then no room.
+#[test]
+fn the_way_back_of_nothing() {
+    // SAFETY: as said above.
+    let returned = unsafe {
+        let cuts = [0, 1];
+        [
+            mittenschist_way_back(2, 0, 0, null(), 0, null_mut(), 0),
+            mittenschist_way_back(2, 0, 1, cuts.as_ptr(), 2, null_mut(), 0),
+        ]
+    };
+    assert_eq!(returned, [7, 21]);
+}
+
 /// No text, no rows and no room.
 #[test]
 fn lists_of_nothing() {

@@ -19,3 +19,4 @@ mod run;
 #[path = "../support/mod.rs"]
 mod support;
 mod texts;
+mod way_back;

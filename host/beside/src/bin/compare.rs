@@ -9,7 +9,7 @@ use beside::trial::{judge, Drawn, Family, Reply, Source, Trial};
 use beside::watch::Watch;
 use beside::{
     checks, desks, ends, every, first_move, in_shares, lists, moves, nearby, pairs, parts, polish,
-    precedence, problems, run, season, text,
+    precedence, problems, run, season, text, way_back,
 };
 use std::collections::BTreeMap;
 use std::env;
@@ -144,6 +144,7 @@ fn families() -> Vec<Family> {
     all.extend(in_shares::FAMILIES);
     all.extend(problems::FAMILIES);
     all.extend(desks::FAMILIES);
+    all.extend(way_back::FAMILIES);
     match text::program() {
         Ok(_) => all.extend(text::FAMILIES),
         Err(reason) => println!("the text program is not compared: {reason}"),

@@ -1,0 +1,11 @@
+pub mod Places
+pub mod Bits
+pub mod Cutting
+pub mod Restoring
+pub mod Returning
+pub mod Listed
+pub mod Ends
+pub mod Rank
+pub mod PatternIndex
+pub mod GoesBack
+pub mod Runs

@@ -1,0 +1,1 @@
+// The way back of a move, as a move. Definitions and laws are in specs/ and proofs/.

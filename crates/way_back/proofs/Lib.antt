@@ -1,0 +1,5 @@
+pub mod Orders
+pub mod Ranks
+pub mod Index
+pub mod Cuts
+pub mod Replies

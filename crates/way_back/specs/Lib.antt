@@ -1,0 +1,2 @@
+-- The definitions that the contracts of `way_back` cite.
+pub mod WayBack
