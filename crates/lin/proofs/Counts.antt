@@ -34,12 +34,19 @@ pub count-head : (x : ℕ) (l : List ℕ) → count x (x ∷ l) ≡ suc (count x
 unfolding count total
 count-head x l = rw (eq-eqb x x refl) (omega arith)
 
+pub count-nil : (x : ℕ) → count x [] ≡ 0
+unfolding count total
+count-nil x = refl
+
 pub count-cons : (x y : ℕ) (l : List ℕ) → count x (y ∷ l) ≡ count x (y ∷ []) + count x l
 count-cons x y l = count-append x (y ∷ []) l
 
 pub count-more : (x y : ℕ) (l : List ℕ) → count x l ≤ count x (y ∷ l)
 unfolding count total
 count-more x y l = omega arith
+
+pub not-first : (x a : ℕ) (l : List ℕ) → count x (a ∷ l) ≡ 0 → x ≡ a → ⊥
+not-first x a l h e = omega (arith, count-head a l, rw e at h)
 
 -- ---- a link at the head of a list
 
@@ -52,6 +59,10 @@ joined x y a b h = by (eqb x a && eqb y b) refl h
     by : (t : Bool) → (eqb x a && eqb y b) ≡ t → (t || (eqb x b && eqb y a)) ≡ true → Joined x y a b
     by true e g = let u = and-eq-true-iff (eqb x a) (eqb y b) .0 e in inl (eqb-true x a (u .0), eqb-true y b (u .1))
     by false e g = let u = and-eq-true-iff (eqb x b) (eqb y a) .0 g in inr (eqb-true x b (u .0), eqb-true y a (u .1))
+
+pub no-link : (x y : ℕ) → 0 < link-count x y [] → ⊥
+unfolding link-count
+no-link x y h = omega arith
 
 pub first-or-later : (x y a b : ℕ) (ls : List (ℕ × ℕ)) → 0 < link-count x y ((a, b) ∷ ls) → Joined x y a b ⊎ (0 < link-count x y ls)
 unfolding link-count
@@ -121,16 +132,13 @@ unfolding inside links
 past-first x y a [] p q h = h
 past-first x y a (b ∷ l) p q h = ⊎-elim (⊎-elim (λ e. absurd (p (e .0))) (λ e. absurd (q (e .1)))) (λ g. g) (first-or-later x y a b (links b l) h)
 
-past : (x y : ℕ) (l m : List ℕ) → count x l ≡ 0 → count y l ≡ 0 → 0 < link-count x y (inside (l ++ m)) → 0 < link-count x y (inside m)
+pub past : (x y : ℕ) (l m : List ℕ) → count x l ≡ 0 → count y l ≡ 0 → 0 < link-count x y (inside (l ++ m)) → 0 < link-count x y (inside m)
 unfolding inside
 past x y [] m p q h = h
 past x y (a ∷ l) m p q h =
-    past x y l m (omega (arith, count-more x a l)) (omega (arith, count-more y a l)) (past-first x y a (l ++ m) (off x p) (off y q) h)
-  where
-    off : (z : ℕ) → count z (a ∷ l) ≡ 0 → z ≡ a → ⊥
-    off z c e = omega (arith, count-head a l, rw e at c)
+    past x y l m (omega (arith, count-more x a l)) (omega (arith, count-more y a l)) (past-first x y a (l ++ m) (not-first x a l p) (not-first y a l q) h)
 
-before : (x y : ℕ) (l m : List ℕ) → count x m ≡ 0 → count y m ≡ 0 → 0 < link-count x y (inside (l ++ m)) → 0 < link-count x y (inside l)
+pub before : (x y : ℕ) (l m : List ℕ) → count x m ≡ 0 → count y m ≡ 0 → 0 < link-count x y (inside (l ++ m)) → 0 < link-count x y (inside l)
 before x y l m p q h =
     let t : 0 < link-count x y (inside (reverse m ++ reverse l)) = rw reverse-append at (rw (← (inside-reverse x y (l ++ m))) at h) in
     rw inside-reverse at (past x y (reverse m) (reverse l) (count-reverse x m ∙ p) (count-reverse y m ∙ q) t)

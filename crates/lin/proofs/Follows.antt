@@ -21,7 +21,7 @@ count-none x h = omega arith
 elsewhere : (x a : ℕ) (l : List ℕ) → AllDifferent (a ∷ l) → 0 < count x l → x ≡ a → ⊥
 elsewhere x a l d h e = omega (arith, d a, count-head a l, rw e at h)
 
-first-link : (a y : ℕ) (q : List ℕ) → 0 < link-count a y (links a (y ∷ q))
+pub first-link : (a y : ℕ) (q : List ℕ) → 0 < link-count a y (links a (y ∷ q))
 unfolding links link-count
 first-link a y q = omega (arith, link-self a y)
 

@@ -5,3 +5,4 @@ pub mod Masks
 pub mod Gone
 pub mod Parted
 pub mod Open
+pub mod Closed
