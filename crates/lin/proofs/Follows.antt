@@ -52,9 +52,9 @@ follows a (y ∷ q) (z ∷ s) d e h =
   where
     on : (u v : ℕ) → 0 < link-count u v (links y q) → 0 < link-count u v (links z s)
     on = unfold inside in
-      λ u v g.
-      let t = ends u v y q g in
-      past-first u v a (z ∷ s) (elsewhere u a (y ∷ q) d (t .0)) (elsewhere v a (y ∷ q) d (t .1)) (h u v (later-link u v a y q g))
+        λ u v g.
+        let t = ends u v y q g in
+        past-first u v a (z ∷ s) (elsewhere u a (y ∷ q) d (t .0)) (elsewhere v a (y ∷ q) d (t .1)) (h u v (later-link u v a y q g))
 
 -- A stop of a list, with what stands before it, read backwards, and what stands behind it.
 around : (x : ℕ) (p l : List ℕ) → 0 < count x l → (before : List ℕ) × (behind : List ℕ) × (reverseAux p l ≡ reverseAux before (x ∷ behind))
@@ -72,9 +72,10 @@ count-around z x p l = rw (reverseAux-eq p (x ∷ l), count-append, count-revers
 -- A part that holds the first stop begins or ends with it, and the route begins with the part or with its reverse.
 module _ (q : List ℕ) (x : ℕ) (s : List ℕ) (d : AllDifferent q) (e : AllDifferent (x ∷ s)) (k : Among (inside q) (links x s)) where
   both-ways : (p l : List ℕ) → q ≡ reverseAux p (x ∷ l) → ((t : List ℕ) × (s ≡ p ++ t)) × ((t : List ℕ) × (s ≡ l ++ t))
-  both-ways p l i =
-      (follows x p s (λ z. omega (arith, d z, c z, count-cons z x p, count-cons z x l)) e (λ u v g. k u v (rw i (rw inside-reverseAux (omega arith)))),
-      follows x l s (λ z. omega (arith, d z, c z)) e (λ u v g. k u v (rw i (rw inside-reverseAux (omega arith)))))
+  both-ways p l i = (
+    follows x p s (λ z. omega (arith, d z, c z, count-cons z x p, count-cons z x l)) e (λ u v g. k u v (rw i (rw inside-reverseAux (omega arith)))),
+    follows x l s (λ z. omega (arith, d z, c z)) e (λ u v g. k u v (rw i (rw inside-reverseAux (omega arith)))),
+  )
     where
       c : (z : ℕ) → count z q ≡ count z p + count z (x ∷ l)
       c z = ap (count z) i ∙ count-around z x p l

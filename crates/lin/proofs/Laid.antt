@@ -72,8 +72,8 @@ module _ (q : ℕ → List ℕ) where
             all = λ z. omega (arith, h .all z, counted z, total-picks (λ i. count z (q i)) is p m);
             full = λ j k. h .full j (picks-sub is p m j k);
             kept = λ j k.
-              in-back (q j) (reverse-if b (q (p .0))) t (λ z. rw (← e) (h .stops z)) (λ u v g. rw (← e) (h .kept j (picks-sub is p m j k) u v g))
-              (λ z c. omega (arith, h .all z, counted z, total-picks (λ i. count z (q i)) is p m, at-most (λ i. count z (q i)) (p .1) j k));
+                in-back (q j) (reverse-if b (q (p .0))) t (λ z. rw (← e) (h .stops z)) (λ u v g. rw (← e) (h .kept j (picks-sub is p m j k) u v g))
+                (λ z c. omega (arith, h .all z, counted z, total-picks (λ i. count z (q i)) is p m, at-most (λ i. count z (q i)) (p .1) j k));
           }
 
       and-the-rest : Laid (p .1) t → Laid is (x ∷ s)

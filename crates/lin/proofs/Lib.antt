@@ -6,3 +6,5 @@ pub mod Gone
 pub mod Parted
 pub mod Open
 pub mod Closed
+pub mod Complete
+pub mod Finished

@@ -100,11 +100,12 @@ module _ (m a e : ℕ) (r s : List ℕ) (d : AllDifferent (a ∷ (r ++ (e ∷ []
           at : (i : ℕ) → 1 ≤ i → i < 1 + m → List·Memᴰ i (upfrom 1 m) → (0 < length (q i)) × Among (inside (q i)) (inside t)
           at zero h l k = absurd (omega arith)
           at (suc j) h l k =
-              let v = middle-whole e (links a (s ++ (e ∷ []))) (a ∷ f) ps (suc j) (omega arith) w in
-              (v .0,
-              in-back (q (suc j)) (a ∷ f) t (λ x. omega (arith, old-tour x, between x, count-append x (a ∷ f) t, count-cons x a f))
-              (λ x y g. rw (← start) (before-the-end (q (suc j)) (v .1) (λ x c. omega (arith, counted x, count-cons x a u, at-most (λ i. count x (q i)) (upfrom 1 m) (suc j) k)) x y g))
-              (λ x c. omega (arith, between x, at-most (λ i. count x (q i)) (upfrom 1 m) (suc j) k)))
+              let v = middle-whole e (links a (s ++ (e ∷ []))) (a ∷ f) ps (suc j) (omega arith) w in (
+                v .0,
+                in-back (q (suc j)) (a ∷ f) t (λ x. omega (arith, old-tour x, between x, count-append x (a ∷ f) t, count-cons x a f))
+                    (λ x y g. rw (← start) (before-the-end (q (suc j)) (v .1) (λ x c. omega (arith, counted x, count-cons x a u, at-most (λ i. count x (q i)) (upfrom 1 m) (suc j) k)) x y g))
+                    (λ x c. omega (arith, between x, at-most (λ i. count x (q i)) (upfrom 1 m) (suc j) k)),
+              )
 
       laid-between : Laid q (upfrom 1 m) t
       laid-between =

@@ -1,0 +1,36 @@
+-- Cut sets and patterns miss no exchange, and have none too many. Assumes nothing.
+use mathlib.Core.Path.{_≡_, refl, sym, ap, _∙_}
+use mathlib.Core.List.{List, [], _∷_, _++_}
+use Prim.Native.Nat.{ℕ, suc, _+_, _≤_}
+use native.Mathlib.Omega.{arith}
+use lib.ListN.{length}
+use Rattle.theory.specs.Moves.{Move}
+use Rattle.theory.specs.Route.{Problem, reconnected, count}
+use Rattle.theory.specs.Links.{links, tour-links, cut-links, new-links}
+use Rattle.theory.proofs.Moves.{pattern-shape, rearranges}
+use Rattle.theory.proofs.Route.{total-reconnected}
+use Rattle.theory.proofs.Links.{exchanged}
+use Rattle.lin.specs.Lin.{SameStops, Differs, Candidate, OpenComplete, ClosedComplete, Sound}
+use Rattle.lin.proofs.Gone.{gone, differs-gone}
+use Rattle.lin.proofs.Open.{open-reached}
+use Rattle.lin.proofs.Closed.{closed-reached}
+
+pub open-complete : (m : ℕ) (P : Problem) (r : List ℕ) → OpenComplete (suc m) P r
+open-complete m P r d room s same x =
+    let g : gone (links (P .depot) (s ++ (P .end ∷ []))) (links (P .depot) (r ++ (P .end ∷ []))) ≤ suc m = unfold tour-links in differs-gone (suc m) P r s x in
+    open-reached m (P .depot) (P .end) r s d (omega arith) same g
+
+pub closed-complete : (m : ℕ) (P : Problem) (r : List ℕ) → ClosedComplete (suc m) P r
+closed-complete m P r back d room s same x =
+    let g : gone (links (P .depot) (s ++ (P .end ∷ []))) (links (P .depot) (r ++ (P .end ∷ []))) ≤ suc m = unfold tour-links in differs-gone (suc m) P r s x in
+    closed-reached m (P .depot) r s d (omega arith) same (rw back at g)
+
+pub sound : (m : ℕ) (P : Problem) (r : List ℕ) → Sound (suc m) P r
+sound m P r s c =
+    let v : Move = record { cuts = c .cuts; pattern = c .pattern } in
+    let x = exchanged P (c .cuts) r m (c .many) (c .rising) (c .pattern) (pattern-shape m (c .pattern) (c .known)) in
+    let same : SameStops r (reconnected v r) =
+    λ y. unfold count in total-reconnected _ (length r) v r (c .rising) (λ h. rw (c .many) (rearranges m (c .pattern) (c .known) h)) in
+    let differs : Differs (suc m) P r (reconnected v r) =
+    record { out = cut-links P r (c .cuts); put = new-links P r v; few = omega (arith, x .dropped); stood = x .stood; exchange = x .exchange } in
+    rw (c .made) (same, differs)
