@@ -145,8 +145,32 @@ fn put_stops(code: u64, order: &mut [u32], back: &mut [u32]) -> u64 {
     sum
 }
 
-// The order with a number, counted if each stop stands in it.
-fn judge(
+// An order counted: whether it is within, a candidate, a candidate backwards.
+fn counted(within: bool, candidate: bool, backwards: bool, counts: Counts) -> Counts {
+    let missed = if candidate { false } else { !backwards };
+    if within {
+        return Counts {
+            within: wrapping_add_u64(counts.within, 1),
+            missed: wrapping_add_u64(counts.missed, one_if(missed)),
+            beyond: counts.beyond,
+        };
+    }
+    Counts {
+        within: counts.within,
+        missed: counts.missed,
+        beyond: wrapping_add_u64(counts.beyond, one_if(candidate)),
+    }
+}
+
+fn judge(k: usize, old: &[u32], order: &[u32], back: &[u32], counts: Counts) -> Counts {
+    let within = lost(old, order) <= k as u64;
+    let candidate = is_candidate(k, old, order);
+    let backwards = is_candidate(k, old, back);
+    counted(within, candidate, backwards, counts)
+}
+
+// The order with a number, if each stop stands in it.
+fn judge_order(
     k: usize,
     code: u64,
     old: &[u32],
@@ -154,17 +178,10 @@ fn judge(
     back: &mut [u32],
     counts: Counts,
 ) -> Counts {
-    if put_stops(code, order, back) != full(old.len()) {
-        return counts;
+    if put_stops(code, order, back) == full(old.len()) {
+        return judge(k, old, &order[..], &back[..], counts);
     }
-    let within = lost(old, &order[..]) <= k as u64;
-    let candidate = is_candidate(k, old, &order[..]);
-    let reached = candidate || is_candidate(k, old, &back[..]);
-    Counts {
-        within: wrapping_add_u64(counts.within, one_if(within)),
-        missed: wrapping_add_u64(counts.missed, one_if(within && !reached)),
-        beyond: wrapping_add_u64(counts.beyond, one_if(candidate && !within)),
-    }
+    counts
 }
 
 // Every number of n digits.
@@ -176,7 +193,7 @@ fn count(k: usize, codes: u64, old: &[u32], order: &mut [u32], back: &mut [u32])
     };
     let mut code = 0u64;
     while code < codes {
-        counts = judge(k, code, old, order, back, counts);
+        counts = judge_order(k, code, old, order, back, counts);
         code += 1;
     }
     counts

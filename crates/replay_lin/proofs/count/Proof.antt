@@ -16,8 +16,8 @@ abbrev μ-loop : tie.MeasureT-loop
 loop-holds : tie.Need-loop-holds Inv-loop μ-loop
 loop-holds c = search needs
 
-judge-requires : tie.Need-judge-requires Inv-loop μ-loop
-judge-requires c κs = search needs
+judge-order-requires : tie.Need-judge-order-requires Inv-loop μ-loop
+judge-order-requires c κs = search needs
 
 add-code : tie.Need-add-code Inv-loop μ-loop
 add-code c = search needs
@@ -44,7 +44,7 @@ count-spec =
     Inv-loop
     μ-loop
     loop-holds
-    judge-requires
+    judge-order-requires
     add-code
     loop-less
     loop-again
