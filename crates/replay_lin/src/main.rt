@@ -100,6 +100,54 @@ fn other_digits(code: u64, n: u64) -> u64 {
     code / n
 }
 
+// The last six digits, as stops.
+fn stops_of(code: u64, n: u64) -> [u32; 6] {
+    let b = other_digits(code, n);
+    let c = other_digits(b, n);
+    let d = other_digits(c, n);
+    let e = other_digits(d, n);
+    let f = other_digits(e, n);
+    [
+        last_stop(code, n),
+        last_stop(b, n),
+        last_stop(c, n),
+        last_stop(d, n),
+        last_stop(e, n),
+        last_stop(f, n),
+    ]
+}
+
+fn stop_at(stops: [u32; 6], place: usize) -> u32 {
+    match place {
+        0 => stops[0],
+        1 => stops[1],
+        2 => stops[2],
+        3 => stops[3],
+        4 => stops[4],
+        5 => stops[5],
+        _ => 0,
+    }
+}
+
+// The stop at a place of the first n, read backwards.
+fn back_at(stops: [u32; 6], n: usize, place: usize) -> u32 {
+    if place < n {
+        return stop_at(stops, n - 1 - place);
+    }
+    0
+}
+
+fn backwards(stops: [u32; 6], n: usize) -> [u32; 6] {
+    [
+        back_at(stops, n, 0),
+        back_at(stops, n, 1),
+        back_at(stops, n, 2),
+        back_at(stops, n, 3),
+        back_at(stops, n, 4),
+        back_at(stops, n, 5),
+    ]
+}
+
 // Sums of these say how often each stop stands.
 fn weight(stop: u32) -> u64 {
     match stop {
@@ -111,6 +159,15 @@ fn weight(stop: u32) -> u64 {
         6 => 32768,
         _ => 0,
     }
+}
+
+// The weight of the first n, which stand in `back` with nothing else.
+fn weight_of(back: [u32; 6]) -> u64 {
+    let two = wrapping_add_u64(weight(back[0]), weight(back[1]));
+    let three = wrapping_add_u64(two, weight(back[2]));
+    let four = wrapping_add_u64(three, weight(back[3]));
+    let five = wrapping_add_u64(four, weight(back[4]));
+    wrapping_add_u64(five, weight(back[5]))
 }
 
 // The weight of 1, 2, .., n.
@@ -125,29 +182,9 @@ fn full(n: usize) -> u64 {
     }
 }
 
-// The digits of a number as stops, and backwards; their weight.
-fn put_stops(code: u64, order: &mut [u32], back: &mut [u32]) -> u64 {
-    let n = order.len();
-    if back.len() != n {
-        return 0;
-    }
-    let mut rest = code;
-    let mut sum = 0u64;
-    let mut place = 0;
-    while place < n {
-        let stop = last_stop(rest, n as u64);
-        order[place] = stop;
-        back[n - 1 - place] = stop;
-        sum = wrapping_add_u64(sum, weight(stop));
-        rest = other_digits(rest, n as u64);
-        place += 1;
-    }
-    sum
-}
-
 // An order counted: whether it is within, a candidate, a candidate backwards.
-fn counted(within: bool, candidate: bool, backwards: bool, counts: Counts) -> Counts {
-    let missed = if candidate { false } else { !backwards };
+fn counted(within: bool, candidate: bool, back: bool, counts: Counts) -> Counts {
+    let missed = if candidate { false } else { !back };
     if within {
         return Counts {
             within: wrapping_add_u64(counts.within, 1),
@@ -165,27 +202,39 @@ fn counted(within: bool, candidate: bool, backwards: bool, counts: Counts) -> Co
 fn judge(k: usize, old: &[u32], order: &[u32], back: &[u32], counts: Counts) -> Counts {
     let within = lost(old, order) <= k as u64;
     let candidate = is_candidate(k, old, order);
-    let backwards = is_candidate(k, old, back);
-    counted(within, candidate, backwards, counts)
+    let turned = is_candidate(k, old, back);
+    counted(within, candidate, turned, counts)
+}
+
+fn first(stops: &[u32], n: usize) -> &[u32] {
+    if n > stops.len() {
+        return stops;
+    }
+    &stops[..n]
+}
+
+fn judge_first(k: usize, n: usize, order: [u32; 6], back: [u32; 6], counts: Counts) -> Counts {
+    judge(
+        k,
+        first(&[1, 2, 3, 4, 5, 6], n),
+        first(&order, n),
+        first(&back, n),
+        counts,
+    )
 }
 
 // The order with a number, if each stop stands in it.
-fn judge_order(
-    k: usize,
-    code: u64,
-    old: &[u32],
-    order: &mut [u32],
-    back: &mut [u32],
-    counts: Counts,
-) -> Counts {
-    if put_stops(code, order, back) == full(old.len()) {
-        return judge(k, old, &order[..], &back[..], counts);
+fn judge_order(k: usize, n: usize, code: u64, counts: Counts) -> Counts {
+    let order = stops_of(code, n as u64);
+    let back = backwards(order, n);
+    if weight_of(back) == full(n) {
+        return judge_first(k, n, order, back, counts);
     }
     counts
 }
 
 // Every number of n digits.
-fn count(k: usize, codes: u64, old: &[u32], order: &mut [u32], back: &mut [u32]) -> Counts {
+fn count(k: usize, n: usize, codes: u64) -> Counts {
     let mut counts = Counts {
         within: 0,
         missed: 0,
@@ -193,7 +242,7 @@ fn count(k: usize, codes: u64, old: &[u32], order: &mut [u32], back: &mut [u32])
     };
     let mut code = 0u64;
     while code < codes {
-        counts = judge_order(k, code, old, order, back, counts);
+        counts = judge_order(k, n, code, counts);
         code += 1;
     }
     counts
@@ -210,53 +259,34 @@ fn write_counts(n: usize, k: usize, counts: Counts) {
     write(&line[..end]);
 }
 
-fn show(k: usize, codes: u64, old: &[u32], order: &mut [u32], back: &mut [u32]) {
-    let counts = count(k, codes, old, order, back);
-    write_counts(old.len(), k, counts);
-}
-
-fn show_2(k: usize) {
-    show(k, 4, &[1, 2], &mut [0u32; 2], &mut [0u32; 2]);
-}
-
-fn show_3(k: usize) {
-    show(k, 27, &[1, 2, 3], &mut [0u32; 3], &mut [0u32; 3]);
-}
-
-fn show_4(k: usize) {
-    show(k, 256, &[1, 2, 3, 4], &mut [0u32; 4], &mut [0u32; 4]);
-}
-
-fn show_5(k: usize) {
-    show(k, 3125, &[1, 2, 3, 4, 5], &mut [0u32; 5], &mut [0u32; 5]);
-}
-
-fn show_6(k: usize) {
-    show(
-        k,
-        46656,
-        &[1, 2, 3, 4, 5, 6],
-        &mut [0u32; 6],
-        &mut [0u32; 6],
-    );
+// All orders of n stops: n to the n numbers have n digits.
+fn show(n: usize, k: usize) {
+    let codes = match n {
+        2 => 4,
+        3 => 27,
+        4 => 256,
+        5 => 3125,
+        _ => 46656,
+    };
+    write_counts(n, k, count(k, n, codes));
 }
 
 fn main() {
-    show_2(2);
-    show_2(3);
-    show_3(2);
-    show_3(3);
-    show_3(4);
-    show_4(2);
-    show_4(3);
-    show_4(4);
-    show_4(5);
-    show_5(2);
-    show_5(3);
-    show_5(4);
-    show_5(5);
-    show_6(2);
-    show_6(3);
-    show_6(4);
-    show_6(5);
+    show(2, 2);
+    show(2, 3);
+    show(3, 2);
+    show(3, 3);
+    show(3, 4);
+    show(4, 2);
+    show(4, 3);
+    show(4, 4);
+    show(4, 5);
+    show(5, 2);
+    show(5, 3);
+    show(5, 4);
+    show(5, 5);
+    show(6, 2);
+    show(6, 3);
+    show(6, 4);
+    show(6, 5);
 }

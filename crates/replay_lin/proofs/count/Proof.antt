@@ -8,10 +8,10 @@ use Rattle.replay_lin.proofs.count.Statement.{statement}
 use Rattle.replay_lin.proofs.count.Tie as tie
 
 abbrev Inv-loop : tie.InvT-loop
-Inv-loop k codes old order₀ back₀ counts₀ code₀ order back counts code = (length order ≡ length order₀) × (length back ≡ length back₀) × (code ≤ codes)
+Inv-loop k n codes counts₀ code₀ counts code = code ≤ codes
 
 abbrev μ-loop : tie.MeasureT-loop
-μ-loop k codes old order₀ back₀ counts₀ code₀ order back counts code = codes - code
+μ-loop k n codes counts₀ code₀ counts code = codes - code
 
 loop-holds : tie.Need-loop-holds Inv-loop μ-loop
 loop-holds c = search needs
@@ -28,12 +28,6 @@ loop-less c = search needs
 loop-again : tie.Need-loop-again Inv-loop μ-loop
 loop-again c = search needs
 
-same-length : tie.Need-same-length Inv-loop μ-loop
-same-length c = search needs
-
-same-length-2 : tie.Need-same-length-2 Inv-loop μ-loop
-same-length-2 c = search needs
-
 returns : tie.Need-returns Inv-loop μ-loop
 returns c = search needs
 
@@ -48,6 +42,4 @@ count-spec =
     add-code
     loop-less
     loop-again
-    same-length
-    same-length-2
     returns)
