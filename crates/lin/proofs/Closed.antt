@@ -1,6 +1,6 @@
 -- Back to the depot: the same, in one of the two directions. The tour is read towards a new end harbour, in the direction in which the first and the last stop of
 -- the old route stay at the end at which they are. Assumes nothing.
-use mathlib.Core.Path.{_≡_, refl, sym, ap, ap₂, _∙_, subst}
+use mathlib.Core.Path.{_≡_, refl, sym, ap, _∙_, subst}
 use mathlib.Core.Logic.{_⊎_, inl, inr, ⊎-elim}
 use mathlib.Core.List.{List, [], _∷_, _++_, reverse, reverseAux}
 use Prim.Native.Nat.{ℕ, zero, suc, _+_, _≤_, _<_}
@@ -14,7 +14,7 @@ use Rattle.theory.specs.Links.{links, link-count}
 use Rattle.theory.proofs.Moves.{total-ones}
 use Rattle.theory.proofs.Orders.{count-other, mem-count, same-counts}
 use Rattle.lin.specs.Lin.{SameStops, AllDifferent, Reached}
-use Rattle.lin.proofs.Counts.{count-nil, count-append, count-cons, count-reverse, count-head, count-more, not-first, no-link, first-or-later, hit, link-either, link-self, inside, ends, inside-reverse, past-first, before}
+use Rattle.lin.proofs.Counts.{count-nil, count-append, count-reverse, count-head, count-more, not-first, no-link, first-or-later, link-either, link-self, inside, ends, inside-reverse, past-first, before}
 use Rattle.lin.proofs.Follows.{first-link}
 use Rattle.lin.proofs.Laid.{at-most}
 use Rattle.lin.proofs.Gone.{lost, lost-none, lost-one, gone, gone-append}

@@ -1,7 +1,6 @@
 -- Cut sets and patterns miss no exchange, and have none too many. Assumes nothing.
-use mathlib.Core.Path.{_≡_, refl, sym, ap, _∙_}
 use mathlib.Core.List.{List, [], _∷_, _++_}
-use Prim.Native.Nat.{ℕ, suc, _+_, _≤_}
+use Prim.Native.Nat.{ℕ, suc, _≤_}
 use native.Mathlib.Omega.{arith}
 use lib.ListN.{length}
 use Rattle.theory.specs.Moves.{Move}
@@ -10,7 +9,7 @@ use Rattle.theory.specs.Links.{links, tour-links, cut-links, new-links}
 use Rattle.theory.proofs.Moves.{pattern-shape, rearranges}
 use Rattle.theory.proofs.Route.{total-reconnected}
 use Rattle.theory.proofs.Links.{exchanged}
-use Rattle.lin.specs.Lin.{SameStops, Differs, Candidate, OpenComplete, ClosedComplete, Sound}
+use Rattle.lin.specs.Lin.{SameStops, Differs, OpenComplete, ClosedComplete, Sound}
 use Rattle.lin.proofs.Gone.{gone, differs-gone}
 use Rattle.lin.proofs.Open.{open-reached}
 use Rattle.lin.proofs.Closed.{closed-reached}

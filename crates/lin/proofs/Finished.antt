@@ -1,19 +1,19 @@
 -- What finished means in Lin's words. Assumes nothing.
-use mathlib.Core.Path.{_≡_, refl, sym, ap, _∙_}
+use mathlib.Core.Path.{_≡_, refl, ap, _∙_}
 use mathlib.Core.Bool.{true}
-use mathlib.Core.Logic.{_⊎_, inl, inr, ⊎-elim, _↔_}
+use mathlib.Core.Logic.{inr, ⊎-elim, _↔_}
 use mathlib.Core.List.{List, [], _∷_, _++_, reverse, reverseAux, reverseAux-append, reverseAux-eq}
 use Prim.Native.Nat.{ℕ, suc, _+_, _≤_}
 use native.Mathlib.Omega.{arith}
 use lib.ListN.{length}
 use Rattle.theory.specs.Moves.{patterns}
-use Rattle.theory.specs.Route.{Problem, path, tour-length, Feasible, count}
+use Rattle.theory.specs.Route.{Problem, path, tour-length}
 use Rattle.theory.specs.Costs.{inner}
 use Rattle.theory.specs.Polish.{polish, KOptimal}
 use Rattle.theory.proofs.Moves.{total-ones}
 use Rattle.theory.proofs.Orders.{same-counts}
 use Rattle.theory.proofs.Polish.{polish-demand3}
-use Rattle.lin.specs.Lin.{SameStops, AllDifferent, Differs, LinOptimal, Candidate, Reached, NoBetter, SameBothWays, EveryOrderFeasible, EachWay, LinFinished}
+use Rattle.lin.specs.Lin.{SameStops, AllDifferent, Differs, LinOptimal, Candidate, Reached, NoBetter, SameBothWays, EveryOrderFeasible, LinFinished}
 use Rattle.lin.proofs.Counts.{count-append, count-cons, count-reverse}
 use Rattle.lin.proofs.Complete.{open-complete, closed-complete, sound}
 

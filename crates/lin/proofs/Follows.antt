@@ -3,7 +3,7 @@ use mathlib.Core.Path.{_≡_, refl, sym, ap, ap₂, _∙_}
 use mathlib.Core.Bool.{Bool, true, false}
 use mathlib.Core.Logic.{⊎-elim}
 use mathlib.Core.List.{List, [], _∷_, _++_, reverse, reverseAux, reverse-reverse, reverse-append, reverseAux-eq, tail-eq-of-cons-eq}
-use Prim.Native.Nat.{ℕ, zero, suc, _+_, _≤_, _<_}
+use Prim.Native.Nat.{ℕ, _+_, _<_}
 use native.Mathlib.Omega.{arith}
 use native.Mathlib.Decide.{ℕ-discrete}
 use Rattle.theory.specs.Moves.{total}
@@ -11,7 +11,7 @@ use Rattle.theory.specs.Route.{count, reverse-if}
 use Rattle.theory.specs.Links.{links, link-count}
 use Rattle.theory.proofs.Orders.{count-other}
 use Rattle.lin.specs.Lin.{AllDifferent}
-use Rattle.lin.proofs.Counts.{count-append, count-reverse, count-cons, count-head, count-more, Joined, first-or-later, link-self, hit, inside, ends, inside-reverseAux, inside-reverse, past-first, Among}
+use Rattle.lin.proofs.Counts.{count-append, count-reverse, count-cons, count-head, count-more, first-or-later, link-self, inside, ends, inside-reverseAux, inside-reverse, past-first, Among}
 
 pub count-none : (x : ℕ) → 0 < count x [] → ⊥
 unfolding count total

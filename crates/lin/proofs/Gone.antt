@@ -1,5 +1,5 @@
 -- How many links of a tour another does not have: at most those that an exchange takes out. Assumes nothing.
-use mathlib.Core.Path.{_≡_, refl, sym, ap, ap₂, _∙_}
+use mathlib.Core.Path.{_≡_, refl, ap}
 use mathlib.Core.Bool.{cond}
 use mathlib.Core.Logic.{⊎-elim}
 use mathlib.Core.List.{List, [], _∷_, _++_}
@@ -9,9 +9,9 @@ use lib.Dec.{eqb}
 use lib.ListN.{length}
 use borrow.Author.Tests.{eq-eqb, ne-eqb}
 use Rattle.theory.specs.Route.{Problem}
-use Rattle.theory.specs.Links.{links, tour-links, joins, link-count}
+use Rattle.theory.specs.Links.{tour-links, link-count}
 use Rattle.lin.specs.Lin.{Differs}
-use Rattle.lin.proofs.Counts.{Joined, first-or-later, hit, link-turned, link-self}
+use Rattle.lin.proofs.Counts.{first-or-later, hit, link-turned, link-self}
 
 -- 1 where the link between x and y does not stand in a list.
 abbrev pub lost : List (ℕ × ℕ) → ℕ → ℕ → ℕ

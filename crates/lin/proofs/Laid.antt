@@ -1,11 +1,10 @@
 -- Parts whose links are all kept are laid one after the other, in some order and each in one of its directions. Assumes nothing.
 use mathlib.Core.Path.{_≡_, refl, sym, ap, ap₂, _∙_}
-use mathlib.Core.Bool.{Bool, true, false, cond}
+use mathlib.Core.Bool.{Bool, false, cond}
 use mathlib.Core.List.{List, [], _∷_, _++_, map, flatten, List·Memᴰ, List·Memᴰ·head, List·Memᴰ·tail, List·Memᴰ·not-nil, List·Memᴰ·cases-cons, Memᴰ·map}
 use mathlib.Core.Logic.{⊎-elim}
 use Prim.Native.Nat.{ℕ, zero, suc, _+_, _≤_, _<_}
 use native.Mathlib.Omega.{arith}
-use native.Mathlib.Decide.{ℕ-discrete}
 use lib.Dec.{eqb}
 use lib.ListN.{length}
 use borrow.Author.Tests.{eq-eqb, ne-eqb}
@@ -16,7 +15,7 @@ use Rattle.theory.proofs.Orders.{count-mem}
 use Rattle.theory.proofs.Distinct.{picks-sub, picks-keys}
 use Rattle.lin.specs.Lin.{AllDifferent}
 use Rattle.lin.proofs.Counts.{count-append, count-reverse-if, count-head, inside, Among, in-back}
-use Rattle.lin.proofs.Follows.{count-none, begins}
+use Rattle.lin.proofs.Follows.{begins}
 
 pub map-same : (f g : ℕ → List ℕ) (l : List ℕ) → ((j : ℕ) → List·Memᴰ j l → f j ≡ g j) → map f l ≡ map g l
 map-same f g [] h = refl

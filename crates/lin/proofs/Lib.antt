@@ -8,3 +8,4 @@ pub mod Open
 pub mod Closed
 pub mod Complete
 pub mod Finished
+pub mod Repeated

@@ -1,26 +1,26 @@
 -- From a depot to another end: every route on the same stops of whose links at most k are gone is the route itself or a candidate. Assumes nothing.
-use mathlib.Core.Path.{_≡_, refl, sym, ap, ap₂, _∙_, subst}
-use mathlib.Core.Logic.{_⊎_, inl, inr, ⊎-elim}
-use mathlib.Core.List.{List, [], _∷_, _++_, map, flatten, append-assoc, List·Memᴰ}
-use Prim.Native.Nat.{ℕ, zero, suc, _+_, _*_, _^_, _≤_, _<_}
+use mathlib.Core.Path.{_≡_, refl, sym, ap, _∙_, subst}
+use mathlib.Core.Logic.{inl, inr, ⊎-elim}
+use mathlib.Core.List.{List, [], _∷_, _++_, flatten, append-assoc, List·Memᴰ}
+use Prim.Native.Nat.{ℕ, zero, suc, _+_, _*_, _≤_, _<_}
 use native.Mathlib.Omega.{arith}
 use native.Mathlib.Nat.{pow-suc}
 use native.Mathlib.Decide.{ℕ-discrete}
-use lib.ListN.{length, getD, length-append}
-use Rattle.theory.specs.Moves.{upfrom, total, Pattern, patterns, Rising}
-use Rattle.theory.specs.Route.{count, segments, reverses, reverse-if, placed, joined, reconnected}
+use lib.ListN.{length, getD}
+use Rattle.theory.specs.Moves.{upfrom, total, Pattern, patterns}
+use Rattle.theory.specs.Route.{count, segments, reverse-if, placed, joined, reconnected}
 use Rattle.theory.specs.Links.{links, link-count}
 use Rattle.theory.proofs.Moves.{length-upfrom, upfrom-range}
 use Rattle.theory.proofs.Orders.{count-other, in-range, patterns-complete}
 use Rattle.theory.proofs.Route.{total-placed}
 use Rattle.theory.proofs.Delta.{joined-split, changes-nothing, straight, even-head, small-tail}
-use Rattle.lin.specs.Lin.{SameStops, AllDifferent, Candidate, Reached}
+use Rattle.lin.specs.Lin.{SameStops, AllDifferent, Reached}
 use Rattle.lin.proofs.Counts.{count-append, count-cons, count-head, inside, Among, in-front, in-back}
 use Rattle.lin.proofs.Follows.{follows, ends-with, behind-first}
-use Rattle.lin.proofs.Laid.{map-same, at-most, Laid, Holds, lays}
+use Rattle.lin.proofs.Laid.{map-same, at-most, Laid, lays}
 use Rattle.lin.proofs.Masks.{bits, bits-few, mask-read}
 use Rattle.lin.proofs.Gone.{gone}
-use Rattle.lin.proofs.Parted.{Whole, Parted, parted, cuts-of, length-cuts, cut-parts, cuts-rise, middle-whole, last-whole}
+use Rattle.lin.proofs.Parted.{Whole, parted, cuts-of, length-cuts, cut-parts, cuts-rise, middle-whole, last-whole}
 
 below-range : (x f n : ℕ) → x < f → count x (upfrom f n) ≡ 0
 unfolding upfrom

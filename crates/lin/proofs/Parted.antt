@@ -1,5 +1,5 @@
 -- A route cut into k + 1 parts, so that every link that is gone is at a cut. Assumes nothing.
-use mathlib.Core.Path.{_≡_, refl, sym, ap, ap₂, _∙_, subst}
+use mathlib.Core.Path.{_≡_, refl, sym, ap, ap₂, _∙_}
 use mathlib.Core.Logic.{⊎-elim}
 use mathlib.Core.List.{List, [], _∷_, _++_, flatten, append-nil, append-assoc}
 use Prim.Native.Nat.{ℕ, zero, suc, _+_, _≤_, _<_}
@@ -11,7 +11,7 @@ use Rattle.theory.specs.Moves.{Rising}
 use Rattle.theory.specs.Route.{segments}
 use Rattle.theory.specs.Links.{links, link-count}
 use Rattle.lin.proofs.Counts.{first-or-later, link-either, inside, Among}
-use Rattle.lin.proofs.Gone.{lost, lost-none, lost-one, gone, gone-short}
+use Rattle.lin.proofs.Gone.{lost, lost-one, gone, gone-short}
 
 among-none : (ms : List (ℕ × ℕ)) → Among [] ms
 unfolding link-count

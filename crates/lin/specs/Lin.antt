@@ -3,7 +3,7 @@
 use mathlib.Core.Path.{_≡_}
 use mathlib.Core.Logic.{_⊎_}
 use mathlib.Core.List.{List, [], _∷_, _++_, reverse, List·Memᴰ}
-use Prim.Native.Nat.{ℕ, suc, _+_, _≤_}
+use Prim.Native.Nat.{ℕ, _+_, _≤_}
 use lib.ListN.{length}
 use Rattle.theory.specs.Moves.{Pattern, patterns, Rising}
 use Rattle.theory.specs.Route.{Problem, reconnected, tour-length, Feasible, count}

@@ -1,8 +1,5 @@
 -- `replay_lin::count` is safe and ends. Assumes nothing.
-use mathlib.Core.Path.{_≡_}
 use Prim.Native.Nat.{_-_, _≤_}
-use native.Mathlib.Omega.{arith}
-use lib.ListN.{length, length-set}
 use borrow.Author.Needs.{needs}
 use Rattle.replay_lin.proofs.count.Statement.{statement}
 use Rattle.replay_lin.proofs.count.Tie as tie
