@@ -72,7 +72,7 @@ module _ (m : ℕ) (P : Problem) (r : List ℕ) where
 
 -- ---- the polisher
 
-same-length : (r s : List ℕ) → SameStops r s → length s ≡ length r
+pub same-length : (r s : List ℕ) → SameStops r s → length s ≡ length r
 same-length r s same = omega (arith, total-ones s, same-counts s r same (λ z. 1), total-ones r)
 
 pub polish-finished : (m : ℕ) (P : Problem) (a : ℕ) (r : List ℕ) → polish P (suc m) a r .finished ≡ true → LinFinished (suc m) P r (polish P (suc m) a r .route)

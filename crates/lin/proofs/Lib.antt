@@ -8,4 +8,5 @@ pub mod Open
 pub mod Closed
 pub mod Complete
 pub mod Finished
+pub mod Unbound
 pub mod Repeated
