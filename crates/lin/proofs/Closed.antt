@@ -11,10 +11,9 @@ use Rattle.theory.specs.Moves.{total}
 use Rattle.theory.specs.Route.{count}
 use Rattle.theory.specs.Costs.{last-of}
 use Rattle.theory.specs.Links.{links, link-count}
-use Rattle.theory.proofs.Moves.{total-ones}
-use Rattle.theory.proofs.Orders.{count-other, mem-count, same-counts}
+use Rattle.theory.proofs.Orders.{count-other, mem-count}
 use Rattle.lin.specs.Lin.{SameStops, AllDifferent, Reached}
-use Rattle.lin.proofs.Counts.{count-nil, count-append, count-reverse, count-head, count-more, not-first, no-link, first-or-later, link-either, link-self, inside, ends, inside-reverse, past-first, before}
+use Rattle.lin.proofs.Counts.{count-nil, count-append, count-reverse, count-head, count-more, not-first, same-length, no-link, first-or-later, link-either, link-self, inside, ends, inside-reverse, past-first, before}
 use Rattle.lin.proofs.Follows.{first-link}
 use Rattle.lin.proofs.Laid.{at-most}
 use Rattle.lin.proofs.Gone.{lost, lost-none, lost-one, gone, gone-append}
@@ -102,7 +101,7 @@ with-fresh e l d h x = by (ℕ-discrete x e)
 alone : (y : ℕ) (r : List ℕ) (c : ℕ) (s : List ℕ) → AllDifferent (y ∷ r) → SameStops (y ∷ r) (c ∷ s) → y ≡ last-of y r → c ≡ last-of c s
 unfolding last-of
 alone y [] c [] d same e = refl
-alone y [] c (x ∷ s) d same e = absurd (omega (arith, total-ones (c ∷ x ∷ s), same-counts (c ∷ x ∷ s) (y ∷ []) same (λ z. 1), total-ones (y ∷ [])))
+alone y [] c (x ∷ s) d same e = absurd (omega (arith, same-length (y ∷ []) (c ∷ x ∷ s) same))
 alone y (x ∷ r) c s d same e = absurd (omega (arith, d y, count-head y (x ∷ r), subst (λ z. 0 < count z (x ∷ r)) (sym e) (last-in x r)))
 
 module _ (a y : ℕ) (r : List ℕ) (c : ℕ) (s : List ℕ) (d : AllDifferent (a ∷ y ∷ r)) (same : SameStops (y ∷ r) (c ∷ s)) where

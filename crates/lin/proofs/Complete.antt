@@ -1,8 +1,9 @@
 -- Cut sets and patterns miss no exchange, and have none too many. Assumes nothing.
 use mathlib.Core.List.{List, [], _∷_, _++_}
 use Prim.Native.Nat.{ℕ, suc, _≤_}
+use mathlib.Core.Path.{_≡_}
 use native.Mathlib.Omega.{arith}
-use lib.ListN.{length}
+use lib.ListN.{length, length-append}
 use Rattle.theory.specs.Moves.{Move}
 use Rattle.theory.specs.Route.{Problem, reconnected, count}
 use Rattle.theory.specs.Links.{links, tour-links, cut-links, new-links}
@@ -10,8 +11,10 @@ use Rattle.theory.proofs.Moves.{pattern-shape, rearranges}
 use Rattle.theory.proofs.Route.{total-reconnected}
 use Rattle.theory.proofs.Links.{exchanged}
 use Rattle.lin.specs.Lin.{SameStops, Differs, OpenComplete, ClosedComplete, Sound}
-use Rattle.lin.proofs.Gone.{gone, differs-gone}
+use Rattle.lin.proofs.Counts.{same-length}
+use Rattle.lin.proofs.Gone.{gone, as-many-links, link-append, differs-gone}
 use Rattle.lin.proofs.Open.{open-reached}
+use Rattle.lin.proofs.Parted.{length-links}
 use Rattle.lin.proofs.Closed.{closed-reached}
 
 pub open-complete : (m : ℕ) (P : Problem) (r : List ℕ) → OpenComplete (suc m) P r
@@ -33,3 +36,19 @@ sound m P r s c =
     let differs : Differs (suc m) P r (reconnected v r) =
     record { out = cut-links P r (c .cuts); put = new-links P r v; few = omega (arith, x .dropped); stood = x .stood; exchange = x .exchange } in
     rw (c .made) (same, differs)
+
+-- As many links come as go: a tour of n stops has n + 1.
+pub as-many-come : (k : ℕ) (P : Problem) (r s : List ℕ) → SameStops r s → (d : Differs k P r s) → length (d .put) ≡ length (d .out)
+unfolding tour-links
+as-many-come k P r s same d =
+    omega (
+      arith,
+      as-many-links (tour-links P s ++ d .out) (tour-links P r ++ d .put) (λ x y. omega (arith, d .exchange x y, link-append x y (tour-links P s) (d .out), link-append x y (tour-links P r) (d .put))),
+      length-append (tour-links P s) (d .out),
+      length-append (tour-links P r) (d .put),
+      length-links (P .depot) (s ++ (P .end ∷ [])),
+      length-links (P .depot) (r ++ (P .end ∷ [])),
+      length-append s (P .end ∷ []),
+      length-append r (P .end ∷ []),
+      same-length r s same,
+    )

@@ -6,13 +6,15 @@ use mathlib.Core.List.{List, [], _∷_, _++_, reverse, reverseAux, reverse-appen
 use Prim.Native.Nat.{ℕ, suc, _+_, _≤_, _<_}
 use native.Mathlib.Omega.{arith}
 use lib.Dec.{eqb}
+use lib.ListN.{length}
 use borrow.Author.Tests.{eqb-true, eq-eqb}
 use Rattle.theory.specs.Moves.{total}
 use Rattle.theory.specs.Route.{count, reverse-if}
 use Rattle.theory.specs.Links.{links, joins, link-count}
-use Rattle.theory.proofs.Moves.{total-append}
+use Rattle.theory.proofs.Moves.{total-append, total-ones}
+use Rattle.theory.proofs.Orders.{same-counts}
 use Rattle.theory.proofs.Route.{total-reverse-if}
-use Rattle.lin.specs.Lin.{AllDifferent}
+use Rattle.lin.specs.Lin.{SameStops, AllDifferent}
 
 -- ---- stops
 
@@ -45,6 +47,9 @@ count-more x y l = omega arith
 
 pub not-first : (x a : ℕ) (l : List ℕ) → count x (a ∷ l) ≡ 0 → x ≡ a → ⊥
 not-first x a l h e = omega (arith, count-head a l, rw e at h)
+
+pub same-length : (r s : List ℕ) → SameStops r s → length s ≡ length r
+same-length r s same = omega (arith, total-ones s, same-counts s r same (λ z. 1), total-ones r)
 
 -- ---- a link at the head of a list
 

@@ -10,11 +10,9 @@ use Rattle.theory.specs.Moves.{patterns}
 use Rattle.theory.specs.Route.{Problem, path, tour-length}
 use Rattle.theory.specs.Costs.{inner}
 use Rattle.theory.specs.Polish.{polish, KOptimal}
-use Rattle.theory.proofs.Moves.{total-ones}
-use Rattle.theory.proofs.Orders.{same-counts}
 use Rattle.theory.proofs.Polish.{polish-demand3}
 use Rattle.lin.specs.Lin.{SameStops, AllDifferent, Differs, LinOptimal, Candidate, Reached, NoBetter, SameBothWays, EveryOrderFeasible, LinFinished}
-use Rattle.lin.proofs.Counts.{count-append, count-cons, count-reverse}
+use Rattle.lin.proofs.Counts.{count-append, count-cons, count-reverse, same-length}
 use Rattle.lin.proofs.Complete.{open-complete, closed-complete, sound}
 
 -- ---- a closed tour is as long in both directions where every leg is
@@ -71,9 +69,6 @@ module _ (m : ℕ) (P : Problem) (r : List ℕ) where
       at-least s same = ⊎-elim (λ n. absurd (n (free s same))) (λ l. l)
 
 -- ---- the polisher
-
-pub same-length : (r s : List ℕ) → SameStops r s → length s ≡ length r
-same-length r s same = omega (arith, total-ones s, same-counts s r same (λ z. 1), total-ones r)
 
 pub polish-finished : (m : ℕ) (P : Problem) (a : ℕ) (r : List ℕ) → polish P (suc m) a r .finished ≡ true → LinFinished (suc m) P r (polish P (suc m) a r .route)
 polish-finished m P a r f =

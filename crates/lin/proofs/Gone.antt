@@ -1,5 +1,5 @@
 -- How many links of a tour another does not have: at most those that an exchange takes out. Assumes nothing.
-use mathlib.Core.Path.{_≡_, refl, ap}
+use mathlib.Core.Path.{_≡_, refl, sym, ap}
 use mathlib.Core.Bool.{cond}
 use mathlib.Core.Logic.{⊎-elim}
 use mathlib.Core.List.{List, [], _∷_, _++_}
@@ -71,6 +71,23 @@ few-gone ms (l ∷ ls) out h = by (link-count (l .0) (l .1) ms) refl (few-gone m
         let t = take-out (l .0) (l .1) out (omega (arith, h (l .0) (l .1), link-self (l .0) (l .1))) in
         omega (arith, lost-one ms (l .0) (l .1) e, t .1, f (t .0) (λ x y. omega (arith, h x y, t .2 x y)))
     by (suc n) e f = omega (arith, lost-none ms (l .0) (l .1) (omega arith), f out (λ x y. omega (arith, h x y)))
+
+-- Lists in which each link stands as often have as many links.
+all-gone : (ls : List (ℕ × ℕ)) → gone [] ls ≡ length ls
+unfolding gone link-count
+all-gone [] = refl
+all-gone (l ∷ ls) = omega (arith, all-gone ls)
+
+no-longer : (ls ms : List (ℕ × ℕ)) → ((x y : ℕ) → link-count x y ls ≡ link-count x y ms) → length ls ≤ length ms
+no-longer ls ms h = omega (arith, all-gone ls, few-gone [] ls ms (λ x y. omega (arith, h x y)))
+
+pub as-many-links : (ls ms : List (ℕ × ℕ)) → ((x y : ℕ) → link-count x y ls ≡ link-count x y ms) → length ls ≡ length ms
+as-many-links ls ms h = omega (arith, no-longer ls ms h, no-longer ms ls (λ x y. sym (h x y)))
+
+pub link-append : (x y : ℕ) (ls ms : List (ℕ × ℕ)) → link-count x y (ls ++ ms) ≡ link-count x y ls + link-count x y ms
+unfolding link-count
+link-append x y [] ms = omega arith
+link-append x y (l ∷ ls) ms = omega (arith, link-append x y ls ms)
 
 -- Of an exchange of at most k links at most k are gone.
 pub differs-gone : (k : ℕ) (P : Problem) (r s : List ℕ) → Differs k P r s → gone (tour-links P s) (tour-links P r) ≤ k

@@ -28,7 +28,7 @@ kept ms x y h = by (link-count x y ms) refl
     by zero e = absurd (omega (arith, lost-one ms x y e))
     by (suc n) e = omega arith
 
-length-links : (a : ℕ) (l : List ℕ) → length (links a l) ≡ length l
+pub length-links : (a : ℕ) (l : List ℕ) → length (links a l) ≡ length l
 unfolding links
 length-links a [] = refl
 length-links a (x ∷ l) = ap suc (length-links x l)

@@ -8,7 +8,7 @@ use Rattle.theory.specs.Moves.{total}
 use Rattle.theory.specs.Route.{Problem, path, timetable-of, arrival, Timely, Feasible}
 use Rattle.theory.specs.Pairs.{KeepsPairs}
 use Rattle.lin.specs.Lin.{SameStops, EveryOrderFeasible}
-use Rattle.lin.proofs.Finished.{same-length}
+use Rattle.lin.proofs.Counts.{same-length}
 
 path-small : (d : ℕ → ℕ → ℕ) → ((x y : ℕ) → d x y ≤ 1000000) → (a : ℕ) (l : List ℕ) → path d a l ≤ 1000000 * length l
 unfolding path
