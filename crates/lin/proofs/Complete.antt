@@ -1,17 +1,17 @@
 -- Cut sets and patterns miss no exchange, and have none too many. Assumes nothing.
-use mathlib.Core.List.{List, [], _∷_, _++_}
+use mathlib.Core.List.{List, [], _∷_, _++_, reverse, reverseAux, reverseAux-append, reverseAux-eq}
 use Prim.Native.Nat.{ℕ, suc, _≤_}
-use mathlib.Core.Path.{_≡_}
+use mathlib.Core.Path.{_≡_, ap, _∙_}
 use native.Mathlib.Omega.{arith}
 use lib.ListN.{length, length-append}
 use Rattle.theory.specs.Moves.{Move}
 use Rattle.theory.specs.Route.{Problem, reconnected, count}
-use Rattle.theory.specs.Links.{links, tour-links, cut-links, new-links}
+use Rattle.theory.specs.Links.{links, tour-links, link-count, cut-links, new-links}
 use Rattle.theory.proofs.Moves.{pattern-shape, rearranges}
 use Rattle.theory.proofs.Route.{total-reconnected}
 use Rattle.theory.proofs.Links.{exchanged}
 use Rattle.lin.specs.Lin.{SameStops, Differs, OpenComplete, ClosedComplete, Sound}
-use Rattle.lin.proofs.Counts.{same-length}
+use Rattle.lin.proofs.Counts.{same-length, inside, inside-reverseAux}
 use Rattle.lin.proofs.Gone.{gone, as-many-links, link-append, differs-gone}
 use Rattle.lin.proofs.Open.{open-reached}
 use Rattle.lin.proofs.Parted.{length-links}
@@ -52,3 +52,14 @@ as-many-come k P r s same d =
       length-append r (P .end ∷ []),
       same-length r s same,
     )
+
+-- The two directions of a closed tour have the same links.
+pub same-tour : (P : Problem) → P .end ≡ P .depot → (s : List ℕ) (x y : ℕ) → link-count x y (tour-links P (reverse s)) ≡ link-count x y (tour-links P s)
+unfolding tour-links
+same-tour P back s x y = rw back (turned (P .depot))
+  where
+    turned : (a : ℕ) → link-count x y (links a (reverse s ++ (a ∷ []))) ≡ link-count x y (links a (s ++ (a ∷ [])))
+    turned a =
+        unfold inside links link-count in
+        let e : reverseAux (s ++ (a ∷ [])) (a ∷ []) ≡ a ∷ (reverse s ++ (a ∷ [])) = reverseAux-append s (a ∷ []) (a ∷ []) ∙ ap (λ l. a ∷ l) (reverseAux-eq s (a ∷ [])) in
+        omega (arith, ap (λ l. link-count x y (inside l)) e, inside-reverseAux x y (s ++ (a ∷ [])) a [])

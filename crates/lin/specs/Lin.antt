@@ -1,4 +1,4 @@
--- Lin (1965): a tour is k-optimal if no exchange of k of its links for others gives a shorter tour. Here in links alone: no cut and no pattern is named before
+-- Lin (1965): a tour is k-optimal if no exchange of k of its links for others gives a shorter tour. Said in links alone; cuts and patterns come in with
 -- `Candidate`.
 use mathlib.Core.Path.{_≡_}
 use mathlib.Core.Logic.{_⊎_}
@@ -17,8 +17,8 @@ SameStops r s = (x : ℕ) → count x s ≡ count x r
 abbrev pub AllDifferent : List ℕ → Type 0
 AllDifferent l = (x : ℕ) → count x l ≤ 1
 
--- A tour is the links from the depot along the stops to the end harbour, each as often as it stands there, in neither direction. The tour of s differs from that
--- of r in at most k links: at most k links of r's go, others come, and that is s's.
+-- A tour is its links, from the depot along the stops to the end harbour, each as often as it stands there and without direction. The tour of s differs from that
+-- of r in at most k links: at most k of r's links go, others come, and these are s's. (As many come as go.)
 pub record Differs (k : ℕ) (P : Problem) (r s : List ℕ) : Type 0 where
   pub out : List (ℕ × ℕ)
   pub put : List (ℕ × ℕ)
