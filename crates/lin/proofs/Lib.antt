@@ -1,0 +1,12 @@
+pub mod Counts
+pub mod Follows
+pub mod Laid
+pub mod Masks
+pub mod Gone
+pub mod Parted
+pub mod Open
+pub mod Closed
+pub mod Complete
+pub mod Finished
+pub mod Unbound
+pub mod Repeated
