@@ -24,8 +24,16 @@ pub fn named(variable: &str, crate_name: &str) -> Result<PathBuf, String> {
     ))
 }
 
+/// What a program makes of an input, as a reply.
+pub fn given(program: Result<PathBuf, String>, text: &[u8]) -> Result<Reply, String> {
+    program
+        .and_then(|program| run(&program, text))
+        .map(|output| reply(&output))
+        .map_err(|fault| format!("the program: {fault}\n"))
+}
+
 /// What a program writes; it must end well and say nothing else.
-pub fn run(program: &Path, text: &[u8]) -> Result<Vec<u8>, String> {
+fn run(program: &Path, text: &[u8]) -> Result<Vec<u8>, String> {
     let mut child = Command::new(program)
         .stdin(Stdio::piped())
         .stdout(Stdio::piped())
