@@ -53,7 +53,7 @@ pub use parts::{
     Reconnection,
 };
 pub use patterns::{polish_with_patterns, polish_with_patterns_and_pairs, PatternList, Patterns};
-pub use polish::{polish_route, polish_route_with_pairs, Ending, Polished};
+pub use polish::{polish_route, polish_route_with_pairs, polish_slice, Ending, Place, Polished};
 pub use precedence::Pair;
 pub use problem::Problem;
 pub use refusal::Refusal;

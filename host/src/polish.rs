@@ -154,6 +154,75 @@ pub fn polish_route_with_pairs(
     })
 }
 
+/// Where the scan of a route goes on: the next candidate to be examined. Only the first place is made here, so a place is that of the slices before.
+///
+/// It belongs to the k it was made for and to the route that its slice left: with another route or other tables the scan goes on from there all the same.
+#[derive(Clone, Copy, Debug, PartialEq, Eq)]
+pub struct Place {
+    k: usize,
+    numbers: [u64; 6],
+}
+
+impl Place {
+    /// Where the scan with k cuts begins.
+    pub fn first(k: usize) -> Self {
+        let mut numbers = [0, 1, 2, 3, 4, 0];
+        if let Some(index) = numbers.get_mut(k) {
+            *index = 0;
+        }
+        Self { k, numbers }
+    }
+}
+
+/// A slice of [`polish_route_with_pairs`]: at most `allowance` candidates from the place on, which is then that of the next one. The replies of
+/// slices that go on from one another add up to the reply of one call with the sum of their allowances, so the route is at last k-optimal as that
+/// call's is; finished, the place is the first one again. Refuses 1, 2, 3, 23, 4, 24, 29, 5, and 6 and 7 for a place of a longer route.
+///
+/// ```
+/// use mittenschist::{polish_slice, Ending, Place, Tables};
+///
+/// let legs = [0, 5, 1, 1, 0, 5, 5, 1, 0];
+/// let tables = Tables::without_service(3, &legs, &[u32::MAX; 3]);
+/// let (mut route, mut place, mut examined) = ([1, 2], Place::first(3), 0);
+/// loop {
+///     let slice = polish_slice(3, &tables, 0, &[], &mut route, &mut place)?;
+///     examined += slice.examined;
+///     if slice.ending == Ending::Finished {
+///         break;
+///     }
+/// }
+/// assert_eq!((examined, route), (11, [2, 1]));
+/// # Ok::<(), mittenschist::Refusal>(())
+/// ```
+pub fn polish_slice(
+    allowance: u64,
+    tables: &Tables,
+    harbours: impl Into<Harbours>,
+    pairs: &[Pair],
+    route: &mut [u32],
+    place: &mut Place,
+) -> Result<Polished, Refusal> {
+    let Harbours { depot, end } = harbours.into();
+    let (locations, legs, latest, service) = tables.parts();
+    let members = pairs.as_flattened();
+    Polished::by(route, |route, result| {
+        raw::polish_slice(
+            place.k,
+            allowance,
+            locations,
+            legs,
+            latest,
+            service,
+            depot,
+            end,
+            members,
+            route,
+            &mut place.numbers,
+            result,
+        )
+    })
+}
+
 #[cfg(test)]
 mod tests {
     use super::Ending;

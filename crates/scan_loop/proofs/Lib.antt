@@ -1,3 +1,3 @@
-mod Scanning
-mod NextCuts
+pub mod Scanning
+mod Parts
 mod Passing

@@ -1,21 +1,129 @@
-// The scan of document 01, stretch by stretch: the cut sets with the same first cuts are one. No entry: crate polishing calls it.
+// The scan of document 01 from a place on, stretch by stretch: the cut sets with the same first cuts are one. No entry: crate polishing calls it.
 use scan_joints::CELLS;
 use scan_joints::ROW_BYTES;
+use scan_stretch::Stretch;
 use scan_taking::Limits;
 use theory::CUT_PLACES;
 use theory::STOPS;
+ghost use mathlib.Core.Path.{_≡_};
+ghost use lib.ListN.{length};
 ghost use Rattle.theory.specs.Tables.{problem, pattern-rows, trip};
-ghost use Rattle.scan_loop.specs.Loop.{Scannable, Scans};
+ghost use Rattle.scan_rest.specs.Rest.{PartScannable, PartScanned};
+ghost use Rattle.scan_loop.specs.Loop.{Spendable, spent-at, Scannable, Scans};
 
-// What the scan counted when it ended, and whether the route then keeps every deadline.
+// What the scan counted when it ended, and whether the route then keeps every deadline; and the place of the next candidate, or the first place where it has finished.
 pub struct Scanned {
     pub finished: bool,
     pub examined: u64,
     pub accepted: u64,
     pub kept: bool,
+    pub cuts: [usize; 5],
+    pub index: usize,
 }
 
-// The scan: the first improving candidate of a stretch is taken and the scan begins again, or the stretch is passed.
+// The scan is spent, with so many candidates counted from a cut set's first pattern on: the next one is by division.
+fn spent(
+    k: usize,
+    cut: [usize; 5],
+    over: u64,
+    patterns: usize,
+    examined: u64,
+    accepted: u64,
+    kept: bool,
+) -> Scanned
+    requires { ⌜ Spendable k cut over patterns ⌝ }
+    ensures { λ r. ⌜ r ≡ spent-at k cut over patterns examined accepted kept ⌝ }
+{
+    let mut cuts = cut;
+    cuts[k - 1] = cut[k - 1] + (over / patterns as u64) as usize;
+    Scanned {
+        finished: false,
+        examined,
+        accepted,
+        kept,
+        cuts,
+        index: (over % patterns as u64) as usize,
+    }
+}
+
+// A stretch from a cut set on, or from one of its patterns on the rest of that cut set.
+fn scan_part(
+    locations: usize,
+    legs: &[u32],
+    latest: &[u32],
+    service: &[u32],
+    depot: u32,
+    end: u32,
+    pairs: &[u32],
+    members: &[u64],
+    orders: &[u8],
+    masks: &[u8],
+    rows: &[u8; ROW_BYTES],
+    index: usize,
+    route: &[u32],
+    forward: &[u64; STOPS],
+    backward: &[u64; STOPS],
+    stayed: &[u64; CUT_PLACES],
+    heads: usize,
+    lateness: &[u64; CUT_PLACES],
+    since: usize,
+    cuts: &mut [usize],
+    joint: &mut [u64; CELLS],
+    left: u64,
+) -> Stretch
+    requires { ⌜ PartScannable (trip locations (now legs) (now latest) (now service) depot end (now pairs)) (now members) (now rows) (now orders) (now masks) index (now route) (now forward) (now backward) (now stayed) heads (now lateness) since (now cuts) (now joint) ⌝ }
+    ensures { λ r. ⌜ PartScanned (problem (trip locations (now (legs .entry)) (now (latest .entry)) (now (service .entry)) depot end (now (pairs .entry)))) (pattern-rows (length (now (cuts .entry))) (now (orders .entry)) (now (masks .entry))) (now (route .entry)) (now (cuts .entry)) index left r (now (cuts .exit)) (now (joint .exit)) ⌝ }
+{
+    if index == 0 {
+        return scan_stretch::scan_stretch(
+            locations,
+            legs,
+            latest,
+            service,
+            depot,
+            end,
+            pairs,
+            members,
+            rows,
+            masks.len(),
+            route,
+            forward,
+            backward,
+            stayed,
+            heads,
+            lateness,
+            since,
+            cuts,
+            joint,
+            left,
+        );
+    }
+    scan_rest::scan_rest(
+        locations,
+        legs,
+        latest,
+        service,
+        depot,
+        end,
+        pairs,
+        members,
+        orders,
+        masks,
+        index,
+        route,
+        forward,
+        backward,
+        stayed,
+        heads,
+        lateness,
+        since,
+        &cuts[..],
+        joint,
+        left,
+    )
+}
+
+// The scan from a place on: the first improving candidate of a stretch is taken and the scan begins again, or the stretch is passed.
 pub fn scan_cut_sets(
     k: usize,
     allowance: u64,
@@ -30,10 +138,12 @@ pub fn scan_cut_sets(
     orders: &[u8],
     masks: &[u8],
     rows: &[u8; ROW_BYTES],
+    start: [usize; 5],
+    from: usize,
     route: &mut [u32],
 ) -> Scanned
-    requires { ⌜ Scannable k (trip locations (now legs) (now latest) (now service) depot end (now pairs)) (now orders) (now masks) (now rows) (now members) (now route) ⌝ }
-    ensures { λ r. ⌜ Scans (problem (trip locations (now (legs .entry)) (now (latest .entry)) (now (service .entry)) depot end (now (pairs .entry)))) (pattern-rows k (now (orders .entry)) (now (masks .entry))) k allowance (now (route .entry)) r (now (route .exit)) ⌝ }
+    requires { ⌜ Scannable k (trip locations (now legs) (now latest) (now service) depot end (now pairs)) (now orders) (now masks) (now rows) (now members) start from (now route) ⌝ }
+    ensures { λ r. ⌜ Scans (problem (trip locations (now (legs .entry)) (now (latest .entry)) (now (service .entry)) depot end (now (pairs .entry)))) (pattern-rows k (now (orders .entry)) (now (masks .entry))) k allowance start from (now (route .entry)) r (now (route .exit)) ⌝ }
 {
     let mut forward = [0u64; STOPS];
     let mut backward = [0u64; STOPS];
@@ -53,11 +163,13 @@ pub fn scan_cut_sets(
         &mut stayed,
         &mut lateness,
     );
-    let mut cut = [0usize, 1, 2, 3, 4];
+    let mut cut = start;
+    let mut index = from;
     let mut examined = 0u64;
     let mut accepted = 0u64;
     loop {
-        let stretch = scan_stretch::scan_stretch(
+        let begun = cut;
+        let stretch = scan_part(
             locations,
             legs,
             latest,
@@ -66,8 +178,10 @@ pub fn scan_cut_sets(
             end,
             pairs,
             members,
+            orders,
+            masks,
             rows,
-            masks.len(),
+            index,
             &route[..],
             &forward,
             &backward,
@@ -98,16 +212,20 @@ pub fn scan_cut_sets(
             let heads = route.len() + 1;
             limits = Limits { heads, since: 0 };
             cut = [0, 1, 2, 3, 4];
+            index = 0;
             examined += 1;
             accepted += 1;
         } else {
             if !stretch.through {
-                return Scanned {
-                    finished: false,
+                return spent(
+                    k,
+                    begun,
+                    index as u64 + stretch.examined,
+                    masks.len(),
                     examined,
                     accepted,
-                    kept: lateness[0] == 0,
-                };
+                    lateness[0] == 0,
+                );
             }
             if !cut_step::next_cut_set(&mut cut[..k], route.len()) {
                 return Scanned {
@@ -115,8 +233,11 @@ pub fn scan_cut_sets(
                     examined,
                     accepted,
                     kept: lateness[0] == 0,
+                    cuts: [0, 1, 2, 3, 4],
+                    index: 0,
                 };
             }
+            index = 0;
         }
     }
 }

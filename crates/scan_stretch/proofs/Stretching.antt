@@ -20,8 +20,8 @@ use Rattle.costs.proofs.Segments.{head-at, cuts-parted, first-many}
 use Rattle.scan_joints.specs.JointTable.{Padded}
 use Rattle.scan_joints.specs.States.{row, states, no-pattern}
 use Rattle.costs.specs.RouteCosts.{first-cuts, last-cut}
-use Rattle.scan_shared.specs.Prepared.{Cut, Opened}
-use Rattle.scan_shared.specs.Filling.{Preparable, PreparedNow}
+use Rattle.scan_shared.specs.Prepared.{Cut}
+use Rattle.scan_shared.specs.Filling.{PreparedNow}
 use Rattle.scan_shared.proofs.Preparing.{first-of-cuts, last-of-cuts, zero-at}
 use Rattle.scan_bound.specs.Tests.{Nextable, NextPromising}
 use Rattle.deadline_dues.specs.Dues.{DuesHeld}
@@ -30,7 +30,7 @@ use Rattle.precedence_marks.specs.Held.{MarksKept}
 use Rattle.scan_cut_set.specs.Gain.{FirstGain, Findable, Found}
 use Rattle.scan_stretch.specs.declared.Step.{Step}
 use Rattle.scan_stretch.specs.declared.Step.the-variants.{Done, On}
-use Rattle.scan_stretch.specs.Stretch.{Listed, Hopeful, Ended, GainAt, Going, StepTo, Triable, Steppable, idle-end, improves-at}
+use Rattle.scan_stretch.specs.Stretch.{Listed, Hopeful, Ended, GainAt, Going, StepTo, Triable, Steppable, Openable, idle-end, improves-at}
 use Rattle.scan_stretch.proofs.LastCut.{first-below, long, at-cut}
 use Rattle.scan_stretch.proofs.Counting.{count-to, count-next, count-least, up-to}
 
@@ -99,8 +99,8 @@ module _ {T : Trip} {members rows : List ℕ} {patterns : ℕ} {r forwards backw
   pub few-patterns : patterns ≤ 383
   few-patterns = omega (arith, given .listed .patterned .few, given .listed .many)
 
-  pub preparable : Opened cuts → Preparable (T .tables .locations) (T .tables .legs) (T .depot) r forwards backwards cuts rows patterns (replicate 8 0) (replicate 8 0) (replicate 8 0) (replicate 21 0)
-  preparable o =
+  pub openable : Openable (T .tables .locations) (T .tables .legs) (T .depot) r forwards backwards cuts rows patterns (replicate 8 0) (replicate 8 0) (replicate 8 0) (replicate 21 0)
+  openable =
       let w = given .listed .patterned in
       record {
         cut = let g = given .searchable in
@@ -112,7 +112,6 @@ module _ {T : Trip} {members rows : List ℕ} {patterns : ℕ} {r forwards backw
             };
         rows-fit = record { places = w .places; few = few-patterns; known = rw (given .listed .many) at (w .small) };
         places = record { ends = record { entry-places = refl; exit-places = refl; inside-places = refl }; low-places = refl; low-small = λ c. rw (zero-at 21 c) (omega arith) };
-        first = o;
       }
 
   pub starts : (ps : List Pattern) (left : ℕ) {dues words : List ℕ} → DuesHeld (clock-by (T .tables)) r (first-cuts cuts) dues → getD dues 8 0 ≤ last-cut cuts →

@@ -1,4 +1,4 @@
--- A stretch of the scan: the cut sets with the same first cuts, from the first of them on. Its candidates are numbered in the scan's order, pattern by pattern.
+-- A stretch of the scan: the cut sets with the same first cuts, from one of them on. Its candidates are numbered in the scan's order, pattern by pattern.
 use mathlib.Core.Path.{_≡_}
 use mathlib.Core.Bool.{Bool, true, false}
 use mathlib.Core.List.{List, [], _∷_, _++_}
@@ -14,7 +14,7 @@ use Rattle.deadlines.specs.Lateness.{LongestHead, Latenesses}
 use Rattle.scan_joints.specs.States.{Patterned}
 use Rattle.scan_joints.specs.JointTable.{Padded}
 use Rattle.costs.specs.RouteCosts.{first-cuts, last-cut}
-use Rattle.scan_shared.specs.Prepared.{Opened}
+use Rattle.scan_shared.specs.Prepared.{Cut, Places, RowsFit}
 use Rattle.scan_shared.specs.Filling.{PreparedNow}
 use Rattle.deadline_dues.specs.Dues.{DuesHeld}
 use Rattle.precedence_contradictions.specs.Contrary.{Heads}
@@ -46,10 +46,11 @@ pub record Hopeful (T : Trip) (members rows : List ℕ) (patterns : ℕ) (route 
   pub front : front-kept (pairs-of (T .pairs)) (take (getD cuts 0 0) route) (drop (getD cuts 0 0) route) ≡ true
   pub back : BackSince (pairs-of (T .pairs)) route since
 
--- What a stretch is scanned from, behind such a head: its first cut set.
-pub record LastCutsScannable (T : Trip) (members rows : List ℕ) (patterns : ℕ) (route forward-sums backward-sums stayed late : List ℕ) (since : ℕ) (cuts table : List ℕ) : Type 0 where
-  pub hopeful : Hopeful T members rows patterns route forward-sums backward-sums stayed late since cuts table
-  pub first : Opened cuts
+-- A cut set, and places for what is prepared for its first cuts. With the depot as end: none is read.
+pub record Openable (locations : ℕ) (legs : List ℕ) (depot : ℕ) (route forward-sums backward-sums cuts rows : List ℕ) (patterns : ℕ) (entries exits inside low : List ℕ) : Type 0 where
+  pub cut : Cut locations legs depot depot route forward-sums backward-sums cuts
+  pub rows-fit : RowsFit rows patterns
+  pub places : Places entries exits inside low
 
 -- The heads with which a candidate may keep every deadline and every pair: up to the lesser of both, or none at all.
 pub record HeadsKept (T : Trip) (route : List ℕ) (heads : ℕ) : Type 0 where
@@ -65,7 +66,6 @@ pub record Stretchable (T : Trip) (members rows : List ℕ) (patterns : ℕ) (ro
   pub list : List Pattern
   pub listed : Listed (length cuts) patterns rows list
   pub padded : Padded table
-  pub first : Opened cuts
   pub head : HeadsKept T route heads
   pub latenesses : Latenesses (clock-by (T .tables)) (T .depot) route late
   pub lent : PairsLent (pairs-of (T .pairs)) members

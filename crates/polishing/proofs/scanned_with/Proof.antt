@@ -16,17 +16,17 @@ add-if1 c = search needs
 returns : tie.Need-returns
 returns c =
     let s = c .before .before .before .before .before .before .before .before .before in
-    no-cut-set (s .args .k) (lent s) (s .args .orders .now) (s .args .masks .now) (s .args .members .now) (s .args .route .now) (s .args .allowance) (s .pre) (c .if1 .taken)
+    no-cut-set (s .args .k) (lent s) (s .args .orders .now) (s .args .masks .now) (s .args .members .now) (s .args .start) (s .args .from) (s .args .route .now) (s .args .allowance) (s .pre) (c .if1 .taken)
 
 fill-rows-requires : tie.Need-fill-rows-requires
 fill-rows-requires c κs =
     let s = c .before .before .before .before .before .before .before .before .before .before in
-    record { least = s .pre .least; most = s .pre .most; patterns = s .pre .patterns; places = refl }
+    record { least = s .pre .rows .least; most = s .pre .rows .most; patterns = s .pre .rows .patterns; places = refl }
 
 scan-cut-sets-requires : tie.Need-scan-cut-sets-requires
 scan-cut-sets-requires c κs =
     let s = c .before .before .before .before .before .before .before .before .before .before .before .before .before in
-    scannable (s .args .k) (lent s) (s .args .orders .now) (s .args .masks .now) (s .args .members .now) (s .args .route .now) (s .args .allowance) (s .pre) _ (omega (arith, c .before .before .before .before .if1 .left)) (c .before .before .fill-rows .ensures)
+    scannable (s .args .k) (lent s) (s .args .orders .now) (s .args .masks .now) (s .args .members .now) (s .args .start) (s .args .from) (s .args .route .now) (s .args .allowance) (s .pre) _ (omega (arith, c .before .before .before .before .if1 .left)) (c .before .before .fill-rows .ensures)
 
 same-length : tie.Need-same-length
 same-length c = search needs
@@ -34,7 +34,7 @@ same-length c = search needs
 returns-2 : tie.Need-returns-2
 returns-2 c =
     let s = c .before .before .before .before .before .before .before .before .before .before .before .before .before .before .before .before in
-    scanned-so (s .args .k) (lent s) (s .args .orders .now) (s .args .masks .now) (s .args .members .now) (s .args .route .now) (s .args .allowance) (s .pre) (c .before .before .scan-cut-sets .ensures)
+    scanned-so (s .args .k) (lent s) (s .args .orders .now) (s .args .masks .now) (s .args .members .now) (s .args .start) (s .args .from) (s .args .route .now) (s .args .allowance) (s .pre) (c .before .before .scan-cut-sets .ensures)
 
 pub scanned-with-spec : {M : Type 1} → statement M
 scanned-with-spec =

@@ -9,7 +9,7 @@ use beside::trial::{judge, Drawn, Family, Reply, Source, Trial};
 use beside::watch::Watch;
 use beside::{
     checks, desks, ends, every, first_move, in_shares, lists, moves, nearby, pairs, parts, polish,
-    precedence, problems, run, season, text, way_back,
+    precedence, problems, run, season, slices, text, way_back,
 };
 use std::collections::BTreeMap;
 use std::env;
@@ -145,6 +145,7 @@ fn families() -> Vec<Family> {
     all.extend(problems::FAMILIES);
     all.extend(desks::FAMILIES);
     all.extend(way_back::FAMILIES);
+    all.extend(slices::FAMILIES);
     match text::program() {
         Ok(_) => all.extend(text::FAMILIES),
         Err(reason) => println!("the text program is not compared: {reason}"),
