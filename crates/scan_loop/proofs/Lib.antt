@@ -1,3 +1,2 @@
 pub mod Scanning
-mod Parts
 mod Passing

@@ -234,18 +234,13 @@ module _ (k : ℕ) (T : Trip) (orders masks rows members start : List ℕ) (from
             let j : length cuts - 1 ≡ k - 1 = omega (arith, own) in
             sym (ap (λ n. getD cuts n 0) j ∙ ap (λ cs. getD cs (k - 1) 0) held ∙ getD-take k begun (k - 1) 0 (omega (arith, ok .least)))
 
-        cuts-held : (v : ℕ) → take k (set begun (k - 1) v) ≡ first-cuts cuts ++ (v ∷ [])
-        cuts-held v =
-            let j : k - 1 ≡ length cuts - 1 = omega (arith, own) in
-            take-set-lt k begun (k - 1) v (omega (arith, ok .least)) ∙ ap (λ cs. set cs (k - 1) v) (sym held) ∙ ap (λ n. set cuts n v) j ∙ last-stored cuts v (omega (arith, own, ok .least))
-
         few : i + answer .examined < (suc (length route₀) - last-cut cuts) * length masks
         few =
             let z : length r + 1 - last-cut cuts ≡ suc (length route₀) - last-cut cuts = omega (arith, same) in
             rw (end .spent g w .0) (rw (z, as-many) at (end .spent g w .1))
 
-        pub spendable : length begun ≡ 5 → Spendable k begun (i + answer .examined) (length masks)
-        spendable five =
+        pub spendable : (cut : List ℕ) → length cut ≡ 5 → Spendable k cut (getD begun (k - 1) 0) (i + answer .examined) (length masks)
+        spendable cut five =
             let m : suc (length route₀) - last-cut cuts ≤ 513 = omega (arith, now .cut-set .short) in
             record {
               least = ok .least;
@@ -256,16 +251,26 @@ module _ (k : ℕ) (T : Trip) (orders masks rows members start : List ℕ) (from
               fewer = omega (arith, few, mul-le-mul-right (length masks) m);
             }
 
-        pub spent-now :
+        -- The first cuts are still at hand, whatever stands behind them.
+        cuts-held : (cut : List ℕ) → cuts′ ≡ take k cut → length cuts′ ≡ k → (v : ℕ) → take k (set cut (k - 1) v) ≡ first-cuts cuts ++ (v ∷ [])
+        cuts-held cut is m v =
+            let j : k - 1 ≡ length cuts′ - 1 = omega (arith, m) in
+            take-set-lt k cut (k - 1) v (omega (arith, ok .least))
+            ∙ ap (λ cs. set cs (k - 1) v) (sym is)
+            ∙ ap (λ n. set cuts′ n v) j
+            ∙ last-stored cuts′ v (omega (arith, m, ok .least))
+            ∙ ap (λ cs. cs ++ (v ∷ [])) (end .spent g w .2)
+
+        pub spent-now : (cut : List ℕ) → cuts′ ≡ take k cut → length cuts′ ≡ k →
             record {
               reply = record { finished = false; examined = e + answer .examined; accepted = c; route = r };
-              place = place-held k (set begun (k - 1) (getD begun (k - 1) 0 + (i + answer .examined) / length masks)) ((i + answer .examined) % length masks);
+              place = place-held k (set cut (k - 1) (getD begun (k - 1) 0 + (i + answer .examined) / length masks)) ((i + answer .examined) % length masks);
             }
             ≡ slice (problem T) (pattern-rows k orders masks) k A (place-held k start from) route₀
-        spent-now =
+        spent-now cut is m =
             let all : e + answer .examined ≡ A = omega (arith, end .spent g w .0, below k T orders masks rows members start from route₀ A ok cuts i e c r now) in
             let s = Slicing.is-spent (problem T) (pattern-rows k orders masks) k A (place-held k start from) route₀ (first-cuts cuts) (last-cut cuts) i e c r here (answer .examined) all (rw as-many few) idle in
-            rw (cuts-held (getD begun (k - 1) 0 + (i + answer .examined) / length masks), last-held) (sym (rw as-many at s))
+            rw (cuts-held cut is m (getD begun (k - 1) 0 + (i + answer .examined) / length masks), last-held) (sym (rw as-many at s))
 
       -- ---- through
 

@@ -3,7 +3,7 @@ use mathlib.Core.Path.{_≡_}
 use mathlib.Core.Bool.{Bool, false}
 use mathlib.Core.List.{List}
 use Prim.Native.Nat.{ℕ, _+_, _-_, _*_, _/_, _%_, _≤_, _<_}
-use lib.ListN.{length, getD, set, take}
+use lib.ListN.{length, set, take}
 use Rattle.theory.specs.Moves.{Pattern}
 use Rattle.theory.specs.Pairs.{pairs-of}
 use Rattle.theory.specs.Route.{Problem, timetable-of, timely}
@@ -37,15 +37,15 @@ pub record Scans (P : Problem) (ps : List Pattern) (k allowance : ℕ) (start : 
 -- ---- spent
 
 -- A last cut, and candidates counted from its first pattern on, which are less than those of 513 cut sets.
-pub record Spendable (k : ℕ) (cut : List ℕ) (over patterns : ℕ) : Type 0 where
+pub record Spendable (k : ℕ) (cut : List ℕ) (last over patterns : ℕ) : Type 0 where
   pub least : 2 ≤ k
   pub most : k ≤ 5
   pub places : length cut ≡ 5
   pub some : 0 < patterns
-  pub below : getD cut (k - 1) 0 ≤ 512
+  pub below : last ≤ 512
   pub fewer : over < 513 * patterns
 
 -- "The next candidate to be examined".
-abbrev pub spent-at : (k : ℕ) (cut : List ℕ) (over patterns examined accepted : ℕ) → Bool → Scanned
-spent-at k cut over patterns examined accepted kept =
-    record { finished = false; examined = examined; accepted = accepted; kept = kept; cuts = set cut (k - 1) (getD cut (k - 1) 0 + over / patterns); index = over % patterns }
+abbrev pub spent-at : (k : ℕ) (cut : List ℕ) (last over patterns examined accepted : ℕ) → Bool → Scanned
+spent-at k cut last over patterns examined accepted kept =
+    record { finished = false; examined = examined; accepted = accepted; kept = kept; cuts = set cut (k - 1) (last + over / patterns); index = over % patterns }

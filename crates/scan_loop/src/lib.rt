@@ -1,14 +1,11 @@
 // The scan of document 01 from a place on, stretch by stretch: the cut sets with the same first cuts are one. No entry: crate polishing calls it.
 use scan_joints::CELLS;
 use scan_joints::ROW_BYTES;
-use scan_stretch::Stretch;
 use scan_taking::Limits;
 use theory::CUT_PLACES;
 use theory::STOPS;
 ghost use mathlib.Core.Path.{_≡_};
-ghost use lib.ListN.{length};
 ghost use Rattle.theory.specs.Tables.{problem, pattern-rows, trip};
-ghost use Rattle.scan_rest.specs.Rest.{PartScannable, PartScanned};
 ghost use Rattle.scan_loop.specs.Loop.{Spendable, spent-at, Scannable, Scans};
 
 // What the scan counted when it ended, and whether the route then keeps every deadline; and the place of the next candidate, or the first place where it has finished.
@@ -21,21 +18,22 @@ pub struct Scanned {
     pub index: usize,
 }
 
-// The scan is spent, with so many candidates counted from a cut set's first pattern on: the next one is by division.
+// The scan is spent, with so many candidates counted from the last cut's first pattern on, behind the cuts before it: the next one is by division.
 fn spent(
     k: usize,
     cut: [usize; 5],
+    last: usize,
     over: u64,
     patterns: usize,
     examined: u64,
     accepted: u64,
     kept: bool,
 ) -> Scanned
-    requires { ⌜ Spendable k cut over patterns ⌝ }
-    ensures { λ r. ⌜ r ≡ spent-at k cut over patterns examined accepted kept ⌝ }
+    requires { ⌜ Spendable k cut last over patterns ⌝ }
+    ensures { λ r. ⌜ r ≡ spent-at k cut last over patterns examined accepted kept ⌝ }
 {
     let mut cuts = cut;
-    cuts[k - 1] = cut[k - 1] + (over / patterns as u64) as usize;
+    cuts[k - 1] = last + (over / patterns as u64) as usize;
     Scanned {
         finished: false,
         examined,
@@ -44,83 +42,6 @@ fn spent(
         cuts,
         index: (over % patterns as u64) as usize,
     }
-}
-
-// A stretch from a cut set on, or from one of its patterns on the rest of that cut set.
-fn scan_part(
-    locations: usize,
-    legs: &[u32],
-    latest: &[u32],
-    service: &[u32],
-    depot: u32,
-    end: u32,
-    pairs: &[u32],
-    members: &[u64],
-    orders: &[u8],
-    masks: &[u8],
-    rows: &[u8; ROW_BYTES],
-    index: usize,
-    route: &[u32],
-    forward: &[u64; STOPS],
-    backward: &[u64; STOPS],
-    stayed: &[u64; CUT_PLACES],
-    heads: usize,
-    lateness: &[u64; CUT_PLACES],
-    since: usize,
-    cuts: &mut [usize],
-    joint: &mut [u64; CELLS],
-    left: u64,
-) -> Stretch
-    requires { ⌜ PartScannable (trip locations (now legs) (now latest) (now service) depot end (now pairs)) (now members) (now rows) (now orders) (now masks) index (now route) (now forward) (now backward) (now stayed) heads (now lateness) since (now cuts) (now joint) ⌝ }
-    ensures { λ r. ⌜ PartScanned (problem (trip locations (now (legs .entry)) (now (latest .entry)) (now (service .entry)) depot end (now (pairs .entry)))) (pattern-rows (length (now (cuts .entry))) (now (orders .entry)) (now (masks .entry))) (now (route .entry)) (now (cuts .entry)) index left r (now (cuts .exit)) (now (joint .exit)) ⌝ }
-{
-    if index == 0 {
-        return scan_stretch::scan_stretch(
-            locations,
-            legs,
-            latest,
-            service,
-            depot,
-            end,
-            pairs,
-            members,
-            rows,
-            masks.len(),
-            route,
-            forward,
-            backward,
-            stayed,
-            heads,
-            lateness,
-            since,
-            cuts,
-            joint,
-            left,
-        );
-    }
-    scan_rest::scan_rest(
-        locations,
-        legs,
-        latest,
-        service,
-        depot,
-        end,
-        pairs,
-        members,
-        orders,
-        masks,
-        index,
-        route,
-        forward,
-        backward,
-        stayed,
-        heads,
-        lateness,
-        since,
-        &cuts[..],
-        joint,
-        left,
-    )
 }
 
 // The scan from a place on: the first improving candidate of a stretch is taken and the scan begins again, or the stretch is passed.
@@ -168,8 +89,8 @@ pub fn scan_cut_sets(
     let mut examined = 0u64;
     let mut accepted = 0u64;
     loop {
-        let begun = cut;
-        let stretch = scan_part(
+        let last = cut[k - 1];
+        let stretch = scan_rest::scan_part(
             locations,
             legs,
             latest,
@@ -219,7 +140,8 @@ pub fn scan_cut_sets(
             if !stretch.through {
                 return spent(
                     k,
-                    begun,
+                    cut,
+                    last,
                     index as u64 + stretch.examined,
                     masks.len(),
                     examined,

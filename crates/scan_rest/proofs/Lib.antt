@@ -1,2 +1,3 @@
 pub mod Listing
 mod Resting
+mod Parts

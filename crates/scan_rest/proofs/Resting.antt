@@ -152,7 +152,7 @@ module _ {T : Trip} {members rows orders masks : List ℕ} {index : ℕ} {r forw
               let a = ltb-false found limit g in
               let b = eqb-false found (length masks - index) h in
               let c : suc 0 ≤ length r + 1 - last-cut cuts = omega (arith, last-below) in
-              (omega (arith, a, w, b), omega (arith, a, w, b, many, mul-le-mul-right (length ps) c));
+              (omega (arith, a, w, b), omega (arith, a, w, b, many, mul-le-mul-right (length ps) c), refl);
           padded = p;
         }
 

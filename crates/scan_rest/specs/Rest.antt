@@ -27,7 +27,7 @@ pub record PartScanned (P : Problem) (ps : List Pattern) (route cuts : List ℕ)
   pub allowed : answer .examined ≤ left
   pub gain : answer .gains ≡ true → (answer .examined < left) × GainAt P ps route cuts (index + answer .examined) (answer .pattern) cuts′
   pub over : answer .through ≡ true → OverAt ps route cuts (index + answer .examined) cuts′
-  pub spent : answer .gains ≡ false → answer .through ≡ false → (answer .examined ≡ left) × (index + left < candidate-count ps route cuts)
+  pub spent : answer .gains ≡ false → answer .through ≡ false → (answer .examined ≡ left) × (index + left < candidate-count ps route cuts) × (first-cuts cuts′ ≡ first-cuts cuts)
   pub padded : Padded table
 
 -- What a part is scanned from: what a stretch is, with the list of patterns that its rows are of, and the index of one.

@@ -1,4 +1,4 @@
-// The rest of a cut set: its patterns from an index on, as a list of patterns of their own. No entry: crate scan_loop calls it.
+// A part of the scan: a stretch, or the rest of a cut set, its patterns from an index on as a list of patterns of their own. No entry: crate scan_loop calls it.
 use deadline_dues::DUE_PLACES;
 use precedence_marks::MARK_PLACES;
 use scan_joints::CELLS;
@@ -12,7 +12,7 @@ ghost use lib.ListN.{length};
 ghost use Rattle.theory.specs.Tables.{problem, pattern-rows, trip};
 ghost use Rattle.scan_joints.specs.JointTable.{Padded};
 ghost use Rattle.scan_cut_set.specs.Gain.{FirstGain};
-ghost use Rattle.scan_rest.specs.Rest.{rest-end, RestFindable, RestScannable, PartScanned};
+ghost use Rattle.scan_rest.specs.Rest.{rest-end, RestFindable, RestScannable, PartScannable, PartScanned};
 
 // How the rest of a cut set ended, with so many of the patterns from the index on passed over.
 fn rest_end(index: usize, patterns: usize, limit: usize, found: usize) -> Stretch
@@ -82,7 +82,7 @@ fn rest_gain(
 
 // The patterns from an index on at a cut set: the first of the `left` candidates still allowed that improves the route. With a head that is none of the first
 // `heads`, no candidate keeps every deadline and every pair.
-pub fn scan_rest(
+fn scan_rest(
     locations: usize,
     legs: &[u32],
     latest: &[u32],
@@ -136,4 +136,81 @@ pub fn scan_rest(
         limit,
     );
     rest_end(index, patterns, limit, found)
+}
+
+// A stretch from a cut set on, or from one of its patterns on the rest of that cut set.
+pub fn scan_part(
+    locations: usize,
+    legs: &[u32],
+    latest: &[u32],
+    service: &[u32],
+    depot: u32,
+    end: u32,
+    pairs: &[u32],
+    members: &[u64],
+    orders: &[u8],
+    masks: &[u8],
+    rows: &[u8; ROW_BYTES],
+    index: usize,
+    route: &[u32],
+    forward: &[u64; STOPS],
+    backward: &[u64; STOPS],
+    stayed: &[u64; CUT_PLACES],
+    heads: usize,
+    lateness: &[u64; CUT_PLACES],
+    since: usize,
+    cuts: &mut [usize],
+    joint: &mut [u64; CELLS],
+    left: u64,
+) -> Stretch
+    requires { ⌜ PartScannable (trip locations (now legs) (now latest) (now service) depot end (now pairs)) (now members) (now rows) (now orders) (now masks) index (now route) (now forward) (now backward) (now stayed) heads (now lateness) since (now cuts) (now joint) ⌝ }
+    ensures { λ r. ⌜ PartScanned (problem (trip locations (now (legs .entry)) (now (latest .entry)) (now (service .entry)) depot end (now (pairs .entry)))) (pattern-rows (length (now (cuts .entry))) (now (orders .entry)) (now (masks .entry))) (now (route .entry)) (now (cuts .entry)) index left r (now (cuts .exit)) (now (joint .exit)) ⌝ }
+{
+    if index == 0 {
+        return scan_stretch::scan_stretch(
+            locations,
+            legs,
+            latest,
+            service,
+            depot,
+            end,
+            pairs,
+            members,
+            rows,
+            masks.len(),
+            route,
+            forward,
+            backward,
+            stayed,
+            heads,
+            lateness,
+            since,
+            cuts,
+            joint,
+            left,
+        );
+    }
+    scan_rest(
+        locations,
+        legs,
+        latest,
+        service,
+        depot,
+        end,
+        pairs,
+        members,
+        orders,
+        masks,
+        index,
+        route,
+        forward,
+        backward,
+        stayed,
+        heads,
+        lateness,
+        since,
+        &cuts[..],
+        joint,
+        left,
+    )
 }

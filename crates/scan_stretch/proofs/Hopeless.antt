@@ -35,7 +35,7 @@ passed-through stops patterns cuts left over not-empty e h =
 
 pub passed-spent : (stops patterns : ℕ) (cuts : List ℕ) (left over : ℕ) → over ≡ (stops + 1 - last-cut cuts) * patterns → left < over →
     Passed stops patterns cuts left (idle-end left false) cuts
-passed-spent stops patterns cuts left over e h = record { no-gain = refl; over = λ b. absurd (true≢false (sym b)); spent = λ _. (refl, omega (arith, e)) }
+passed-spent stops patterns cuts left over e h = record { no-gain = refl; over = λ b. absurd (true≢false (sym b)); spent = λ _. (refl, omega (arith, e), refl) }
 
 module _ {T : Trip} {members rows : List ℕ} {patterns : ℕ} {r forwards backwards stayed : List ℕ} {heads : ℕ} {late : List ℕ} {since : ℕ} {cuts table : List ℕ}
     (given : Stretchable T members rows patterns r forwards backwards stayed heads late since cuts table) where
@@ -125,7 +125,7 @@ module _ {T : Trip} {members rows : List ℕ} {patterns : ℕ} {r forwards backw
                 allowed = within (answer .through) refl;
                 gain = λ e. absurd (true≢false (sym e ∙ w .no-gain));
                 over = λ e. rw (u .many) (w .over e .0, w .over e .2);
-                spent = λ _ e. rw (u .many) (w .spent e);
+                spent = λ _ e. (w .spent e .0, rw (u .many) (w .spent e .1), ap first-cuts (w .spent e .2));
               };
           padded = given .padded;
         }

@@ -61,7 +61,7 @@ module _ {T : Trip} {ps : List Pattern} {members r first : List ℕ} {left : ℕ
       ((t y : ℕ) → last-cut first ≤ t → y < length ps → (t - last-cut first) * length ps + y < e → improves-at (problem T) ps r first t y ≡ false) → e ≤ left →
       (g ≡ true → (e < left) × GainAt (problem T) ps r first e x cuts′) →
       (w ≡ true → (e ≡ (length r + 1 - last-cut first) * length ps) × (cuts′ ≡ first-cuts first ++ (length r ∷ []))) →
-      (g ≡ false → w ≡ false → (e ≡ left) × (left < (length r + 1 - last-cut first) * length ps)) →
+      (g ≡ false → w ≡ false → (e ≡ left) × (left < (length r + 1 - last-cut first) * length ps) × (first-cuts cuts′ ≡ first-cuts first)) →
       Ended (problem T) ps r first left (record { examined = e; gains = g; through = w; pattern = x }) cuts′ × Padded table′
   answered p idle allowed gain over spent = (record { idle = λ t y h l i n. idle t y h i n; allowed = allowed; gain = gain; over = over; spent = spent }, p)
 
@@ -205,7 +205,7 @@ module _ {T : Trip} {members rows : List ℕ} {patterns : ℕ} {r forwards backw
             (omega arith)
             (λ e. absurd (true≢false (sym e)))
             (λ e. absurd (true≢false (sym e)))
-            (λ _ _. (refl, omega (arith, b, reaches, count-least (last-cut first) hit (length r + 1) (length ps) (next .most))))
+            (λ _ _. (refl, omega (arith, b, reaches, count-least (last-cut first) hit (length r + 1) (length ps) (next .most)), going .same))
 
         module _ (room : over ≤ left - examined) where
           -- No last cut is left.
@@ -338,6 +338,7 @@ module _ {T : Trip} {members rows : List ℕ} {patterns : ℕ} {r forwards backw
             (λ _ _. (
               omega (arith, reached, going .within),
               omega (arith, going .within, going .count, list .many, count-next (last-cut first) (last-cut cuts) (length ps) (going .from), count-least (last-cut first) (last-cut cuts + 1) (length r + 1) (length ps) (omega (arith, last-most going))),
+              going .same,
             ))
 
         module _ (whole : patterns ≤ limit) where

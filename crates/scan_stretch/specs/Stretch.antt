@@ -83,7 +83,7 @@ pub record Passable (stops patterns : ℕ) (cuts : List ℕ) : Type 0 where
 pub record Passed (stops patterns : ℕ) (cuts : List ℕ) (left : ℕ) (answer : Stretch) (cuts′ : List ℕ) : Type 0 where
   pub no-gain : answer .gains ≡ false
   pub over : answer .through ≡ true → (answer .examined ≡ (stops + 1 - last-cut cuts) * patterns) × (answer .examined ≤ left) × (cuts′ ≡ first-cuts cuts ++ (stops ∷ []))
-  pub spent : answer .through ≡ false → (answer .examined ≡ left) × (left < (stops + 1 - last-cut cuts) * patterns)
+  pub spent : answer .through ≡ false → (answer .examined ≡ left) × (left < (stops + 1 - last-cut cuts) * patterns) × (cuts′ ≡ cuts)
 
 -- Whether pattern x at the last cut t, behind the first cuts, improves the route.
 abbrev pub improves-at : Problem → List Pattern → List ℕ → List ℕ → ℕ → ℕ → Bool
@@ -107,13 +107,13 @@ pub record GainAt (P : Problem) (ps : List Pattern) (route cuts : List ℕ) (exa
   pub is : examined ≡ candidate-number ps cuts last pattern
   pub improves : improves-at P ps route cuts last pattern ≡ true
 
--- The candidates examined do not improve the route. Then one does and is allowed; or the stretch is over, its last cut set at hand; or no more are allowed.
+-- The candidates examined do not improve the route. Then one does and is allowed; or the stretch is over, its last cut set at hand; or no more are allowed, and the first cuts are at hand.
 pub record Ended (P : Problem) (ps : List Pattern) (route cuts : List ℕ) (left : ℕ) (answer : Stretch) (cuts′ : List ℕ) : Type 0 where
   pub idle : (t x : ℕ) → last-cut cuts ≤ t → t ≤ length route → x < length ps → candidate-number ps cuts t x < answer .examined → improves-at P ps route cuts t x ≡ false
   pub allowed : answer .examined ≤ left
   pub gain : answer .gains ≡ true → (answer .examined < left) × GainAt P ps route cuts (answer .examined) (answer .pattern) cuts′
   pub over : answer .through ≡ true → (answer .examined ≡ candidate-count ps route cuts) × (cuts′ ≡ first-cuts cuts ++ (length route ∷ []))
-  pub spent : answer .gains ≡ false → answer .through ≡ false → (answer .examined ≡ left) × (left < candidate-count ps route cuts)
+  pub spent : answer .gains ≡ false → answer .through ≡ false → (answer .examined ≡ left) × (left < candidate-count ps route cuts) × (first-cuts cuts′ ≡ first-cuts cuts)
 
 -- Of whichever patterns the rows are.
 pub record Stretched (P : Problem) (patterns : ℕ) (rows route cuts : List ℕ) (left : ℕ) (answer : Stretch) (cuts′ table : List ℕ) : Type 0 where

@@ -43,6 +43,15 @@ loop-holds c =
     let s = c .before .before .before .before .before .before .before .before .before .before .before .before .before .before in
     (s .pre .places, starts (s .args .k) (lent s) (s .args .orders .now) (s .args .masks .now) (s .args .rows .now) (s .args .members .now) (s .args .start) (s .args .from) (s .args .route .now) (s .args .allowance) (s .pre), known (s .pre .lent) (c .measure .ensures), no-cells)
 
+sub-last : tie.Need-sub-last Inv-loop μ-loop
+sub-last c = search needs
+
+mul-last : tie.Need-mul-last Inv-loop μ-loop
+mul-last c = search needs
+
+array-read-last : tie.Need-array-read-last Inv-loop μ-loop
+array-read-last c = search needs
+
 array-borrow-prefix-cut : tie.Need-array-borrow-prefix-cut Inv-loop μ-loop
 array-borrow-prefix-cut c =
     let s = c .before .before .before .before .before .before .before .before .before .before .before .before .before .before .before .before .before .before .before .before in
@@ -146,7 +155,7 @@ add-spent c =
     let s = c .before .before .before .before .before .before .before .before .before .before .before .before .before .before .before .before .before .before .before .before .before .before .before .before .before .before .before .before .before in
     let l = c .before .before .before .before .before .before .before .before .before .before .before .before .before .before .loop in
     let e = c .before .before .before .before .before .before .scan-part .ensures in
-    omega (arith, spendable (s .args .k) (lent s) (s .args .orders .now) (s .args .masks .now) (s .args .rows .now) (s .args .members .now) (s .args .start) (s .args .from) (s .args .route .now) (s .args .allowance) (s .pre) (take (s .args .k) (l .cut)) (l .index) (l .examined) (l .accepted) (l .route) (l .inv .1) e (l .cut) refl (c .before .before .before .if1 .left) (not-true _ (c .before .if2 .taken)) (l .inv .0) .fewer, s .pre .patterns .few)
+    omega (arith, spendable (s .args .k) (lent s) (s .args .orders .now) (s .args .masks .now) (s .args .rows .now) (s .args .members .now) (s .args .start) (s .args .from) (s .args .route .now) (s .args .allowance) (s .pre) (take (s .args .k) (l .cut)) (l .index) (l .examined) (l .accepted) (l .route) (l .inv .1) e (l .cut) refl (c .before .before .before .if1 .left) (not-true _ (c .before .if2 .taken)) (l .cut) (l .inv .0) .fewer, s .pre .patterns .few)
 
 array-read-spent : tie.Need-array-read-spent Inv-loop μ-loop
 array-read-spent c = search needs
@@ -156,7 +165,8 @@ spent-requires c κs =
     let s = c .before .before .before .before .before .before .before .before .before .before .before .before .before .before .before .before .before .before .before .before .before .before .before .before .before .before .before .before .before in
     let l = c .before .before .before .before .before .before .before .before .before .before .before .before .before .before .loop in
     let e = c .before .before .before .before .before .before .scan-part .ensures in
-    spendable (s .args .k) (lent s) (s .args .orders .now) (s .args .masks .now) (s .args .rows .now) (s .args .members .now) (s .args .start) (s .args .from) (s .args .route .now) (s .args .allowance) (s .pre) (take (s .args .k) (l .cut)) (l .index) (l .examined) (l .accepted) (l .route) (l .inv .1) e (l .cut) refl (c .before .before .before .if1 .left) (not-true _ (c .before .if2 .taken)) (l .inv .0)
+    let five : length (c .before .before .before .before .before .before .scan-part .last .1 .1 .1 .1 .1 .1 .1 .1 .1 .1 .1 .1 .1 .1 .1 .1 .1 .1 .1 .0 ++ drop (s .args .k) (l .cut)) ≡ 5 = simp (length-append, length-drop) (omega (arith, c .before .before .before .before .before .before .scan-part .kept .1 .1 .1 .1 .1 .1 .1 .1 .1 .1 .1 .1 .1 .1 .1 .1 .1 .1 .1 .0, l .inv .1 .cut-set .many, l .inv .0, s .pre .most)) in
+    spendable (s .args .k) (lent s) (s .args .orders .now) (s .args .masks .now) (s .args .rows .now) (s .args .members .now) (s .args .start) (s .args .from) (s .args .route .now) (s .args .allowance) (s .pre) (take (s .args .k) (l .cut)) (l .index) (l .examined) (l .accepted) (l .route) (l .inv .1) e (l .cut) refl (c .before .before .before .if1 .left) (not-true _ (c .before .if2 .taken)) _ five
 
 same-length : tie.Need-same-length Inv-loop μ-loop
 same-length c =
@@ -169,9 +179,10 @@ returns c =
     let s = c .before .before .before .before .before .before .before .before .before .before .before .before .before .before .before .before .before .before .before .before .before .before .before .before .before .before .before .before .before .before in
     let l = c .before .before .before .before .before .before .before .before .before .before .before .before .before .before .before .loop in
     let e = c .before .before .before .before .before .before .before .scan-part .ensures in
+    let size = c .before .before .before .before .before .before .before .scan-part .kept .1 .1 .1 .1 .1 .1 .1 .1 .1 .1 .1 .1 .1 .1 .1 .1 .1 .1 .1 .0 ∙ l .inv .1 .cut-set .many in
     rw (c .spent .ensures)
     (record {
-      scan = spent-now (s .args .k) (lent s) (s .args .orders .now) (s .args .masks .now) (s .args .rows .now) (s .args .members .now) (s .args .start) (s .args .from) (s .args .route .now) (s .args .allowance) (s .pre) (take (s .args .k) (l .cut)) (l .index) (l .examined) (l .accepted) (l .route) (l .inv .1) e (l .cut) refl (c .before .before .before .before .if1 .left) (not-true _ (c .before .before .if2 .taken));
+      scan = spent-now (s .args .k) (lent s) (s .args .orders .now) (s .args .masks .now) (s .args .rows .now) (s .args .members .now) (s .args .start) (s .args .from) (s .args .route .now) (s .args .allowance) (s .pre) (take (s .args .k) (l .cut)) (l .index) (l .examined) (l .accepted) (l .route) (l .inv .1) e (l .cut) refl (c .before .before .before .before .if1 .left) (not-true _ (c .before .before .if2 .taken)) _ (sym (take-at (c .before .before .before .before .before .before .before .scan-part .last .1 .1 .1 .1 .1 .1 .1 .1 .1 .1 .1 .1 .1 .1 .1 .1 .1 .1 .1 .0) (drop (s .args .k) (l .cut)) (s .args .k) size)) size;
       kept-is = kept-measured (lent s) (l .route) _ _ _ _ (l .lateness) (l .inv .2);
     })
 
@@ -194,8 +205,8 @@ next-cut-set-requires c κs =
     let e = c .before .before .before .before .before .before .scan-part .ensures in
     rw (take-at (c .before .before .before .before .before .before .scan-part .last .1 .1 .1 .1 .1 .1 .1 .1 .1 .1 .1 .1 .1 .1 .1 .1 .1 .1 .1 .0) (drop (s .args .k) (l .cut)) (s .args .k) (c .before .before .before .before .before .before .scan-part .kept .1 .1 .1 .1 .1 .1 .1 .1 .1 .1 .1 .1 .1 .1 .1 .1 .1 .1 .1 .0 ∙ l .inv .1 .cut-set .many)) (cuts-then (s .args .k) (lent s) (s .args .orders .now) (s .args .masks .now) (s .args .rows .now) (s .args .members .now) (s .args .start) (s .args .from) (s .args .route .now) (s .args .allowance) (s .pre) (take (s .args .k) (l .cut)) (l .index) (l .examined) (l .accepted) (l .route) (l .inv .1) e (not-false _ (c .before .if2 .left)))
 
-array-read-t71 : tie.Need-array-read-t71 Inv-loop μ-loop
-array-read-t71 c = search needs
+array-read-t77 : tie.Need-array-read-t77 Inv-loop μ-loop
+array-read-t77 c = search needs
 
 same-length-2 : tie.Need-same-length-2 Inv-loop μ-loop
 same-length-2 c =
@@ -243,6 +254,9 @@ scan-cut-sets-spec =
     μ-loop
     measure-requires
     loop-holds
+    sub-last
+    mul-last
+    array-read-last
     array-borrow-prefix-cut
     slice-aggregate-scan-part
     sub-scan-part
@@ -264,7 +278,7 @@ scan-cut-sets-spec =
     array-borrow-prefix-cut-2
     slice-aggregate-next-cut-set
     next-cut-set-requires
-    array-read-t71
+    array-read-t77
     same-length-2
     returns-2
     loop-less-2

@@ -5,32 +5,23 @@ use borrow.Author.Needs.{needs}
 use Rattle.scan_loop.proofs.spent.Statement.{statement}
 use Rattle.scan_loop.proofs.spent.Tie as tie
 
-sub-cuts : tie.Need-sub-cuts
-sub-cuts c = search needs
-
-mul-cuts : tie.Need-mul-cuts
-mul-cuts c = search needs
-
-array-read-cuts : tie.Need-array-read-cuts
-array-read-cuts c = search needs
-
 div-cuts : tie.Need-div-cuts
 div-cuts c = search needs
 
 add-cuts : tie.Need-add-cuts
 add-cuts c = record { fits = omega (arith, c .pre .below, div-lt-iff-lt-mul (c .pre .some) .1 (c .pre .fewer)) }
 
-sub-cuts-2 : tie.Need-sub-cuts-2
-sub-cuts-2 c = search needs
+sub-cuts : tie.Need-sub-cuts
+sub-cuts c = search needs
 
-mul-cuts-2 : tie.Need-mul-cuts-2
-mul-cuts-2 c = search needs
+mul-cuts : tie.Need-mul-cuts
+mul-cuts c = search needs
 
 array-write-cuts : tie.Need-array-write-cuts
 array-write-cuts c = search needs
 
-rem-t17 : tie.Need-rem-t17
-rem-t17 c = search needs
+rem-t11 : tie.Need-rem-t11
+rem-t11 c = search needs
 
 returns : tie.Need-returns
 returns c = search needs
@@ -39,13 +30,10 @@ pub spent-spec : {M : Type 1} → statement M
 spent-spec =
     tie.close
     (tie.spec
-    sub-cuts
-    mul-cuts
-    array-read-cuts
     div-cuts
     add-cuts
-    sub-cuts-2
-    mul-cuts-2
+    sub-cuts
+    mul-cuts
     array-write-cuts
-    rem-t17
+    rem-t11
     returns)

@@ -1,9 +1,9 @@
--- `scan_loop::scan_part` meets its contract. Assumes nothing.
+-- `scan_rest::scan_part` meets its contract. Assumes nothing.
 use mathlib.Core.Path.{refl}
 use borrow.Author.Needs.{needs}
-use Rattle.scan_loop.proofs.Parts.{whole}
-use Rattle.scan_loop.proofs.scan_part.Statement.{statement}
-use Rattle.scan_loop.proofs.scan_part.Tie as tie
+use Rattle.scan_rest.proofs.Parts.{whole}
+use Rattle.scan_rest.proofs.scan_part.Statement.{statement}
+use Rattle.scan_rest.proofs.scan_part.Tie as tie
 
 scan-stretch-requires : tie.Need-scan-stretch-requires
 scan-stretch-requires c κs = c .before .before .before .before .before .before .before .before .before .before .before .before .pre .stretchable

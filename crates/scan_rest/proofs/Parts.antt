@@ -29,6 +29,6 @@ module _ {T : Trip} {members rows orders masks : List ℕ} {index : ℕ} {r forw
         allowed = e .allowed;
         gain = λ g. (e .gain g .0, rw none-before (e .gain g .1));
         over = λ w. rw none-before (record { last = length r; least = last-below; most = omega arith; cuts-are = e .over w .1; is = e .over w .0 ∙ ap (λ m. m * length (pattern-rows (length cuts) orders masks)) n });
-        spent = λ g w. (e .spent g w .0, omega (arith, z, e .spent g w .1));
+        spent = λ g w. (e .spent g w .0, omega (arith, z, e .spent g w .1), e .spent g w .2);
         padded = s .padded;
       }
