@@ -51,7 +51,7 @@ fn show_sums(examined: u64, accepted: u64) {
 fn show_slices(k: usize, allowance: u64, route: &mut [u32], place: &mut [u64]) {
     let mut examined = 0u64;
     let mut accepted = 0u64;
-    for _ in 0..20 {
+    for _ in 0..20usize {
         let told = show_slice(k, allowance, route, place);
         examined = std::num::wrapping_add_u64(examined, told[1]);
         accepted = std::num::wrapping_add_u64(accepted, told[2]);
