@@ -30,16 +30,15 @@ use Rattle.scan_loop.proofs.Scanning as Scanning
 use Rattle.scan_loop.specs.declared.Scanned.{Scanned}
 use Rattle.polishing.specs.declared.Sliced.{Sliced}
 use Rattle.polishing.specs.Loop.{PolishableRows, Started, SliceableRows, ScannedWith, SlicedRows}
-use Rattle.scan_joints.specs.States.{StateRows}
 
 module _ (k : ℕ) (T : Trip) (orders masks members start : List ℕ) (from : ℕ) (route : List ℕ) (A : ℕ) (ok : SliceableRows k T orders masks members start from route) where
   for-cuts : ForCuts k (pattern-rows k orders masks)
   for-cuts = rows-for-cuts k orders masks (omega (arith, ok .rows .least)) (ok .rows .patterns)
 
-  pub scannable : (rows : List ℕ) → k ≤ length route + 1 → StateRows k orders masks (length masks) rows → Scannable k T orders masks rows members start from route
-  scannable rows h s =
+  pub scannable : k ≤ length route + 1 → Scannable k T orders masks members start from route
+  scannable h =
       let p = ok .rows in
-      record { least = p .least; most = p .most; timed = p .timed; patterns = p .patterns; state-rows = s; lent = p .lent; places = ok .started .places; place = ok .started .place h }
+      record { least = p .least; most = p .most; timed = p .timed; patterns = p .patterns; lent = p .lent; places = ok .started .places; place = ok .started .place h }
 
   abbrev P : Problem
   P = problem T

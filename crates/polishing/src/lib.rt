@@ -1,7 +1,6 @@
 // Polishing a route by the scan of document 01, with every pattern for k or with lent rows of patterns; with pairs, whose words are lent beside them, or without. No
 // entry: crates mittenschist, run and text call it. All stands on the slice: the scan from a place on.
 use precedence::MEMBERS;
-use scan_joints::ROW_BYTES;
 use scan_loop::Scanned;
 use theory::Counts;
 use theory::Polished;
@@ -53,8 +52,6 @@ fn scanned_with(
             index: 0,
         };
     }
-    let mut rows = [0u8; ROW_BYTES];
-    scan_rows::fill_rows(k, orders, masks, &mut rows);
     scan_loop::scan_cut_sets(
         k,
         allowance,
@@ -68,7 +65,6 @@ fn scanned_with(
         members,
         orders,
         masks,
-        &rows,
         start,
         from,
         route,

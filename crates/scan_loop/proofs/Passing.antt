@@ -8,7 +8,7 @@ use Prim.Native.Nat.{ℕ, zero, suc, _+_, _-_, _*_, _/_, _%_, _≤_, _<_}
 use native.Mathlib.Omega.{arith}
 use native.Mathlib.Nat.{suc-mul, mul-le-mul-right}
 use lib.Dec.{leb, eqb}
-use lib.ListN.{length, take, getD, set}
+use lib.ListN.{length, take, getD, set, replicate}
 use lib.Seq.{getD-take, take-set-lt}
 use borrow.Author.Tests.{le-leb, lt-leb, eq-eqb, ne-eqb}
 use Rattle.theory.specs.Scan.{improves}
@@ -34,12 +34,12 @@ use Rattle.precedence.specs.Words.{PairsLent, BackSince}
 use Rattle.precedence_marks.proofs.Judged.{kept-reach, kept-since}
 use Rattle.scan_stretch.specs.Stretch.{HeadsKept}
 use Rattle.scan_stretch.proofs.Stretching.{last-stored}
-use Rattle.scan_rest.specs.Rest.{PartScannable, PartScanned}
+use Rattle.scan_rest.specs.Rest.{RowsFrom, PartScannable, PartScanned}
 use Rattle.candidates.specs.Candidate.{candidate, Candidate}
 use Rattle.scan_taking.specs.declared.Limits.{Limits}
 use Rattle.scan_taking.specs.Measure.{Measured, Cleared}
 use Rattle.scan_loop.specs.Loop.{Scannable, Spendable, place-held}
-use Rattle.scan_loop.proofs.Scanning.{At, many, for-cuts, below, same-size, index-below, timed, own-cuts, own-rows, own-list, first-set}
+use Rattle.scan_loop.proofs.Scanning.{At, many, for-cuts, below, same-size, index-below, timed, own-cuts, own-rows, first-set}
 
 -- What improves keeps every deadline and every pair.
 both-true : (a b : Bool) → (a && b) ≡ true → (a ≡ true) × (b ≡ true)
@@ -49,6 +49,10 @@ both-true false b h = absurd (true≢false (sym h))
 at-most-none : (x : ℕ) → leb x 0 ≡ eqb x 0
 at-most-none zero = le-leb 0 0 (omega arith) ∙ sym (eq-eqb 0 0 refl)
 at-most-none (suc x) = lt-leb (suc x) 0 (omega arith) ∙ sym (ne-eqb (suc x) 0 (λ e. absurd (omega (arith, e))))
+
+-- No rows are filled before the first turn.
+pub none-filled : (k : ℕ) (orders masks : List ℕ) → RowsFrom k orders masks (length masks) (replicate 1532 0)
+none-filled k orders masks = record { places = refl; listed = λ h. absurd (omega (arith, h)) }
 
 -- What is at hand of a route: its sums, its stays and its lateness, and what it leaves to its candidates.
 pub record Known (T : Trip) (r forward-sums backward-sums stayed : List ℕ) (limits : Limits) (late : List ℕ) : Type 0 where
@@ -82,16 +86,16 @@ kept-measured T r forwards backwards stayed limits late m =
     rw (m .latenesses .each 0 (omega arith))
     (sym (timely-on-time (timetable-by (T .tables)) (T .depot) r ∙ on-time-is (clock-by (T .tables)) (T .depot) r ∙ at-most-none (lateness (clock-by (T .tables)) (T .depot) r 0)))
 
-module _ (k : ℕ) (T : Trip) (orders masks rows members start : List ℕ) (from : ℕ) (route₀ : List ℕ) (A : ℕ) (ok : Scannable k T orders masks rows members start from route₀) where
+module _ (k : ℕ) (T : Trip) (orders masks members start : List ℕ) (from : ℕ) (route₀ : List ℕ) (A : ℕ) (ok : Scannable k T orders masks members start from route₀) where
   abbrev ps : List Pattern
   ps = pattern-rows k orders masks
 
   as-many : length (pattern-rows k orders masks) ≡ length masks
-  as-many = many k T orders masks rows members start from route₀ A ok
+  as-many = many k T orders masks members start from route₀ A ok
 
-  module _ (cuts : List ℕ) (i e c : ℕ) (r : List ℕ) (now : At k T orders masks rows members start from route₀ A ok cuts i e c r) where
+  module _ (cuts : List ℕ) (i e c : ℕ) (r : List ℕ) (now : At k T orders masks members start from route₀ A ok cuts i e c r) where
     same : length r ≡ length route₀
-    same = same-size k T orders masks rows members start from route₀ A ok cuts i e c r now
+    same = same-size k T orders masks members start from route₀ A ok cuts i e c r now
 
     own : length cuts ≡ k
     own = now .cut-set .many
@@ -99,11 +103,11 @@ module _ (k : ℕ) (T : Trip) (orders masks rows members start : List ℕ) (from
     parted : cuts ≡ first-cuts cuts ++ (last-cut cuts ∷ [])
     parted = cuts-parted cuts (omega (arith, own, now .cut-set .least))
 
-    here : At k T orders masks rows members start from route₀ A ok (first-cuts cuts ++ (last-cut cuts ∷ [])) i e c r
+    here : At k T orders masks members start from route₀ A ok (first-cuts cuts ++ (last-cut cuts ∷ [])) i e c r
     here = rw (← parted) now
 
     last-below : last-cut cuts ≤ length r
-    last-below = cut-below cuts r (own-cuts k T orders masks rows members start from route₀ A ok cuts i e c r now) (length cuts - 1) (omega (arith, own, now .cut-set .least))
+    last-below = cut-below cuts r (own-cuts k T orders masks members start from route₀ A ok cuts i e c r now) (length cuts - 1) (omega (arith, own, now .cut-set .least))
 
     -- Another last cut behind the first cuts.
     set-at : (t : ℕ) → last-cut cuts ≤ t → t ≤ length r → CutSet k (length route₀) (first-cuts cuts ++ (t ∷ []))
@@ -117,30 +121,30 @@ module _ (k : ℕ) (T : Trip) (orders masks rows members start : List ℕ) (from
 
     -- ---- before a stretch
 
-    pub partable : {forwards backwards stayed table late : List ℕ} {limits : Limits} → Known T r forwards backwards stayed limits late → Padded table →
-        PartScannable T members rows orders masks i r forwards backwards stayed (limits .heads) late (limits .since) cuts table
-    partable m p =
+    pub partable : {forwards backwards stayed table late rows : List ℕ} {limits : Limits} {filled : ℕ} → Known T r forwards backwards stayed limits late → Padded table → RowsFrom k orders masks filled rows →
+        PartScannable T members rows orders masks i r forwards backwards stayed (limits .heads) late (limits .since) cuts table filled
+    partable m p f =
         record {
-          stretchable = record {
-            searchable = record {
-              timed = timed k T orders masks rows members start from route₀ A ok cuts i e c r now;
-              forwards = m .forwards;
-              backwards = m .backwards;
-              stays = m .stays;
-              cut-set = own-cuts k T orders masks rows members start from route₀ A ok cuts i e c r now;
-            };
-            list = pattern-rows (length cuts) orders masks;
-            listed = own-list k T orders masks rows members start from route₀ A ok cuts i e c r now;
-            padded = p;
-            head = m .head;
-            latenesses = m .latenesses;
-            lent = ok .lent;
-            back = m .back;
+          searchable = record {
+            timed = timed k T orders masks members start from route₀ A ok cuts i e c r now;
+            forwards = m .forwards;
+            backwards = m .backwards;
+            stays = m .stays;
+            cut-set = own-cuts k T orders masks members start from route₀ A ok cuts i e c r now;
           };
-          patterns = own-rows k T orders masks rows members start from route₀ A ok cuts i e c r now;
-          listed = own-list k T orders masks rows members start from route₀ A ok cuts i e c r now;
-          known = index-below k T orders masks rows members start from route₀ A ok cuts i e c r now;
+          padded = p;
+          head = m .head;
+          latenesses = m .latenesses;
+          lent = ok .lent;
+          back = m .back;
+          patterns = own-rows k T orders masks members start from route₀ A ok cuts i e c r now;
+          known = index-below k T orders masks members start from route₀ A ok cuts i e c r now;
+          held = rw own f;
         }
+
+    -- The rows are then those from the index on.
+    pub filled-there : {rows : List ℕ} → RowsFrom (length cuts) orders masks i rows → RowsFrom k orders masks i rows
+    filled-there f = rw own at f
 
     -- ---- behind a stretch
 
@@ -152,7 +156,7 @@ module _ (k : ℕ) (T : Trip) (orders masks rows members start : List ℕ) (from
       idle t y h l b n m = end .idle t y h (omega (arith, same)) b n m
 
       pub in-allowance : e + answer .examined ≤ A
-      in-allowance = omega (arith, end .allowed, below k T orders masks rows members start from route₀ A ok cuts i e c r now)
+      in-allowance = omega (arith, end .allowed, below k T orders masks members start from route₀ A ok cuts i e c r now)
 
       -- The candidate of its number is accepted, and the scan begins again.
       module _ (g : answer .gains ≡ true) where
@@ -172,7 +176,7 @@ module _ (k : ℕ) (T : Trip) (orders masks rows members start : List ℕ) (from
         listed = rw as-many at (end .gain g .1 .listed)
 
         pub room-for-it : e + answer .examined + 1 ≤ A
-        room-for-it = omega (arith, end .gain g .0, below k T orders masks rows members start from route₀ A ok cuts i e c r now)
+        room-for-it = omega (arith, end .gain g .0, below k T orders masks members start from route₀ A ok cuts i e c r now)
 
         there : CutSet (length cuts′) (length r) cuts′
         there = own-set cuts′ t (end .gain g .1 .cuts-are) (end .gain g .1 .least) (end .gain g .1 .most)
@@ -193,11 +197,11 @@ module _ (k : ℕ) (T : Trip) (orders masks rows members start : List ℕ) (from
           gains-there : improves (search-of (problem T) (pattern-rows k orders masks) k (length route₀)) r (move-at (pattern-rows k orders masks) (first-cuts cuts ++ (t ∷ [])) x) ≡ true
           gains-there = end .gain g .1 .improves
 
-          pub begins-again : At k T orders masks rows members start from route₀ A ok (take k (0 ∷ 1 ∷ 2 ∷ 3 ∷ 4 ∷ [])) 0 (e + answer .examined + 1) (c + 1) r′
+          pub begins-again : At k T orders masks members start from route₀ A ok (take k (0 ∷ 1 ∷ 2 ∷ 3 ∷ 4 ∷ [])) 0 (e + answer .examined + 1) (c + 1) r′
           begins-again =
               rw (first-set k (ok .most), built, ← last-is)
               (Slicing.gained (problem T) (pattern-rows k orders masks) k A (place-held k start from) route₀ (first-cuts cuts) (last-cut cuts) i e c r here
-              (for-cuts k T orders masks rows members start from route₀ A ok) (answer .examined) h x (omega (arith, as-many, listed)) (end .gain g .1 .is) (omega (arith, end .gain g .1 .least, end .gain g .1 .most, same)) idle (omega (arith, room-for-it))
+              (for-cuts k T orders masks members start from route₀ A ok) (answer .examined) h x (omega (arith, as-many, listed)) (end .gain g .1 .is) (omega (arith, end .gain g .1 .least, end .gain g .1 .most, same)) idle (omega (arith, room-for-it))
               (rw last-is gains-there))
 
           then-feasible : feasible (problem T) r′ ≡ true
@@ -246,7 +250,7 @@ module _ (k : ℕ) (T : Trip) (orders masks rows members start : List ℕ) (from
               least = ok .least;
               most = ok .most;
               places = five;
-              some = omega (arith, index-below k T orders masks rows members start from route₀ A ok cuts i e c r now);
+              some = omega (arith, index-below k T orders masks members start from route₀ A ok cuts i e c r now);
               below = omega (arith, last-held, last-below, same, now .cut-set .short);
               fewer = omega (arith, few, mul-le-mul-right (length masks) m);
             }
@@ -268,7 +272,7 @@ module _ (k : ℕ) (T : Trip) (orders masks rows members start : List ℕ) (from
             }
             ≡ slice (problem T) (pattern-rows k orders masks) k A (place-held k start from) route₀
         spent-now cut is m =
-            let all : e + answer .examined ≡ A = omega (arith, end .spent g w .0, below k T orders masks rows members start from route₀ A ok cuts i e c r now) in
+            let all : e + answer .examined ≡ A = omega (arith, end .spent g w .0, below k T orders masks members start from route₀ A ok cuts i e c r now) in
             let s = Slicing.is-spent (problem T) (pattern-rows k orders masks) k A (place-held k start from) route₀ (first-cuts cuts) (last-cut cuts) i e c r here (answer .examined) all (rw as-many few) idle in
             rw (cuts-held cut is m (getD begun (k - 1) 0 + (i + answer .examined) / length masks), last-held) (sym (rw as-many at s))
 
@@ -294,12 +298,12 @@ module _ (k : ℕ) (T : Trip) (orders masks rows members start : List ℕ) (from
         cuts-then = own-set cuts′ (end .over w .last) (end .over w .cuts-are) (end .over w .least) (end .over w .most)
 
         module _ (cuts″ : List ℕ) where
-          pub moves-on : Stepped (length r) cuts′ true cuts″ → At k T orders masks rows members start from route₀ A ok cuts″ 0 (e + answer .examined) c r
+          pub moves-on : Stepped (length r) cuts′ true cuts″ → At k T orders masks members start from route₀ A ok cuts″ 0 (e + answer .examined) c r
           moves-on s = by (next-cuts (length route₀) (first-cuts cuts ++ ((last-cut cuts + u) ∷ []))) refl (rw (cuts-are, same) at (s .moved)) (rw (cuts-are, same) at (s .cuts-after))
             where
               by : (o : Option (List ℕ)) → next-cuts (length route₀) (first-cuts cuts ++ ((last-cut cuts + u) ∷ [])) ≡ o → true ≡ found (next-cuts (length route₀) (first-cuts cuts ++ ((last-cut cuts + u) ∷ []))) →
                   cuts″ ≡ or-unmoved (next-cuts (length route₀) (first-cuts cuts ++ ((last-cut cuts + u) ∷ []))) (first-cuts cuts ++ ((last-cut cuts + u) ∷ [])) →
-                  At k T orders masks rows members start from route₀ A ok cuts″ 0 (e + answer .examined) c r
+                  At k T orders masks members start from route₀ A ok cuts″ 0 (e + answer .examined) c r
               by none o m a = absurd (true≢false (rw o at m))
               by (some cs) o m a =
                   let q : cuts″ ≡ cs = rw o at a in

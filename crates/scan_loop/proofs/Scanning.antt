@@ -11,8 +11,6 @@ use Rattle.theory.proofs.Rows.{length-rows}
 use Rattle.theory.proofs.ForK.{rows-for-cuts}
 use Rattle.theory.proofs.Stops.{stops-rearranged}
 use Rattle.slices.proofs.Slicing as Slicing
-use Rattle.scan_stretch.specs.Stretch.{Listed}
-use Rattle.scan_rest.proofs.Listing.{listed-rows}
 use Rattle.scan_loop.specs.Loop.{Scannable, place-held}
 
 -- The first cut set, as the array has it.
@@ -26,7 +24,7 @@ first-set (suc (suc (suc (suc zero)))) h = refl
 first-set (suc (suc (suc (suc (suc zero))))) h = refl
 first-set (suc (suc (suc (suc (suc (suc k)))))) h = absurd (omega arith)
 
-module _ (k : ℕ) (T : Trip) (orders masks rows members start : List ℕ) (from : ℕ) (route₀ : List ℕ) (A : ℕ) (ok : Scannable k T orders masks rows members start from route₀) where
+module _ (k : ℕ) (T : Trip) (orders masks members start : List ℕ) (from : ℕ) (route₀ : List ℕ) (A : ℕ) (ok : Scannable k T orders masks members start from route₀) where
   -- At cuts and an index, with e examined and c accepted.
   abbrev pub At : List ℕ → ℕ → ℕ → ℕ → List ℕ → Type 0
   At cuts i e c r = Slicing.Slicing (problem T) (pattern-rows k orders masks) k A (place-held k start from) route₀ cuts i e c r
@@ -68,7 +66,3 @@ module _ (k : ℕ) (T : Trip) (orders masks rows members start : List ℕ) (from
 
     pub own-rows : PatternRows (length cuts) orders masks
     own-rows = rw (now .cut-set .many) (ok .patterns)
-
-    -- The patterns as rows of states.
-    pub own-list : Listed (length cuts) (length masks) rows (pattern-rows (length cuts) orders masks)
-    own-list = rw (now .cut-set .many) (listed-rows k orders masks rows (ok .patterns) (ok .state-rows))

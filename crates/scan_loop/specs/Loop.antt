@@ -10,7 +10,6 @@ use Rattle.theory.specs.Route.{Problem, timetable-of, timely}
 use Rattle.theory.specs.Tables.{Timed, PatternRows, pattern-rows, Trip}
 use Rattle.slices.specs.Places.{Place, IsPlace}
 use Rattle.slices.specs.Slices.{slice}
-use Rattle.scan_joints.specs.States.{StateRows}
 use Rattle.precedence.specs.Words.{PairsLent}
 use Rattle.scan_loop.specs.declared.Scanned.{Scanned}
 
@@ -18,13 +17,12 @@ use Rattle.scan_loop.specs.declared.Scanned.{Scanned}
 abbrev pub place-held : ℕ → List ℕ → ℕ → Place
 place-held k cuts index = record { cuts = take k cuts; index = index }
 
--- A route that has a cut set of k cuts, rows of patterns, the words of the trip's pairs, and a place.
-pub record Scannable (k : ℕ) (T : Trip) (orders masks rows members start : List ℕ) (from : ℕ) (route : List ℕ) : Type 0 where
+-- A route that has a cut set of k cuts, a list of patterns, the words of the trip's pairs, and a place.
+pub record Scannable (k : ℕ) (T : Trip) (orders masks members start : List ℕ) (from : ℕ) (route : List ℕ) : Type 0 where
   pub least : 2 ≤ k
   pub most : k ≤ 5
   pub timed : Timed T route
   pub patterns : PatternRows k orders masks
-  pub state-rows : StateRows k orders masks (length masks) rows
   pub lent : PairsLent (pairs-of (T .pairs)) members
   pub places : length start ≡ 5
   pub place : IsPlace (pattern-rows k orders masks) k (length route) (place-held k start from)

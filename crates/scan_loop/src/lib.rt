@@ -58,12 +58,11 @@ pub fn scan_cut_sets(
     members: &[u64],
     orders: &[u8],
     masks: &[u8],
-    rows: &[u8; ROW_BYTES],
     start: [usize; 5],
     from: usize,
     route: &mut [u32],
 ) -> Scanned
-    requires { ⌜ Scannable k (trip locations (now legs) (now latest) (now service) depot end (now pairs)) (now orders) (now masks) (now rows) (now members) start from (now route) ⌝ }
+    requires { ⌜ Scannable k (trip locations (now legs) (now latest) (now service) depot end (now pairs)) (now orders) (now masks) (now members) start from (now route) ⌝ }
     ensures { λ r. ⌜ Scans (problem (trip locations (now (legs .entry)) (now (latest .entry)) (now (service .entry)) depot end (now (pairs .entry)))) (pattern-rows k (now (orders .entry)) (now (masks .entry))) k allowance start from (now (route .entry)) r (now (route .exit)) ⌝ }
 {
     let mut forward = [0u64; STOPS];
@@ -86,6 +85,8 @@ pub fn scan_cut_sets(
     );
     let mut cut = start;
     let mut index = from;
+    let mut rows = [0u8; ROW_BYTES];
+    let mut filled = masks.len();
     let mut examined = 0u64;
     let mut accepted = 0u64;
     loop {
@@ -101,7 +102,7 @@ pub fn scan_cut_sets(
             members,
             orders,
             masks,
-            rows,
+            &mut rows,
             index,
             &route[..],
             &forward,
@@ -112,8 +113,10 @@ pub fn scan_cut_sets(
             limits.since,
             &mut cut[..k],
             &mut joint,
+            filled,
             allowance - examined,
         );
+        filled = index;
         examined += stretch.examined;
         if stretch.gains {
             scan_taking::take_gain(

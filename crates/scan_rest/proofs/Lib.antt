@@ -1,3 +1,2 @@
-pub mod Listing
-mod Resting
+mod Listing
 mod Parts
