@@ -256,8 +256,8 @@ mod tests {
         for jobs in 1..3 {
             let mut told = Vec::new();
             assert!(all_told(&question, jobs, &mut told));
-            let first = "round 1: 23 s before, 23 s after, 0 s saved; time over after 0 candidates; order 1,2,3,4";
-            assert_eq!(told[0], first);
+            let first = "round 1: 23 s before, 23 s after, 0 s saved; time over after 0 candidates; order 1,2,3,4; stop 3, ";
+            assert!(told[0].starts_with(first));
             assert!(told[1].starts_with("round 2: refused (4)"));
             let last = "4 rounds: 35 s before, 35 s after, 0 s saved in all; 3 stopped by the time; 1 refused";
             assert_eq!(told[4], last);

@@ -13,7 +13,7 @@ const CALL: &str = "polish_slice";
 
 pub const FAMILIES: [Family; 6] = [
     Family::new(CALL, "slices/each", Source::Each(generate::each)),
-    Family::new(CALL, "slices/around", Source::Several(8, around::draw)),
+    Family::new(CALL, "slices/around", Source::Several(13, around::draw)),
     Family::new(CALL, "slices/whole", Source::Drawn(120, 0, whole::draw)),
     Family::new(CALL, "slices/long", Source::Drawn(6, 0, whole::draw_long)),
     Family::new(
