@@ -5,7 +5,7 @@ use std::time::Duration;
 /// The first slice has so many, and none has fewer: with no speed known yet, and small enough to come back at once.
 const FEWEST: u64 = 1024;
 
-/// A slice takes no longer than this where its candidates cost what the last ones did. They may cost a hundred times as much.
+/// A slice takes no longer than this where its candidates cost what the last ones did. They may cost several times as much.
 const SOON: Duration = Duration::from_millis(10);
 
 /// No slice has more than so many times the candidates of the one before it.

@@ -75,7 +75,9 @@ fn in_slices(
         }
         let ran = polisher.run_within(left, time.min(board.pause()))?;
         polished = polished.then(ran);
-        board.show(place, &polisher.progress());
+        if ran.ending == Ending::Spent {
+            board.show(place, &polisher.progress());
+        }
     }
 }
 

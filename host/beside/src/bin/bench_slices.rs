@@ -1,6 +1,6 @@
-//! bench_slices: times slices of polishing, and prints Markdown tables: how soon a slice of a million candidates comes back at 512 stops, over a search; and
-//! searches cut into slices of 10,000, 100,000 and 1,000,000 candidates beside one call of as many, in turn and on the same inputs. Every sum and route is
-//! checked first.
+//! bench_slices: times slices of polishing, and prints Markdown tables: how soon a slice of a million candidates comes back at 512 stops, over a search, and how
+//! soon a polisher that was given a time; what a slice costs besides its candidates; and searches cut into slices of 10,000, 100,000 and 1,000,000 candidates beside
+//! one call of as many, in turn and on the same inputs, where every sum and route is checked first.
 
 #![forbid(unsafe_code)]
 
@@ -26,11 +26,25 @@ const MILLION: u64 = 1_000_000;
 const SEARCH: u64 = 8 * MILLION;
 const TOO_SHORT: u64 = 100_000;
 
-/// *good* is the route that polishing *busy* has come to after 400 million candidates; *paired* is *busy* with 64 pairs that it keeps.
-const KINDS: [&str; 6] = ["quiet", "busy", "deadlines", "service", "good", "paired"];
+/// *good* is the route that polishing *busy* has come to after 400 million candidates; *paired* is *busy* with 64 pairs that it keeps, *polished* the route
+/// that polishing it has come to after as many.
+const KINDS: [&str; 7] = [
+    "quiet",
+    "busy",
+    "deadlines",
+    "service",
+    "good",
+    "paired",
+    "polished",
+];
+
+/// What a polisher is given, so many times over a search.
+const TIME: Duration = Duration::from_millis(20);
+const TIMES: usize = 25;
 
 fn main() -> ExitCode {
     come_back();
+    alone();
     match beside_one_call() {
         Ok(()) => ExitCode::SUCCESS,
         Err(row) => {
@@ -41,18 +55,17 @@ fn main() -> ExitCode {
 }
 
 fn case_of(kind: &str, k: usize, stops: usize) -> (Case, Vec<Pair>) {
-    let kept = match kind {
-        "good" | "paired" => "busy",
+    let drawn = match kind {
+        "good" | "paired" | "polished" => "busy",
         other => other,
     };
-    let mut case = measured::case(kept, k, stops);
+    let mut case = measured::case(drawn, k, stops);
     let mut pairs = Vec::new();
-    match kind {
-        "good" => {
-            whole(&mut case, &[], 400 * MILLION);
-        }
-        "paired" => pairs = kept_by(&mut Random::new(1958), &case.route, 64),
-        _ => {}
+    if kind == "paired" || kind == "polished" {
+        pairs = kept_by(&mut Random::new(1958), &case.route, 64);
+    }
+    if kind == "good" || kind == "polished" {
+        whole(&mut case, &pairs, 400 * MILLION);
     }
     (case, pairs)
 }
@@ -112,22 +125,73 @@ fn milliseconds(time: Duration) -> f64 {
 }
 
 fn come_back() {
-    println!("A slice of 1,000,000 candidates at 512 stops\n\n| k | table | slices | candidates | accepted | median ms | highest ms |\n|---|---|---|---|---|---|---|");
+    println!("A slice of 1,000,000 candidates at 512 stops, and `run_for` 20 ms\n\n| k | table | slices | candidates | accepted | median ms | highest ms | `run_for` 20 ms, median | highest |\n|---|---|---|---|---|---|---|---|---|");
     for k in 2..=5 {
         for kind in KINDS {
             let (case, pairs) = case_of(kind, k, 512);
-            let (sum, mut best) = best_times(&case, &pairs);
-            best.sort_unstable();
-            let (median, highest) = (best[best.len() / 2], best[best.len() - 1]);
+            let (sum, best) = best_times(&case, &pairs);
             println!(
-                "| {k} | {kind} | {} | {} | {} | {:.2} | {:.2} |",
+                "| {k} | {kind} | {} | {} | {} |{}{}",
                 best.len(),
                 sum.examined,
                 sum.accepted,
-                milliseconds(median),
-                milliseconds(highest)
+                told(best),
+                told(given_a_time(case, &pairs))
             );
         }
+    }
+}
+
+/// The median and the highest.
+fn told(mut times: Vec<Duration>) -> String {
+    times.sort_unstable();
+    match times[..] {
+        [] => String::from(" | |"),
+        [.., highest] => {
+            let median = times[times.len() / 2];
+            format!(
+                " {:.2} | {:.2} |",
+                milliseconds(median),
+                milliseconds(highest)
+            )
+        }
+    }
+}
+
+/// When a polisher came back each time, but for the one in which it finished.
+fn given_a_time(mut case: Case, pairs: &[Pair]) -> Vec<Duration> {
+    let mut route = std::mem::take(&mut case.route);
+    let tables = tables(&case);
+    let mut polisher = Polisher::new(case.k, &tables, case.depot, pairs, &mut route);
+    let mut times = Vec::new();
+    for _ in 0..TIMES {
+        let start = Instant::now();
+        let ran = polisher.run_for(TIME).expect("no refusal");
+        let took = start.elapsed();
+        if ran.ending == Ending::Finished {
+            break;
+        }
+        times.push(took);
+    }
+    times
+}
+
+/// Slices of one candidate, which cost what a slice costs.
+fn alone() {
+    println!("\nWhat a slice costs besides its candidates, us\n\n| stops | locations | k = 2 | k = 3 | k = 4 | k = 5 |\n|---|---|---|---|---|---|");
+    for (stops, locations) in [(20, 21), (64, 65), (128, 129), (512, 513), (512, 1024)] {
+        let each = [2, 3, 4, 5].map(|k| {
+            let mut case = measured::case("quiet", k, locations - 1);
+            case.route.truncate(stops);
+            // Slices enough to begin at many patterns of a cut set.
+            let slices = 200;
+            let mut call = || {
+                black_box(in_slices(&mut case.clone(), &[], slices, 1, |_| ()));
+            };
+            let [best] = timed(TURNS, 1, [&mut call]);
+            format!(" {:.1} |", best.as_secs_f64() * 1e6 / slices as f64)
+        });
+        println!("| {stops} | {locations} |{}", each.concat());
     }
 }
 
