@@ -15,8 +15,9 @@ use std::hint::black_box;
 use std::process::ExitCode;
 use std::time::{Duration, Instant};
 
-/// The best of so many counts.
+/// The best of so many counts; of the searches beside one call that of more.
 const TURNS: usize = 5;
+const SEARCH_TURNS: usize = 11;
 
 /// A search of the first table has at most so many slices.
 const SLICES: usize = 100;
@@ -272,7 +273,7 @@ fn row_of(row: &str, kind: &str, k: usize, stops: usize) -> Result<Option<[f64; 
         }
     });
     let [whole, times @ ..] = timed(
-        TURNS,
+        SEARCH_TURNS,
         1,
         [&mut by_one, &mut million, &mut tenth, &mut hundredth],
     );
