@@ -209,8 +209,8 @@ uint32_t mittenschist_polish_route_with_pairs(size_t k, uint64_t allowance, size
  *   place   read and written   k + 1 places: the cuts, the index. Then: spent, the place of the next candidate; finished, the first place again
  *   result  written            as for it, of this slice
  *   all others                 as for it
- * With k above the number of stops + 1 it is finished at once, whatever the place holds. Each slice measures its route anew: from about a million
- * candidates on (milliseconds) that does not show.
+ * With k above the number of stops + 1 it is finished at once, whatever the place holds. Each slice judges its tables and measures its route anew, some
+ * 0.05 ms at 512 stops: in slices of a few milliseconds that does not show.
  * Refuses 1, 2, 3, 23, 4, 24, 29, 5, 6 (no such index), 7 (no such cuts), 21 (place under k + 1 places or result under 6). */
 uint32_t mittenschist_polish_slice(size_t k, uint64_t allowance, size_t locations,
     const uint32_t *legs, size_t legs_len, const uint32_t *latest, size_t latest_len, const uint32_t *service, size_t service_len,

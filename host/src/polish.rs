@@ -70,6 +70,38 @@ impl Polished {
     pub fn saved(&self) -> u64 {
         self.before.saturating_sub(self.after)
     }
+
+    /// Two slices together, where `next` went on from this one: what one call with both allowances answers.
+    ///
+    /// ```
+    /// use mittenschist::{polish_route, Polisher, Tables};
+    ///
+    /// let legs = [0, 5, 1, 1, 0, 5, 5, 1, 0];
+    /// let tables = Tables::without_service(3, &legs, &[u32::MAX; 3]);
+    /// let mut route = [1, 2];
+    /// let mut polisher = Polisher::new(3, &tables, 0, &[], &mut route);
+    /// let both = polisher.step(4)?.then(polisher.step(5)?);
+    /// assert_eq!(both, polish_route(3, 9, &tables, 0, &mut [1, 2])?);
+    /// # Ok::<(), mittenschist::Refusal>(())
+    /// ```
+    pub fn then(self, next: Self) -> Self {
+        Self {
+            examined: self.examined.saturating_add(next.examined),
+            accepted: self.accepted.saturating_add(next.accepted),
+            before: self.before,
+            ..next
+        }
+    }
+
+    /// What is said of the same route when nothing more is examined.
+    pub(crate) fn again(self) -> Self {
+        Self {
+            examined: 0,
+            accepted: 0,
+            before: self.after,
+            ..self
+        }
+    }
 }
 
 /// Polishes a route, examining at most `allowance` candidates: a closed tour where a depot is handed in, else one to an end harbour
@@ -171,6 +203,31 @@ impl Place {
             *index = 0;
         }
         Self { k, numbers }
+    }
+
+    /// The cuts, in rising order.
+    ///
+    /// ```
+    /// assert_eq!(mittenschist::Place::first(3).cuts(), [0, 1, 2]);
+    /// ```
+    pub fn cuts(&self) -> &[u64] {
+        &self.numbers[..self.k.min(5)]
+    }
+
+    /// The index of the pattern.
+    ///
+    /// ```
+    /// assert_eq!(mittenschist::Place::first(3).pattern(), 0);
+    /// ```
+    pub fn pattern(&self) -> u64 {
+        self.numbers[self.k.min(5)]
+    }
+
+    #[cfg(test)]
+    pub(crate) fn with_cuts(cuts: &[u64]) -> Self {
+        let mut place = Self::first(cuts.len());
+        place.numbers[..cuts.len()].copy_from_slice(cuts);
+        place
     }
 }
 

@@ -197,6 +197,15 @@ fn run_family(tallies: &mut Tallies, settings: &Settings, family: &Family, salt:
                 run_drawn(tallies, family, index, drawn);
             }
         }
+        Source::Several(share, several) => {
+            let cases = (settings.cases * share).div_ceil(1000);
+            for index in (0..cases).filter(|&index| settings.wants(index)) {
+                let mut random = Random::of_case(settings.seed, salt, index);
+                several(&mut random, &mut |trial| {
+                    tallies.compare(family, index, &*trial);
+                });
+            }
+        }
     }
 }
 

@@ -23,7 +23,7 @@ pub fn polish(case: &Case, patterns: &[Pattern]) -> (Counts, Vec<u32>) {
 }
 
 /// The first candidate that improves the route, if one is examined.
-fn improved(
+pub fn improved(
     case: &Case,
     patterns: &[Pattern],
     route: &[u32],

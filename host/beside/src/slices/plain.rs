@@ -1,8 +1,10 @@
-//! The scan from a place on, written from the words: all candidates in a list, those before the place left out.
+//! The scan from a place on, written from the words: all candidates in a list, those before the place left out. And a whole search, from which is read
+//! where it stands after any number of candidates.
 
 use crate::cases::ends::Case;
-use crate::ends::plain::{all_patterns, cut_sets, in_time, rejoined};
+use crate::ends::plain::{all_patterns, cut_sets, improved, in_time, rejoined};
 use crate::oracle::polish::Counts;
+use crate::rules::pattern_count;
 
 /// What a slice of a route counts, the route that it leaves, and the place of the next candidate.
 pub fn slice(case: &Case, place: &[u64]) -> (Counts, Vec<u32>, Vec<u64>) {
@@ -48,4 +50,99 @@ pub fn slice(case: &Case, place: &[u64]) -> (Counts, Vec<u32>, Vec<u64>) {
 
 pub fn first_place(k: usize) -> Vec<u64> {
     (0..k as u64).chain([0]).collect()
+}
+
+/// A pass of a search: how many candidates were examined before it, and the route that it is over.
+struct Pass {
+    begins: u64,
+    route: Vec<u32>,
+}
+
+/// A search until nothing is left.
+pub struct Search {
+    k: usize,
+    sets: Vec<Vec<usize>>,
+    /// One more than there are acceptances.
+    passes: Vec<Pass>,
+    /// Candidates in all.
+    pub examined: u64,
+}
+
+/// Where a search stands.
+pub struct Standing<'s> {
+    pub route: &'s [u32],
+    pub accepted: u64,
+    pub place: Vec<u64>,
+}
+
+impl Search {
+    pub fn of(case: &Case) -> Self {
+        let (mut case, k) = (case.clone(), case.closed.k);
+        case.closed.allowance = u64::MAX;
+        let patterns = all_patterns(k);
+        let mut counts = Counts {
+            spent: false,
+            examined: 0,
+            accepted: 0,
+        };
+        let mut route = case.closed.route.clone();
+        let mut passes = vec![Pass {
+            begins: 0,
+            route: route.clone(),
+        }];
+        while let Some(better) = improved(&case, &patterns, &route, &mut counts) {
+            route.clone_from(&better);
+            passes.push(Pass {
+                begins: counts.examined,
+                route: better,
+            });
+        }
+        Self {
+            k,
+            sets: cut_sets(k, 0, route.len()),
+            passes,
+            examined: counts.examined,
+        }
+    }
+
+    /// After so many candidates; with all of them, at the first place again.
+    pub fn after(&self, candidates: u64) -> Standing<'_> {
+        let begun = self.passes.iter().filter(|pass| pass.begins <= candidates);
+        let accepted = begun.count() - 1;
+        let pass = &self.passes[accepted];
+        let place = if candidates >= self.examined {
+            first_place(self.k)
+        } else {
+            let (next, patterns) = (candidates - pass.begins, pattern_count(self.k) as u64);
+            let cuts = self.sets[(next / patterns) as usize].iter();
+            cuts.map(|&cut| cut as u64)
+                .chain([next % patterns])
+                .collect()
+        };
+        Standing {
+            route: &pass.route,
+            accepted: accepted as u64,
+            place,
+        }
+    }
+
+    /// After how many candidates each pass begins, and after how many it is over.
+    pub fn passes(&self) -> Vec<(u64, u64)> {
+        let begins = self.passes.iter().map(|pass| pass.begins);
+        let over = begins.clone().skip(1).chain([self.examined]);
+        begins.zip(over).collect()
+    }
+
+    /// How many candidates a pass has examined at the end of each stretch: the cut sets that differ in their last cut alone.
+    pub fn stretch_ends(&self) -> Vec<u64> {
+        let fixed = |set: &Vec<usize>| set[..self.k - 1].to_vec();
+        let stretches = self.sets.chunk_by(|one, other| fixed(one) == fixed(other));
+        let lengths = stretches.map(|stretch| (stretch.len() * pattern_count(self.k)) as u64);
+        lengths
+            .scan(0, |examined, length| {
+                *examined += length;
+                Some(*examined)
+            })
+            .collect()
+    }
 }
