@@ -28,12 +28,15 @@ mod first_move;
 mod harbours;
 mod moves;
 mod nearby;
+mod pace;
 mod pairs;
 mod parts;
 mod patterns;
 mod polish;
+mod polisher;
 mod precedence;
 mod problem;
+mod progress;
 #[allow(unsafe_code)]
 pub mod raw;
 mod refusal;
@@ -53,9 +56,11 @@ pub use parts::{
     Reconnection,
 };
 pub use patterns::{polish_with_patterns, polish_with_patterns_and_pairs, PatternList, Patterns};
-pub use polish::{polish_route, polish_route_with_pairs, Ending, Polished};
+pub use polish::{polish_route, polish_route_with_pairs, polish_slice, Ending, Place, Polished};
+pub use polisher::{Polisher, Slices};
 pub use precedence::Pair;
 pub use problem::Problem;
+pub use progress::Progress;
 pub use refusal::Refusal;
 pub use run::{
     run_in_shares, run_list_k_opt, run_list_k_opt_with_pairs, RoundReply, RoundState, Rounds,

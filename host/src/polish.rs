@@ -70,6 +70,38 @@ impl Polished {
     pub fn saved(&self) -> u64 {
         self.before.saturating_sub(self.after)
     }
+
+    /// Two slices together, where `next` went on from this one: what one call with both allowances answers.
+    ///
+    /// ```
+    /// use mittenschist::{polish_route, Polisher, Tables};
+    ///
+    /// let legs = [0, 5, 1, 1, 0, 5, 5, 1, 0];
+    /// let tables = Tables::without_service(3, &legs, &[u32::MAX; 3]);
+    /// let mut route = [1, 2];
+    /// let mut polisher = Polisher::new(3, &tables, 0, &[], &mut route);
+    /// let both = polisher.step(4)?.then(polisher.step(5)?);
+    /// assert_eq!(both, polish_route(3, 9, &tables, 0, &mut [1, 2])?);
+    /// # Ok::<(), mittenschist::Refusal>(())
+    /// ```
+    pub fn then(self, next: Self) -> Self {
+        Self {
+            examined: self.examined.saturating_add(next.examined),
+            accepted: self.accepted.saturating_add(next.accepted),
+            before: self.before,
+            ..next
+        }
+    }
+
+    /// What is said of the same route when nothing more is examined.
+    pub(crate) fn again(self) -> Self {
+        Self {
+            examined: 0,
+            accepted: 0,
+            before: self.after,
+            ..self
+        }
+    }
 }
 
 /// Polishes a route, examining at most `allowance` candidates: a closed tour where a depot is handed in, else one to an end harbour
@@ -150,6 +182,100 @@ pub fn polish_route_with_pairs(
     Polished::by(route, |route, result| {
         raw::polish_route_with_pairs(
             k, allowance, locations, legs, latest, service, depot, end, members, route, result,
+        )
+    })
+}
+
+/// Where the scan of a route goes on: the next candidate to be examined. Only the first place is made here, so a place is that of the slices before.
+///
+/// It belongs to the k it was made for and to the route that its slice left: with another route or other tables the scan goes on from there all the same.
+#[derive(Clone, Copy, Debug, PartialEq, Eq)]
+pub struct Place {
+    k: usize,
+    numbers: [u64; 6],
+}
+
+impl Place {
+    /// Where the scan with k cuts begins.
+    pub fn first(k: usize) -> Self {
+        let mut numbers = [0, 1, 2, 3, 4, 0];
+        if let Some(index) = numbers.get_mut(k) {
+            *index = 0;
+        }
+        Self { k, numbers }
+    }
+
+    /// The cuts, in rising order.
+    ///
+    /// ```
+    /// assert_eq!(mittenschist::Place::first(3).cuts(), [0, 1, 2]);
+    /// ```
+    pub fn cuts(&self) -> &[u64] {
+        &self.numbers[..self.k.min(5)]
+    }
+
+    /// The index of the pattern.
+    ///
+    /// ```
+    /// assert_eq!(mittenschist::Place::first(3).pattern(), 0);
+    /// ```
+    pub fn pattern(&self) -> u64 {
+        self.numbers[self.k.min(5)]
+    }
+
+    #[cfg(test)]
+    pub(crate) fn with_cuts(cuts: &[u64]) -> Self {
+        let mut place = Self::first(cuts.len());
+        place.numbers[..cuts.len()].copy_from_slice(cuts);
+        place
+    }
+}
+
+/// A slice of [`polish_route_with_pairs`]: at most `allowance` candidates from the place on, which is then that of the next one. The replies of
+/// slices that go on from one another add up to the reply of one call with the sum of their allowances, so the route is at last k-optimal as that
+/// call's is; finished, the place is the first one again. Refuses 1, 2, 3, 23, 4, 24, 29, 5, and 6 and 7 for a place of a longer route.
+///
+/// ```
+/// use mittenschist::{polish_slice, Ending, Place, Tables};
+///
+/// let legs = [0, 5, 1, 1, 0, 5, 5, 1, 0];
+/// let tables = Tables::without_service(3, &legs, &[u32::MAX; 3]);
+/// let (mut route, mut place, mut examined) = ([1, 2], Place::first(3), 0);
+/// loop {
+///     let slice = polish_slice(3, &tables, 0, &[], &mut route, &mut place)?;
+///     examined += slice.examined;
+///     if slice.ending == Ending::Finished {
+///         break;
+///     }
+/// }
+/// assert_eq!((examined, route), (11, [2, 1]));
+/// # Ok::<(), mittenschist::Refusal>(())
+/// ```
+pub fn polish_slice(
+    allowance: u64,
+    tables: &Tables,
+    harbours: impl Into<Harbours>,
+    pairs: &[Pair],
+    route: &mut [u32],
+    place: &mut Place,
+) -> Result<Polished, Refusal> {
+    let Harbours { depot, end } = harbours.into();
+    let (locations, legs, latest, service) = tables.parts();
+    let members = pairs.as_flattened();
+    Polished::by(route, |route, result| {
+        raw::polish_slice(
+            place.k,
+            allowance,
+            locations,
+            legs,
+            latest,
+            service,
+            depot,
+            end,
+            members,
+            route,
+            &mut place.numbers,
+            result,
         )
     })
 }

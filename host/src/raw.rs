@@ -56,6 +56,27 @@ extern "C" {
         result: *mut u64,
         result_len: usize,
     ) -> u32;
+    fn mittenschist_polish_slice(
+        k: usize,
+        allowance: u64,
+        locations: usize,
+        legs: *const u32,
+        legs_len: usize,
+        latest: *const u32,
+        latest_len: usize,
+        service: *const u32,
+        service_len: usize,
+        depot: u32,
+        end: u32,
+        pairs: *const u32,
+        pairs_len: usize,
+        route: *mut u32,
+        route_len: usize,
+        place: *mut u64,
+        place_len: usize,
+        result: *mut u64,
+        result_len: usize,
+    ) -> u32;
     fn mittenschist_write_problem(
         k: usize,
         allowance: u64,
@@ -539,6 +560,49 @@ pub fn polish_route_with_pairs(
             pairs.len(),
             route.as_mut_ptr(),
             route.len(),
+            result.as_mut_ptr(),
+            result.len(),
+        )
+    }
+}
+
+/// As [`polish_route_with_pairs`], from a place on: k cuts and the index of a pattern, read and written.
+#[must_use]
+#[allow(clippy::too_many_arguments)]
+pub fn polish_slice(
+    k: usize,
+    allowance: u64,
+    locations: usize,
+    legs: &[u32],
+    latest: &[u32],
+    service: &[u32],
+    depot: u32,
+    end: u32,
+    pairs: &[u32],
+    route: &mut [u32],
+    place: &mut [u64],
+    result: &mut [u64],
+) -> u32 {
+    // SAFETY: as said above.
+    unsafe {
+        mittenschist_polish_slice(
+            k,
+            allowance,
+            locations,
+            legs.as_ptr(),
+            legs.len(),
+            latest.as_ptr(),
+            latest.len(),
+            service.as_ptr(),
+            service.len(),
+            depot,
+            end,
+            pairs.as_ptr(),
+            pairs.len(),
+            route.as_mut_ptr(),
+            route.len(),
+            place.as_mut_ptr(),
+            place.len(),
             result.as_mut_ptr(),
             result.len(),
         )

@@ -7,11 +7,11 @@ mod support;
 
 use mittenschist::{
     every_nearby_cuts, find_move, k_opt_do_move, k_opt_is_doable, k_opt_undo_move, nearby_cuts,
-    next_cut_set, pair_loop, polish_route, polish_route_with_pairs, polish_with_patterns,
-    polish_with_patterns_and_pairs, reconnection_at, route_feasible, route_length, run_in_shares,
-    run_list_k_opt, run_list_k_opt_with_pairs, way_back, which_of_two, Deadline, Ending, Harbours,
-    Move, Pair, PairLooped, PatternList, Patterns, Polished, Refusal, RoundReply, RoundState,
-    Rounds, Tables,
+    next_cut_set, pair_loop, polish_route, polish_route_with_pairs, polish_slice,
+    polish_with_patterns, polish_with_patterns_and_pairs, reconnection_at, route_feasible,
+    route_length, run_in_shares, run_list_k_opt, run_list_k_opt_with_pairs, way_back, which_of_two,
+    Deadline, Ending, Harbours, Move, Pair, PairLooped, PatternList, Patterns, Place, Polished,
+    Refusal, RoundReply, RoundState, Rounds, Tables,
 };
 use support::lent::Lent;
 use support::{kept, written};
@@ -668,6 +668,91 @@ fn lists_and_runs_with_pairs() {
     assert_eq!(run(&[[1, 2]]), kept);
     assert_eq!(run(&[[2, 1]]), changed);
     assert_eq!(run(&[]), changed);
+}
+
+/// The text case in slices of each size. Its one cut set has seven patterns: the fourth is accepted, and then all seven are examined once more. After each
+/// slice the sums and the route are those of one call, and the place is that of the next candidate.
+#[test]
+fn the_text_case_in_slices() {
+    let tables = Tables::without_service(3, &TEXT_LEGS, &[NO_DEADLINE; 3]);
+    for allowance in 1..=12 {
+        let mut route = Lent::new("route", &[1, 2]);
+        let mut place = Place::first(3);
+        let mut sum: Option<Polished> = None;
+        while sum.map_or(true, |sum| sum.ending == Ending::Spent) {
+            let slice =
+                polish_slice(allowance, &tables, 0, &[], route.slice(), &mut place).unwrap();
+            let all = sum.map_or(slice, |sum| sum.then(slice));
+            let handed_in = sum.map_or(0, |sum| sum.examined) + allowance;
+            assert_eq!((all, written(&route)), text_case(3, handed_in, NO_DEADLINE));
+            let next = match (all.ending, all.examined) {
+                (Ending::Finished, _) => 0,
+                (Ending::Spent, examined) if examined < 4 => examined,
+                (Ending::Spent, examined) => examined - 4,
+            };
+            assert_eq!((place.cuts(), place.pattern()), (&[0, 1, 2][..], next));
+            sum = Some(all);
+        }
+        assert_eq!(sum.map(|sum| sum.examined), Some(11));
+    }
+}
+
+/// With nothing to gain four stops and three cuts are a pass of ten cut sets with seven patterns: the place after each number of candidates, and after a slice of none.
+#[test]
+fn the_place_after_each_candidate() {
+    let tables = Tables::without_service(1, &[0], &[NO_DEADLINE]);
+    let (mut place, mut route) = (Place::first(3), [0; 4]);
+    let mut cuts = [0, 1, 2];
+    for examined in 0..70 {
+        assert_eq!(place.cuts(), cuts.map(|cut| cut as u64));
+        assert_eq!(place.pattern(), examined % 7);
+        let mut slice =
+            |allowance| polish_slice(allowance, &tables, 0, &[], &mut route, &mut place);
+        let none = slice(0).unwrap();
+        assert_eq!((none.ending, none.examined), (Ending::Spent, 0));
+        let one = slice(1).unwrap();
+        assert_eq!(one.ending == Ending::Finished, examined == 69);
+        if examined % 7 == 6 && examined < 69 {
+            assert!(next_cut_set(3, 4, &mut cuts).unwrap());
+        }
+    }
+    assert_eq!(place, Place::first(3));
+    // More cuts than positions: finished at once.
+    let mut place = Place::first(5);
+    let none = polish_slice(9, &tables, 0, &[], &mut [0; 3], &mut place).unwrap();
+    assert_eq!((none.ending, none.examined), (Ending::Finished, 0));
+}
+
+/// To another end, with a pair, with service and deadlines, in slices of each size up to a pass.
+#[test]
+fn slices_with_all_that_polishing_takes() {
+    let tables = Tables {
+        locations: 5,
+        legs: &PAIR_LEGS,
+        latest: &[NO_DEADLINE, NO_DEADLINE, NO_DEADLINE, 40, NO_DEADLINE],
+        service: &[0, 3, 0, 0, 7],
+    };
+    let harbours = Harbours { depot: 0, end: 3 };
+    for k in 2..=4 {
+        for pairs in [&[][..], &[[2, 4], [1, 3]]] {
+            let mut whole = [1, 2, 3, 4];
+            let one = polish_route_with_pairs(k, 900, &tables, harbours, pairs, &mut whole);
+            for allowance in 1..=70 {
+                let (mut place, mut route) = (Place::first(k), [1, 2, 3, 4]);
+                let slices = std::iter::from_fn(|| {
+                    let slice =
+                        polish_slice(allowance, &tables, harbours, pairs, &mut route, &mut place);
+                    Some(slice.unwrap())
+                });
+                let slices = slices.scan(false, |over, slice| {
+                    let over = std::mem::replace(over, slice.ending == Ending::Finished);
+                    (!over).then_some(slice)
+                });
+                assert_eq!(slices.reduce(Polished::then), one.ok());
+                assert_eq!(route, whole);
+            }
+        }
+    }
 }
 
 /// Rounds with no leg between any two places, so that nothing is accepted: 70 candidates for four stops and three cuts. States and candidates examined.

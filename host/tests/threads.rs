@@ -33,6 +33,7 @@ fn calls(tables: &Tables, number: u32) -> Vec<Vec<u64>> {
         ran(tables, number),
         ended(tables, number),
         in_order(tables, number),
+        sliced(tables, number),
         ran_to_ends(tables, number),
         listed(tables, number),
         all_listed(tables, number),
@@ -139,6 +140,40 @@ fn in_order(tables: &Tables, number: u32) -> Vec<u64> {
         result.slice(),
     );
     [vec![u64::from(code)], written(&route), written(&result)].concat()
+}
+
+/// The same in slices, which other threads' slices come between: the sums, the place and the last numbers.
+fn sliced(tables: &Tables, number: u32) -> Vec<u64> {
+    let (before, room) = (stops(number, 12), filled(7));
+    let pairs: Vec<u32> = before.windows(2).step_by(3).flatten().copied().collect();
+    let k = cuts(number);
+    let first: Vec<u64> = (0..k as u64).chain([0, 77]).collect();
+    let mut place = Lent::new("place", &first);
+    let (mut route, mut result) = (Lent::new("route", &before), Lent::new("result", &room));
+    let (mut code, mut examined, mut accepted) = (0, 0, 0);
+    for slice in 0..8 {
+        code += raw::polish_slice(
+            k,
+            100 + 613 * u64::from((number + slice) % 5),
+            LOCATIONS,
+            tables.legs,
+            tables.latest,
+            tables.service,
+            0,
+            number % LOCATIONS as u32,
+            &pairs,
+            route.slice(),
+            place.slice(),
+            result.slice(),
+        );
+        examined += result.slice()[1];
+        accepted += result.slice()[2];
+        if result.slice()[0] == 0 {
+            break;
+        }
+    }
+    let sums = vec![u64::from(code), examined, accepted];
+    [sums, written(&route), written(&place), written(&result)].concat()
 }
 
 fn ran_to_ends(tables: &Tables, number: u32) -> Vec<u64> {

@@ -20,6 +20,7 @@ ghost use Rattle.cut_calls.specs.Cuts.{NextCutSetWritten, ReconnectReply, FindM
 ghost use Rattle.problem_calls.specs.Problems.{WriteReply, ReadReply};
 ghost use Rattle.desks.specs.Desks.{WhichDesk};
 ghost use Rattle.polish_calls.specs.Polishing.{PolishReply, PolishToEndReply, PolishWithPairsReply, PairLoopReply};
+ghost use Rattle.slice_calls.specs.Slicing.{PolishSliceReply};
 ghost use Rattle.run_calls.specs.Runs.{RunReply, RunToEndsReply, RunWithPairsReply, SharesReply};
 ghost use Rattle.way_back.specs.WayBack.{WayBackReply};
 pub use cut_calls::find_move;
@@ -122,6 +123,41 @@ pub extern "C" fn mittenschist_polish_route_with_pairs(
         end,
         pairs,
         route,
+        result,
+    )
+}
+
+// A slice of polishing a route that keeps pairs: the scan from a place on, k cuts and the index of a pattern. Refuses 1, 2, 3, 23, 4, 24, 29, 5, 6, 7, 21. The place
+// receives that of the next candidate, or the first one where the scan has finished; the result the six numbers of polishing, of this slice.
+#[no_mangle]
+pub extern "C" fn mittenschist_polish_slice(
+    k: usize,
+    allowance: u64,
+    locations: usize,
+    legs: &[u32],
+    latest: &[u32],
+    service: &[u32],
+    depot: u32,
+    end: u32,
+    pairs: &[u32],
+    route: &mut [u32],
+    place: &mut [u64],
+    result: &mut [u64],
+) -> u32
+    ensures { λ r. ⌜ PolishSliceReply (question-with-pairs k allowance locations (now (legs .entry)) (now (latest .entry)) (now (service .entry)) depot end (now (pairs .entry)) (now (route .entry))) (now (place .entry)) (now (result .entry)) r (now (route .exit)) (now (place .exit)) (now (result .exit)) ⌝ }
+{
+    slice_calls::polish_slice(
+        k,
+        allowance,
+        locations,
+        legs,
+        latest,
+        service,
+        depot,
+        end,
+        pairs,
+        route,
+        place,
         result,
     )
 }

@@ -1,36 +1,44 @@
--- What polishing answers, from what the scan counted. Assumes nothing.
-use mathlib.Core.Path.{_≡_, sym, ap, _∙_}
+-- What a slice and polishing answer, from what the scan counted. Assumes nothing.
+use mathlib.Core.Path.{_≡_, refl, sym, ap, _∙_}
 use mathlib.Core.Bool.{true, false, false≢true}
-use mathlib.Core.List.{List}
-use Prim.Native.Nat.{ℕ, _+_, _≤_, _<_}
+use mathlib.Core.List.{List, [], _∷_}
+use Prim.Native.Nat.{ℕ, suc, _+_, _≤_, _<_}
 use native.Mathlib.Omega.{arith}
 use lib.ListN.{length}
 use Rattle.theory.specs.Moves.{Pattern, total}
 use Rattle.theory.specs.Route.{Problem, tour-length, late-position}
-use Rattle.theory.specs.Polish.{ForCuts}
+use Rattle.theory.specs.Polish.{ForCuts, polish-with}
+use Rattle.theory.proofs.Rows.{length-rows}
+use Rattle.theory.specs.Scan.{Reply}
 use Rattle.theory.specs.Tables.{problem, timetable-by, legs-only, Measurable, pattern-rows, Trip}
 use Rattle.theory.specs.Answers.{Polishes}
 use Rattle.theory.specs.declared.Counts.{Counts}
 use Rattle.theory.specs.declared.Polished.{Polished}
 use Rattle.theory.proofs.Judged.{followed}
 use Rattle.theory.proofs.ForK.{rows-for-cuts}
-use Rattle.theory.proofs.Polish.{polish-with-demand3, same-total}
-use Rattle.theory.proofs.Steps.{nowhere}
+use Rattle.theory.proofs.Polish.{polish-with-demand3}
+use Rattle.theory.proofs.Cuts.{first-set}
 use Rattle.theory.proofs.Stops.{stops-rearranged}
+use Rattle.slices.specs.Places.{IsPlace, first-place}
+use Rattle.slices.specs.Slices.{slice}
+use Rattle.slices.proofs.Slices.{from-the-first, nowhere, same-total}
 use Rattle.deadlines.specs.Lateness.{LateAsked}
 use Rattle.polish_numbers.specs.Answer.{answer-of}
 use Rattle.polish_numbers.proofs.Answered.{length-without-deadlines, counts-are, reply-is}
-use Rattle.scan_loop.specs.Loop.{Scannable, Scans}
+use Rattle.scan_loop.specs.Loop.{place-held, Scannable, Scans}
+use Rattle.scan_loop.proofs.Scanning as Scanning
 use Rattle.scan_loop.specs.declared.Scanned.{Scanned}
-use Rattle.polishing.specs.Loop.{PolishableRows, ScannedWith}
-use Rattle.scan_joints.specs.States.{StateRows}
+use Rattle.polishing.specs.declared.Sliced.{Sliced}
+use Rattle.polishing.specs.Loop.{PolishableRows, Started, SliceableRows, ScannedWith, SlicedRows}
 
-module _ (k : ℕ) (T : Trip) (orders masks members route : List ℕ) (A : ℕ) (ok : PolishableRows k T orders masks members route) where
+module _ (k : ℕ) (T : Trip) (orders masks members start : List ℕ) (from : ℕ) (route : List ℕ) (A : ℕ) (ok : SliceableRows k T orders masks members start from route) where
   for-cuts : ForCuts k (pattern-rows k orders masks)
-  for-cuts = rows-for-cuts k orders masks (omega (arith, ok .least)) (ok .patterns)
+  for-cuts = rows-for-cuts k orders masks (omega (arith, ok .rows .least)) (ok .rows .patterns)
 
-  pub scannable : (rows : List ℕ) → k ≤ length route + 1 → StateRows k orders masks (length masks) rows → Scannable k T orders masks rows members route
-  scannable rows h s = record { least = ok .least; most = ok .most; enough = h; timed = ok .timed; patterns = ok .patterns; not-empty = ok .not-empty; state-rows = s; lent = ok .lent }
+  pub scannable : k ≤ length route + 1 → Scannable k T orders masks members start from route
+  scannable h =
+      let p = ok .rows in
+      record { least = p .least; most = p .most; timed = p .timed; patterns = p .patterns; lent = p .lent; places = ok .started .places; place = ok .started .place h }
 
   abbrev P : Problem
   P = problem T
@@ -38,38 +46,60 @@ module _ (k : ℕ) (T : Trip) (orders masks members route : List ℕ) (A : ℕ) 
   abbrev ps : List Pattern
   ps = pattern-rows k orders masks
 
-  pub no-cut-set : length route + 1 < k → ScannedWith P ps k A route (record { finished = true; examined = 0; accepted = 0; kept = false }) route
-  no-cut-set h = record { scan = sym (nowhere P ps k A route h); kept = λ e. absurd (false≢true e) }
+  pub no-cut-set : length route + 1 < k → ScannedWith P ps k A start from route (record { finished = true; examined = 0; accepted = 0; kept = false; cuts = 0 ∷ 1 ∷ 2 ∷ 3 ∷ 4 ∷ []; index = 0 }) route
+  no-cut-set h = record { scan = rw (Scanning.first-set k (ok .rows .most)) (sym (nowhere P ps k A (place-held k start from) route (omega arith))); kept = λ e. absurd (false≢true e) }
 
-  pub scanned-so : {scanned : Scanned} {route′ : List ℕ} → Scans P ps k A route scanned route′ → ScannedWith P ps k A route scanned route′
+  pub scanned-so : {scanned : Scanned} {route′ : List ℕ} → Scans P ps k A start from route scanned route′ → ScannedWith P ps k A start from route scanned route′
   scanned-so s = record { scan = s .scan; kept = λ e. sym (s .kept-is) ∙ e }
 
-  module _ (scanned : Scanned) (route′ : List ℕ) (s : ScannedWith P ps k A route scanned route′) where
+  module _ (scanned : Scanned) (route′ : List ℕ) (s : ScannedWith P ps k A start from route scanned route′) where
     rearranged : (g : ℕ → ℕ) → total g route′ ≡ total g route
-    rearranged g = ap (λ q. total g (q .route)) (s .scan) ∙ same-total P ps k for-cuts g A route
+    rearranged g = ap (λ q. total g (q .reply .route)) (s .scan) ∙ same-total P ps k for-cuts A (place-held k start from) route g
 
     pub measurable-after : Measurable (T .tables .locations) (T .tables .legs) (T .depot) (T .end) route′
     measurable-after =
-        let m = ok .timed .measurable in
+        let m = ok .rows .timed .measurable in
         record { table = m .table; depot-known = m .depot-known; end-known = m .end-known; stops = stops-rearranged route route′ rearranged (T .tables .locations) (m .stops) }
 
     pub late-asked : LateAsked (T .tables) (T .depot) route′ (scanned .kept)
-    late-asked = record { clocked = record { followable = followed measurable-after; times = ok .timed .times }; known = s .kept }
+    late-asked = record { clocked = record { followable = followed measurable-after; times = ok .rows .timed .times }; known = s .kept }
 
-    abbrev counts : (before after late : ℕ) → Counts
-    counts before after late = record { examined = scanned .examined; accepted = scanned .accepted; before = before; after = after; late = late }
-
-    -- An answer that is the scan's, with the lengths and the lowest late position, has demand 3.
-    pub replies : (before after late : ℕ) → before ≡ tour-length (legs-only (T .tables .locations) (T .tables .legs) (T .depot) (T .end)) route →
+    pub sliced-so : (before after late : ℕ) → before ≡ tour-length (legs-only (T .tables .locations) (T .tables .legs) (T .depot) (T .end)) route →
         after ≡ tour-length (legs-only (T .tables .locations) (T .tables .legs) (T .depot) (T .end)) route′ → late ≡ late-position (timetable-by (T .tables)) (T .depot) route′ →
-        (answer : Polished) → answer ≡ answer-of (scanned .finished) (counts before after late) → Polishes P ps k A route answer route′
-    replies before after late b a l answer e =
-        let c = counts-are (scanned .finished) (counts before after late) answer e in
-        let r = reply-is (scanned .finished) (counts before after late) answer e route′ ∙ s .scan in
-        record {
-          scan = r;
-          before = ap (λ n. n .before) c ∙ b ∙ length-without-deadlines T route;
-          after = ap (λ n. n .after) c ∙ a ∙ length-without-deadlines T route′;
-          late = ap (λ n. n .late) c ∙ l;
-          demand3 = rw r (polish-with-demand3 P ps k for-cuts A route);
-        }
+        SlicedRows P ps k A start from route (record { finished = scanned .finished; examined = scanned .examined; accepted = scanned .accepted; before = before; after = after; late = late; cuts = scanned .cuts; index = scanned .index }) route′
+    sliced-so before after late b a l = record { scan = s .scan; before = b ∙ length-without-deadlines T route; after = a ∙ length-without-deadlines T route′; late = l }
+
+-- ---- from the first place
+
+module _ (k : ℕ) (T : Trip) (orders masks members route : List ℕ) (A : ℕ) (ok : PolishableRows k T orders masks members route) where
+  pub from-first : SliceableRows k T orders masks members (0 ∷ 1 ∷ 2 ∷ 3 ∷ 4 ∷ []) 0 route
+  from-first =
+      record {
+        rows = ok;
+        started = record {
+          places = refl;
+          place = λ h.
+              let s = first-set k (length route) (ok .least) (ok .most) (ok .timed .measurable .stops .short) h in
+              rw (Scanning.first-set k (ok .most)) (record { many = s .many; rising = s .rising; known = omega (arith, length-rows k orders masks, ok .not-empty) });
+        };
+      }
+
+  -- An answer that is the slice's, with the lengths and the lowest late position, is the scan's and has demand 3.
+  pub replies : (sliced : Sliced) (route′ : List ℕ) → SlicedRows (problem T) (pattern-rows k orders masks) k A (0 ∷ 1 ∷ 2 ∷ 3 ∷ 4 ∷ []) 0 route sliced route′ → (answer : Polished) →
+      answer ≡ answer-of (sliced .finished) (record { examined = sliced .examined; accepted = sliced .accepted; before = sliced .before; after = sliced .after; late = sliced .late }) → Polishes (problem T) (pattern-rows k orders masks) k A route answer route′
+  replies sliced route′ s answer e =
+      let P = problem T in
+      let ps = pattern-rows k orders masks in
+      let counts : Counts = record { examined = sliced .examined; accepted = sliced .accepted; before = sliced .before; after = sliced .after; late = sliced .late } in
+      let c = counts-are (sliced .finished) counts answer e in
+      let first : place-held k (0 ∷ 1 ∷ 2 ∷ 3 ∷ 4 ∷ []) 0 ≡ first-place k = ap (λ cs. record { cuts = cs; index = 0 }) (Scanning.first-set k (ok .most)) in
+      let scanned : record { finished = sliced .finished; examined = sliced .examined; accepted = sliced .accepted; route = route′ } ≡ polish-with P ps k A route =
+      ap (λ q. q .reply) (s .scan) ∙ ap (λ p. slice P ps k A p route .reply) first ∙ from-the-first P ps k A route in
+      let r = reply-is (sliced .finished) counts answer e route′ ∙ scanned in
+      record {
+        scan = r;
+        before = ap (λ n. n .before) c ∙ s .before;
+        after = ap (λ n. n .after) c ∙ s .after;
+        late = ap (λ n. n .late) c ∙ s .late;
+        demand3 = rw r (polish-with-demand3 P ps k (rows-for-cuts k orders masks (omega (arith, ok .least)) (ok .patterns)) A route);
+      }

@@ -1,16 +1,27 @@
 // Polishing a route by the scan of document 01, with every pattern for k or with lent rows of patterns; with pairs, whose words are lent beside them, or without. No
-// entry: crates mittenschist, run and text call it.
+// entry: crates mittenschist, run and text call it. All stands on the slice: the scan from a place on.
 use precedence::MEMBERS;
-use scan_joints::ROW_BYTES;
 use scan_loop::Scanned;
 use theory::Counts;
 use theory::Polished;
 ghost use Rattle.theory.specs.Moves.{patterns};
 ghost use Rattle.theory.specs.Tables.{problem, pattern-rows, trip};
 ghost use Rattle.theory.specs.Answers.{Polishes};
-ghost use Rattle.polishing.specs.Loop.{PolishableRows, Polishable, PolishableWithPairs, ScannedWith};
+ghost use Rattle.polishing.specs.Loop.{PolishableRows, Polishable, PolishableWithPairs, SliceableRows, Sliceable, SliceableWithPairs, ScannedWith, SlicedRows};
 
-// The scan with lent rows of patterns for k cuts; where the route has no cut set it is over at once.
+// What a slice counted, as polishing does, and the place where the next one begins.
+pub struct Sliced {
+    pub finished: bool,
+    pub examined: u64,
+    pub accepted: u64,
+    pub before: u64,
+    pub after: u64,
+    pub late: u64,
+    pub cuts: [usize; 5],
+    pub index: usize,
+}
+
+// The scan from a place on with lent rows of patterns for k cuts; where the route has no cut set it is over at once.
 fn scanned_with(
     k: usize,
     allowance: u64,
@@ -24,10 +35,12 @@ fn scanned_with(
     members: &[u64],
     orders: &[u8],
     masks: &[u8],
+    start: [usize; 5],
+    from: usize,
     route: &mut [u32],
 ) -> Scanned
-    requires { ⌜ PolishableRows k (trip locations (now legs) (now latest) (now service) depot end (now pairs)) (now orders) (now masks) (now members) (now route) ⌝ }
-    ensures { λ r. ⌜ ScannedWith (problem (trip locations (now (legs .entry)) (now (latest .entry)) (now (service .entry)) depot end (now (pairs .entry)))) (pattern-rows k (now (orders .entry)) (now (masks .entry))) k allowance (now (route .entry)) r (now (route .exit)) ⌝ }
+    requires { ⌜ SliceableRows k (trip locations (now legs) (now latest) (now service) depot end (now pairs)) (now orders) (now masks) (now members) start from (now route) ⌝ }
+    ensures { λ r. ⌜ ScannedWith (problem (trip locations (now (legs .entry)) (now (latest .entry)) (now (service .entry)) depot end (now (pairs .entry)))) (pattern-rows k (now (orders .entry)) (now (masks .entry))) k allowance start from (now (route .entry)) r (now (route .exit)) ⌝ }
 {
     if route.len() + 1 < k {
         return Scanned {
@@ -35,10 +48,10 @@ fn scanned_with(
             examined: 0,
             accepted: 0,
             kept: false,
+            cuts: [0, 1, 2, 3, 4],
+            index: 0,
         };
     }
-    let mut rows = [0u8; ROW_BYTES];
-    scan_rows::fill_rows(k, orders, masks, &mut rows);
     scan_loop::scan_cut_sets(
         k,
         allowance,
@@ -52,12 +65,75 @@ fn scanned_with(
         members,
         orders,
         masks,
-        &rows,
+        start,
+        from,
         route,
     )
 }
 
-// Polishing with lent rows of patterns for k cuts.
+// A slice with lent rows of patterns for k cuts.
+pub fn slice_rows(
+    k: usize,
+    allowance: u64,
+    locations: usize,
+    legs: &[u32],
+    latest: &[u32],
+    service: &[u32],
+    depot: u32,
+    end: u32,
+    pairs: &[u32],
+    members: &[u64],
+    orders: &[u8],
+    masks: &[u8],
+    start: [usize; 5],
+    from: usize,
+    route: &mut [u32],
+) -> Sliced
+    requires { ⌜ SliceableRows k (trip locations (now legs) (now latest) (now service) depot end (now pairs)) (now orders) (now masks) (now members) start from (now route) ⌝ }
+    ensures { λ r. ⌜ SlicedRows (problem (trip locations (now (legs .entry)) (now (latest .entry)) (now (service .entry)) depot end (now (pairs .entry)))) (pattern-rows k (now (orders .entry)) (now (masks .entry))) k allowance start from (now (route .entry)) r (now (route .exit)) ⌝ }
+{
+    let before = costs::route_length(locations, legs, depot, end, &route[..]);
+    let scanned = scanned_with(
+        k,
+        allowance,
+        locations,
+        legs,
+        latest,
+        service,
+        depot,
+        end,
+        pairs,
+        members,
+        orders,
+        masks,
+        start,
+        from,
+        route,
+    );
+    let after = costs::route_length(locations, legs, depot, end, &route[..]);
+    let late = deadlines::late_position(
+        scanned.kept,
+        locations,
+        legs,
+        latest,
+        service,
+        depot,
+        &route[..],
+    );
+    let cuts = scanned.cuts;
+    Sliced {
+        finished: scanned.finished,
+        examined: scanned.examined,
+        accepted: scanned.accepted,
+        before,
+        after,
+        late,
+        cuts,
+        index: scanned.index,
+    }
+}
+
+// Polishing with lent rows of patterns for k cuts: the slice from the first place.
 pub fn polish_rows(
     k: usize,
     allowance: u64,
@@ -76,8 +152,7 @@ pub fn polish_rows(
     requires { ⌜ PolishableRows k (trip locations (now legs) (now latest) (now service) depot end (now pairs)) (now orders) (now masks) (now members) (now route) ⌝ }
     ensures { λ r. ⌜ Polishes (problem (trip locations (now (legs .entry)) (now (latest .entry)) (now (service .entry)) depot end (now (pairs .entry)))) (pattern-rows k (now (orders .entry)) (now (masks .entry))) k allowance (now (route .entry)) r (now (route .exit)) ⌝ }
 {
-    let before = costs::route_length(locations, legs, depot, end, &route[..]);
-    let scanned = scanned_with(
+    let sliced = slice_rows(
         k,
         allowance,
         locations,
@@ -90,27 +165,64 @@ pub fn polish_rows(
         members,
         orders,
         masks,
+        [0, 1, 2, 3, 4],
+        0,
         route,
     );
-    let after = costs::route_length(locations, legs, depot, end, &route[..]);
-    let late = deadlines::late_position(
-        scanned.kept,
+    polish_numbers::counted(
+        sliced.finished,
+        Counts {
+            examined: sliced.examined,
+            accepted: sliced.accepted,
+            before: sliced.before,
+            after: sliced.after,
+            late: sliced.late,
+        },
+    )
+}
+
+// A slice with every pattern for k cuts, from the table.
+pub fn slice_route(
+    k: usize,
+    allowance: u64,
+    locations: usize,
+    legs: &[u32],
+    latest: &[u32],
+    service: &[u32],
+    depot: u32,
+    end: u32,
+    pairs: &[u32],
+    members: &[u64],
+    start: [usize; 5],
+    from: usize,
+    route: &mut [u32],
+) -> Sliced
+    requires { ⌜ Sliceable k (trip locations (now legs) (now latest) (now service) depot end (now pairs)) (now members) start from (now route) ⌝ }
+    ensures { λ r. ⌜ SlicedRows (problem (trip locations (now (legs .entry)) (now (latest .entry)) (now (service .entry)) depot end (now (pairs .entry)))) (patterns k) k allowance start from (now (route .entry)) r (now (route .exit)) ⌝ }
+{
+    let part = pattern_table::part_of(k);
+    let first_order = part.orders;
+    let end_order = part.orders_end;
+    let first_mask = part.masks;
+    let end_mask = part.masks_end;
+    let orders = pattern_table::orders();
+    let masks = pattern_table::masks();
+    slice_rows(
+        k,
+        allowance,
         locations,
         legs,
         latest,
         service,
         depot,
-        &route[..],
-    );
-    polish_numbers::counted(
-        scanned.finished,
-        Counts {
-            examined: scanned.examined,
-            accepted: scanned.accepted,
-            before,
-            after,
-            late,
-        },
+        end,
+        pairs,
+        members,
+        &orders[first_order..end_order],
+        &masks[first_mask..end_mask],
+        start,
+        from,
+        route,
     )
 }
 
@@ -151,6 +263,43 @@ pub fn polish_route(
         members,
         &orders[first_order..end_order],
         &masks[first_mask..end_mask],
+        route,
+    )
+}
+
+// A slice with pairs.
+pub fn slice_with_pairs(
+    k: usize,
+    allowance: u64,
+    locations: usize,
+    legs: &[u32],
+    latest: &[u32],
+    service: &[u32],
+    depot: u32,
+    end: u32,
+    pairs: &[u32],
+    start: [usize; 5],
+    from: usize,
+    route: &mut [u32],
+) -> Sliced
+    requires { ⌜ SliceableWithPairs k (trip locations (now legs) (now latest) (now service) depot end (now pairs)) start from (now route) ⌝ }
+    ensures { λ r. ⌜ SlicedRows (problem (trip locations (now (legs .entry)) (now (latest .entry)) (now (service .entry)) depot end (now (pairs .entry)))) (patterns k) k allowance start from (now (route .entry)) r (now (route .exit)) ⌝ }
+{
+    let mut words = [0u64; MEMBERS];
+    precedence::fill_members(pairs, &mut words);
+    slice_route(
+        k,
+        allowance,
+        locations,
+        legs,
+        latest,
+        service,
+        depot,
+        end,
+        pairs,
+        &words[..],
+        start,
+        from,
         route,
     )
 }

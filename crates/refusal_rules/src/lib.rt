@@ -1,6 +1,6 @@
 // What a call was handed, judged by its list of rules: the first number in the one order whose rule applies, or 0. Apply, undo and doable are judged in crate
-// move_calls, the deadline check in crate refusals. A call without an end harbour is judged as one that ends at its depot. No entry: crates mittenschist and text
-// call it.
+// move_calls, the deadline check in crate refusals. A call without an end harbour is judged as one that ends at its depot. No entry: the crates of the
+// judged calls and text_problem call it.
 ghost use mathlib.Core.Path.{_≡_};
 ghost use mathlib.Core.List.{[], _∷_};
 ghost use Prim.Native.Nat.{_+_, _*_};

@@ -1,3 +1,2 @@
-mod Scanning
-mod NextCuts
+pub mod Scanning
 mod Passing

@@ -24,7 +24,7 @@ use Rattle.deadline_dues.proofs.Judged.{candidate-too-late}
 use Rattle.precedence_contradictions.specs.Contrary.{Heads}
 use Rattle.scan_cut_set.proofs.Kept.{candidate-kept}
 use Rattle.scan_stretch.specs.declared.Stretch.{Stretch}
-use Rattle.scan_stretch.specs.Stretch.{Listed, LastCutsScannable, Passable, Passed, Stretchable, Stretched, idle-end, improves-at}
+use Rattle.scan_stretch.specs.Stretch.{Listed, Hopeful, Passable, Passed, Stretchable, Stretched, idle-end, improves-at}
 use Rattle.scan_stretch.proofs.LastCut.{not-empty, first-below, long, at-cut}
 use Rattle.scan_stretch.proofs.Stretching.{last-stored}
 
@@ -35,7 +35,7 @@ passed-through stops patterns cuts left over not-empty e h =
 
 pub passed-spent : (stops patterns : ℕ) (cuts : List ℕ) (left over : ℕ) → over ≡ (stops + 1 - last-cut cuts) * patterns → left < over →
     Passed stops patterns cuts left (idle-end left false) cuts
-passed-spent stops patterns cuts left over e h = record { no-gain = refl; over = λ b. absurd (true≢false (sym b)); spent = λ _. (refl, omega (arith, e)) }
+passed-spent stops patterns cuts left over e h = record { no-gain = refl; over = λ b. absurd (true≢false (sym b)); spent = λ _. (refl, omega (arith, e), refl) }
 
 module _ {T : Trip} {members rows : List ℕ} {patterns : ℕ} {r forwards backwards stayed : List ℕ} {heads : ℕ} {late : List ℕ} {since : ℕ} {cuts table : List ℕ}
     (given : Stretchable T members rows patterns r forwards backwards stayed heads late since cuts table) where
@@ -50,26 +50,23 @@ module _ {T : Trip} {members rows : List ℕ} {patterns : ℕ} {r forwards backw
   within-longest (inl e) h = omega (arith, e, h)
   within-longest (inr e) h = absurd (omega (arith, e .0, h))
 
-  pub scannable : getD cuts 0 0 < heads → LastCutsScannable T members rows patterns r forwards backwards stayed late since cuts table
+  pub scannable : getD cuts 0 0 < heads → Hopeful T members rows patterns r forwards backwards stayed late since cuts table
   scannable l =
       let h = within-longest (given .head .left) l in
       record {
-        hopeful = record {
-          searchable = given .searchable;
-          list = given .list;
-          listed = given .listed;
-          padded = given .padded;
-          early = head-on-time (clock-by (T .tables)) (T .depot) r (given .head .punctual) (given .head .timed) (getD cuts 0 0) (omega (arith, h));
-          latenesses = given .latenesses;
-          lent = given .lent;
-          front = given .head .front .is (getD cuts 0 0) (cut-below cuts r own 0 (omega (arith, own .least))) ∙ le-leb (getD cuts 0 0) (given .head .reach) (omega (arith, h));
-          back = given .back;
-        };
-        first = given .first;
+        searchable = given .searchable;
+        list = given .list;
+        listed = given .listed;
+        padded = given .padded;
+        early = head-on-time (clock-by (T .tables)) (T .depot) r (given .head .punctual) (given .head .timed) (getD cuts 0 0) (omega (arith, h));
+        latenesses = given .latenesses;
+        lent = given .lent;
+        front = given .head .front .is (getD cuts 0 0) (cut-below cuts r own 0 (omega (arith, own .least))) ∙ le-leb (getD cuts 0 0) (given .head .reach) (omega (arith, h));
+        back = given .back;
       }
 
   module _ (l : heads ≤ getD cuts 0 0) where
-    none : (ps : List Pattern) → Listed (length cuts) patterns rows ps → (t x : ℕ) → last-cut cuts ≤ t → t ≤ length r → x < length ps → improves-at (problem T) ps r cuts t x ≡ false
+    pub none : (ps : List Pattern) → Listed (length cuts) patterns rows ps → (t x : ℕ) → last-cut cuts ≤ t → t ≤ length r → x < length ps → improves-at (problem T) ps r cuts t x ≡ false
     none ps w t x h k i = by (given .head .left) (decLt (given .head .punctual) (getD cuts 0 0))
       where
         cs : List ℕ
@@ -128,7 +125,7 @@ module _ {T : Trip} {members rows : List ℕ} {patterns : ℕ} {r forwards backw
                 allowed = within (answer .through) refl;
                 gain = λ e. absurd (true≢false (sym e ∙ w .no-gain));
                 over = λ e. rw (u .many) (w .over e .0, w .over e .2);
-                spent = λ _ e. rw (u .many) (w .spent e);
+                spent = λ _ e. (w .spent e .0, rw (u .many) (w .spent e .1), ap first-cuts (w .spent e .2));
               };
           padded = given .padded;
         }

@@ -1,4 +1,5 @@
 pub mod Counting
 mod LastCut
-mod Stretching
-mod Hopeless
+pub mod Stretching
+mod Opening
+pub mod Hopeless

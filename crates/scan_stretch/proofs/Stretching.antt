@@ -20,8 +20,8 @@ use Rattle.costs.proofs.Segments.{head-at, cuts-parted, first-many}
 use Rattle.scan_joints.specs.JointTable.{Padded}
 use Rattle.scan_joints.specs.States.{row, states, no-pattern}
 use Rattle.costs.specs.RouteCosts.{first-cuts, last-cut}
-use Rattle.scan_shared.specs.Prepared.{Cut, Opened}
-use Rattle.scan_shared.specs.Filling.{Preparable, PreparedNow}
+use Rattle.scan_shared.specs.Prepared.{Cut}
+use Rattle.scan_shared.specs.Filling.{PreparedNow}
 use Rattle.scan_shared.proofs.Preparing.{first-of-cuts, last-of-cuts, zero-at}
 use Rattle.scan_bound.specs.Tests.{Nextable, NextPromising}
 use Rattle.deadline_dues.specs.Dues.{DuesHeld}
@@ -30,7 +30,7 @@ use Rattle.precedence_marks.specs.Held.{MarksKept}
 use Rattle.scan_cut_set.specs.Gain.{FirstGain, Findable, Found}
 use Rattle.scan_stretch.specs.declared.Step.{Step}
 use Rattle.scan_stretch.specs.declared.Step.the-variants.{Done, On}
-use Rattle.scan_stretch.specs.Stretch.{Listed, Hopeful, Ended, GainAt, Going, StepTo, Triable, Steppable, idle-end, improves-at}
+use Rattle.scan_stretch.specs.Stretch.{Listed, Hopeful, Ended, GainAt, Going, StepTo, Triable, Steppable, Openable, idle-end, improves-at}
 use Rattle.scan_stretch.proofs.LastCut.{first-below, long, at-cut}
 use Rattle.scan_stretch.proofs.Counting.{count-to, count-next, count-least, up-to}
 
@@ -61,7 +61,7 @@ module _ {T : Trip} {ps : List Pattern} {members r first : List ℕ} {left : ℕ
       ((t y : ℕ) → last-cut first ≤ t → y < length ps → (t - last-cut first) * length ps + y < e → improves-at (problem T) ps r first t y ≡ false) → e ≤ left →
       (g ≡ true → (e < left) × GainAt (problem T) ps r first e x cuts′) →
       (w ≡ true → (e ≡ (length r + 1 - last-cut first) * length ps) × (cuts′ ≡ first-cuts first ++ (length r ∷ []))) →
-      (g ≡ false → w ≡ false → (e ≡ left) × (left < (length r + 1 - last-cut first) * length ps)) →
+      (g ≡ false → w ≡ false → (e ≡ left) × (left < (length r + 1 - last-cut first) * length ps) × (first-cuts cuts′ ≡ first-cuts first)) →
       Ended (problem T) ps r first left (record { examined = e; gains = g; through = w; pattern = x }) cuts′ × Padded table′
   answered p idle allowed gain over spent = (record { idle = λ t y h l i n. idle t y h i n; allowed = allowed; gain = gain; over = over; spent = spent }, p)
 
@@ -99,8 +99,8 @@ module _ {T : Trip} {members rows : List ℕ} {patterns : ℕ} {r forwards backw
   pub few-patterns : patterns ≤ 383
   few-patterns = omega (arith, given .listed .patterned .few, given .listed .many)
 
-  pub preparable : Opened cuts → Preparable (T .tables .locations) (T .tables .legs) (T .depot) r forwards backwards cuts rows patterns (replicate 8 0) (replicate 8 0) (replicate 8 0) (replicate 21 0)
-  preparable o =
+  pub openable : Openable (T .tables .locations) (T .tables .legs) (T .depot) r forwards backwards cuts rows patterns (replicate 8 0) (replicate 8 0) (replicate 8 0) (replicate 21 0)
+  openable =
       let w = given .listed .patterned in
       record {
         cut = let g = given .searchable in
@@ -112,7 +112,6 @@ module _ {T : Trip} {members rows : List ℕ} {patterns : ℕ} {r forwards backw
             };
         rows-fit = record { places = w .places; few = few-patterns; known = rw (given .listed .many) at (w .small) };
         places = record { ends = record { entry-places = refl; exit-places = refl; inside-places = refl }; low-places = refl; low-small = λ c. rw (zero-at 21 c) (omega arith) };
-        first = o;
       }
 
   pub starts : (ps : List Pattern) (left : ℕ) {dues words : List ℕ} → DuesHeld (clock-by (T .tables)) r (first-cuts cuts) dues → getD dues 8 0 ≤ last-cut cuts →
@@ -206,7 +205,7 @@ module _ {T : Trip} {members rows : List ℕ} {patterns : ℕ} {r forwards backw
             (omega arith)
             (λ e. absurd (true≢false (sym e)))
             (λ e. absurd (true≢false (sym e)))
-            (λ _ _. (refl, omega (arith, b, reaches, count-least (last-cut first) hit (length r + 1) (length ps) (next .most))))
+            (λ _ _. (refl, omega (arith, b, reaches, count-least (last-cut first) hit (length r + 1) (length ps) (next .most)), going .same))
 
         module _ (room : over ≤ left - examined) where
           -- No last cut is left.
@@ -339,6 +338,7 @@ module _ {T : Trip} {members rows : List ℕ} {patterns : ℕ} {r forwards backw
             (λ _ _. (
               omega (arith, reached, going .within),
               omega (arith, going .within, going .count, list .many, count-next (last-cut first) (last-cut cuts) (length ps) (going .from), count-least (last-cut first) (last-cut cuts + 1) (length r + 1) (length ps) (omega (arith, last-most going))),
+              going .same,
             ))
 
         module _ (whole : patterns ≤ limit) where

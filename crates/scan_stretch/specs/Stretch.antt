@@ -1,4 +1,4 @@
--- A stretch of the scan: the cut sets with the same first cuts, from the first of them on. Its candidates are numbered in the scan's order, pattern by pattern.
+-- A stretch of the scan: the cut sets with the same first cuts, from one of them on. Its candidates are numbered in the scan's order, pattern by pattern.
 use mathlib.Core.Path.{_≡_}
 use mathlib.Core.Bool.{Bool, true, false}
 use mathlib.Core.List.{List, [], _∷_, _++_}
@@ -14,7 +14,7 @@ use Rattle.deadlines.specs.Lateness.{LongestHead, Latenesses}
 use Rattle.scan_joints.specs.States.{Patterned}
 use Rattle.scan_joints.specs.JointTable.{Padded}
 use Rattle.costs.specs.RouteCosts.{first-cuts, last-cut}
-use Rattle.scan_shared.specs.Prepared.{Opened}
+use Rattle.scan_shared.specs.Prepared.{Cut, Places, RowsFit}
 use Rattle.scan_shared.specs.Filling.{PreparedNow}
 use Rattle.deadline_dues.specs.Dues.{DuesHeld}
 use Rattle.precedence_contradictions.specs.Contrary.{Heads}
@@ -46,10 +46,11 @@ pub record Hopeful (T : Trip) (members rows : List ℕ) (patterns : ℕ) (route 
   pub front : front-kept (pairs-of (T .pairs)) (take (getD cuts 0 0) route) (drop (getD cuts 0 0) route) ≡ true
   pub back : BackSince (pairs-of (T .pairs)) route since
 
--- What a stretch is scanned from, behind such a head: its first cut set.
-pub record LastCutsScannable (T : Trip) (members rows : List ℕ) (patterns : ℕ) (route forward-sums backward-sums stayed late : List ℕ) (since : ℕ) (cuts table : List ℕ) : Type 0 where
-  pub hopeful : Hopeful T members rows patterns route forward-sums backward-sums stayed late since cuts table
-  pub first : Opened cuts
+-- A cut set, and places for what is prepared for its first cuts. With the depot as end: none is read.
+pub record Openable (locations : ℕ) (legs : List ℕ) (depot : ℕ) (route forward-sums backward-sums cuts rows : List ℕ) (patterns : ℕ) (entries exits inside low : List ℕ) : Type 0 where
+  pub cut : Cut locations legs depot depot route forward-sums backward-sums cuts
+  pub rows-fit : RowsFit rows patterns
+  pub places : Places entries exits inside low
 
 -- The heads with which a candidate may keep every deadline and every pair: up to the lesser of both, or none at all.
 pub record HeadsKept (T : Trip) (route : List ℕ) (heads : ℕ) : Type 0 where
@@ -65,7 +66,6 @@ pub record Stretchable (T : Trip) (members rows : List ℕ) (patterns : ℕ) (ro
   pub list : List Pattern
   pub listed : Listed (length cuts) patterns rows list
   pub padded : Padded table
-  pub first : Opened cuts
   pub head : HeadsKept T route heads
   pub latenesses : Latenesses (clock-by (T .tables)) (T .depot) route late
   pub lent : PairsLent (pairs-of (T .pairs)) members
@@ -83,7 +83,7 @@ pub record Passable (stops patterns : ℕ) (cuts : List ℕ) : Type 0 where
 pub record Passed (stops patterns : ℕ) (cuts : List ℕ) (left : ℕ) (answer : Stretch) (cuts′ : List ℕ) : Type 0 where
   pub no-gain : answer .gains ≡ false
   pub over : answer .through ≡ true → (answer .examined ≡ (stops + 1 - last-cut cuts) * patterns) × (answer .examined ≤ left) × (cuts′ ≡ first-cuts cuts ++ (stops ∷ []))
-  pub spent : answer .through ≡ false → (answer .examined ≡ left) × (left < (stops + 1 - last-cut cuts) * patterns)
+  pub spent : answer .through ≡ false → (answer .examined ≡ left) × (left < (stops + 1 - last-cut cuts) * patterns) × (cuts′ ≡ cuts)
 
 -- Whether pattern x at the last cut t, behind the first cuts, improves the route.
 abbrev pub improves-at : Problem → List Pattern → List ℕ → List ℕ → ℕ → ℕ → Bool
@@ -107,13 +107,13 @@ pub record GainAt (P : Problem) (ps : List Pattern) (route cuts : List ℕ) (exa
   pub is : examined ≡ candidate-number ps cuts last pattern
   pub improves : improves-at P ps route cuts last pattern ≡ true
 
--- The candidates examined do not improve the route. Then one does and is allowed; or the stretch is over, its last cut set at hand; or no more are allowed.
+-- The candidates examined do not improve the route. Then one does and is allowed; or the stretch is over, its last cut set at hand; or no more are allowed, and the first cuts are at hand.
 pub record Ended (P : Problem) (ps : List Pattern) (route cuts : List ℕ) (left : ℕ) (answer : Stretch) (cuts′ : List ℕ) : Type 0 where
   pub idle : (t x : ℕ) → last-cut cuts ≤ t → t ≤ length route → x < length ps → candidate-number ps cuts t x < answer .examined → improves-at P ps route cuts t x ≡ false
   pub allowed : answer .examined ≤ left
   pub gain : answer .gains ≡ true → (answer .examined < left) × GainAt P ps route cuts (answer .examined) (answer .pattern) cuts′
   pub over : answer .through ≡ true → (answer .examined ≡ candidate-count ps route cuts) × (cuts′ ≡ first-cuts cuts ++ (length route ∷ []))
-  pub spent : answer .gains ≡ false → answer .through ≡ false → (answer .examined ≡ left) × (left < candidate-count ps route cuts)
+  pub spent : answer .gains ≡ false → answer .through ≡ false → (answer .examined ≡ left) × (left < candidate-count ps route cuts) × (first-cuts cuts′ ≡ first-cuts cuts)
 
 -- Of whichever patterns the rows are.
 pub record Stretched (P : Problem) (patterns : ℕ) (rows route cuts : List ℕ) (left : ℕ) (answer : Stretch) (cuts′ table : List ℕ) : Type 0 where

@@ -10,7 +10,8 @@ use theory::STOPS;
 ghost use mathlib.Core.Path.{_≡_};
 ghost use Prim.Native.Nat.{min, _*_, _≤_};
 ghost use Rattle.theory.specs.Tables.{problem, trip};
-ghost use Rattle.scan_stretch.specs.Stretch.{idle-end, Passable, Passed, Triable, Steppable, Carried, LastCutsScannable, Stretchable, Stretched};
+ghost use Rattle.scan_shared.specs.Filling.{PreparedNow};
+ghost use Rattle.scan_stretch.specs.Stretch.{idle-end, Passable, Passed, Triable, Steppable, Carried, Openable, Hopeful, Stretchable, Stretched};
 
 // How a stretch ended: at an improving candidate, whose pattern is told and whose cuts are at hand; or through it; or else with the candidates allowed. Those before were examined.
 pub struct Stretch {
@@ -38,7 +39,7 @@ fn without_gain(examined: u64, through: bool) -> Stretch
 }
 
 // The patterns of a cut set that are still allowed.
-fn still_allowed(patterns: usize, left: u64) -> usize
+pub fn still_allowed(patterns: usize, left: u64) -> usize
     ensures { λ r. ⌜ r ≡ min patterns left ⌝ }
 {
     if (patterns as u64) < left {
@@ -226,6 +227,46 @@ fn take_step(
     )
 }
 
+// What the cut sets with the same first cuts share, from whichever of them: the first stands at hand while it is prepared.
+fn prepare_opened(
+    locations: usize,
+    legs: &[u32],
+    depot: u32,
+    route: &[u32],
+    forward: &[u64; STOPS],
+    backward: &[u64; STOPS],
+    cuts: &mut [usize],
+    rows: &[u8; ROW_BYTES],
+    patterns: usize,
+    entries: &mut [u32; STATES],
+    exits: &mut [u32; STATES],
+    inside: &mut [u64; STATES],
+    low: &mut [u64; LOW_PLACES],
+)
+    requires { ⌜ Openable locations (now legs) depot (now route) (now forward) (now backward) (now cuts) (now rows) patterns (now entries) (now exits) (now inside) (now low) ⌝ }
+    ensures { λ _. ⌜ (now (cuts .exit) ≡ now (cuts .entry)) × PreparedNow locations (now (legs .entry)) depot (now (route .entry)) (now (cuts .entry)) (now (rows .entry)) patterns (now (entries .exit)) (now (exits .exit)) (now (inside .exit)) (now (low .exit)) ⌝ }
+{
+    let last = cuts.len() - 1;
+    let here = cuts[last];
+    cuts[last] = cuts[last - 1] + 1;
+    scan_shared::prepare(
+        locations,
+        legs,
+        depot,
+        route,
+        forward,
+        backward,
+        &cuts[..],
+        rows,
+        patterns,
+        entries,
+        exits,
+        inside,
+        low,
+    );
+    cuts[last] = here;
+}
+
 // Last cut by last cut, behind a head that is on time and keeps its pairs.
 fn scan_last_cuts(
     locations: usize,
@@ -248,7 +289,7 @@ fn scan_last_cuts(
     joint: &mut [u64; CELLS],
     left: u64,
 ) -> Stretch
-    requires { ⌜ LastCutsScannable (trip locations (now legs) (now latest) (now service) depot end (now pairs)) (now members) (now rows) patterns (now route) (now forward) (now backward) (now stayed) (now lateness) since (now cuts) (now joint) ⌝ }
+    requires { ⌜ Hopeful (trip locations (now legs) (now latest) (now service) depot end (now pairs)) (now members) (now rows) patterns (now route) (now forward) (now backward) (now stayed) (now lateness) since (now cuts) (now joint) ⌝ }
     ensures { λ r. ⌜ Stretched (problem (trip locations (now (legs .entry)) (now (latest .entry)) (now (service .entry)) depot end (now (pairs .entry)))) patterns (now (rows .entry)) (now (route .entry)) (now (cuts .entry)) left r (now (cuts .exit)) (now (joint .exit)) ⌝ }
 {
     let mut entries = [0u32; STATES];
@@ -258,14 +299,14 @@ fn scan_last_cuts(
     let mut dues = [0u64; DUE_PLACES];
     let mut held = [0u64; MARK_PLACES];
     let zero = [0u64; LOW_PLACES];
-    scan_shared::prepare(
+    prepare_opened(
         locations,
         legs,
         depot,
         route,
         forward,
         backward,
-        &cuts[..],
+        cuts,
         rows,
         patterns,
         &mut entries,
@@ -311,7 +352,7 @@ fn scan_last_cuts(
     }
 }
 
-// From the first cut set with its first cuts on, the first of the `left` candidates still allowed that improves the route. With a head that is none of the first `heads`,
+// From a cut set on, along those with its first cuts, the first of the `left` candidates still allowed that improves the route. With a head that is none of the first `heads`,
 // no candidate keeps every deadline and every pair.
 pub fn scan_stretch(
     locations: usize,

@@ -15,7 +15,6 @@ pub mod Distinct
 pub mod Dictionary
 pub mod Clock
 pub mod LatePosition
-pub mod Steps
 pub mod Cuts
 pub mod Stops
 pub mod Refusals
@@ -25,6 +24,5 @@ pub mod Taken
 pub mod Judged
 pub mod ForK
 pub mod Rows
-pub mod Polishing
 pub mod Stores
 pub mod Told

@@ -49,6 +49,7 @@ pub mod rules;
 pub mod run;
 pub mod season;
 pub mod share;
+pub mod slices;
 pub mod tables;
 pub mod text;
 pub mod trial;

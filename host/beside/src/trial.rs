@@ -60,6 +60,8 @@ pub enum Source {
     Each(fn(&mut Random, Visit)),
     /// So many for each thousand that are asked for, but at least so many.
     Drawn(u64, u64, fn(&mut Random, u64) -> Drawn),
+    /// So many times for each thousand that are asked for, each time several, all of one index.
+    Several(u64, fn(&mut Random, Visit)),
 }
 
 pub struct Family {

@@ -1,7 +1,8 @@
 //! Rounds polished on several threads, told in their order. The library has no state between calls.
 
+use crate::board::Board;
 use crate::question::Question;
-use mittenschist::{polish_route_with_pairs, polish_with_patterns_and_pairs, Polished, Refusal};
+use mittenschist::{polish_with_patterns_and_pairs, Ending, Polished, Polisher, Refusal};
 use std::collections::BTreeMap;
 use std::sync::atomic::{AtomicUsize, Ordering};
 use std::sync::mpsc::{self, Receiver, Sender};
@@ -10,14 +11,14 @@ use std::thread;
 /// What became of a round: the answer and its stops, or why it was refused.
 pub type Outcome = Result<(Polished, Vec<u32>), Refusal>;
 
-/// Polishes every round, `jobs` at a time, and tells each outcome as soon as those before it are told.
-pub fn polish_all(question: &Question, jobs: usize, tell: impl FnMut(Outcome)) {
+/// Polishes every round, `jobs` at a time, and tells each outcome as soon as those before it are told. The board shows how far they are.
+pub fn polish_all(question: &Question, jobs: usize, board: &Board, tell: impl FnMut(Outcome)) {
     let next = AtomicUsize::new(0);
     let (done, outcomes) = mpsc::channel();
     thread::scope(|scope| {
         for _ in 0..jobs.min(question.rounds.len()) {
             let (next, done) = (&next, done.clone());
-            scope.spawn(move || work(question, next, &done));
+            scope.spawn(move || work(question, board, next, &done));
         }
         drop(done);
         in_order(outcomes, tell);
@@ -25,32 +26,59 @@ pub fn polish_all(question: &Question, jobs: usize, tell: impl FnMut(Outcome)) {
 }
 
 /// Takes the next round until none is left.
-fn work(question: &Question, next: &AtomicUsize, done: &Sender<(usize, Outcome)>) {
+fn work(question: &Question, board: &Board, next: &AtomicUsize, done: &Sender<(usize, Outcome)>) {
     loop {
         let place = next.fetch_add(1, Ordering::Relaxed);
         let Some(round) = question.rounds.get(place) else {
             return;
         };
-        let outcome = round.clone().and_then(|round| polish(question, round));
+        let round = round.clone();
+        let outcome = round.and_then(|round| polish(question, board, place, round));
+        board.leave(place);
         if done.send((place, outcome)).is_err() {
             return;
         }
     }
 }
 
-/// One round in one call. With no pairs the calls that take them are those that do not.
-fn polish(question: &Question, mut round: Vec<u32>) -> Outcome {
-    let tables = &question.tables();
-    let (k, allowance, harbours) = (question.k, question.allowance, question.harbours);
-    let (pairs, route) = (&question.pairs, &mut round);
+/// One round. A list of patterns is polished with in one call.
+fn polish(question: &Question, board: &Board, place: usize, mut round: Vec<u32>) -> Outcome {
     let polished = match &question.patterns {
-        None => polish_route_with_pairs(k, allowance, tables, harbours, pairs, route)?,
-        Some(list) => {
-            let rows = list.lent();
-            polish_with_patterns_and_pairs(rows, allowance, tables, harbours, pairs, route)?
-        }
+        None => in_slices(question, board, place, &mut round)?,
+        Some(list) => polish_with_patterns_and_pairs(
+            list.lent(),
+            question.allowance,
+            &question.tables(),
+            question.harbours,
+            &question.pairs,
+            &mut round,
+        )?,
     };
     Ok((polished, round))
+}
+
+/// Until it is finished, or the allowance or the time is over. The first slice judges what is handed in, also when the time is over already.
+fn in_slices(
+    question: &Question,
+    board: &Board,
+    place: usize,
+    round: &mut [u32],
+) -> Result<Polished, Refusal> {
+    let (k, tables, harbours) = (question.k, &question.tables(), question.harbours);
+    let mut polisher = Polisher::new(k, tables, harbours, &question.pairs, round);
+    let mut polished = polisher.step(0)?;
+    loop {
+        let left = question.allowance - polished.examined;
+        let time = question.time_left();
+        if polished.ending == Ending::Finished || left == 0 || time.is_zero() {
+            return Ok(polished);
+        }
+        let ran = polisher.run_within(left, time.min(board.pause()))?;
+        polished = polished.then(ran);
+        if ran.ending == Ending::Spent {
+            board.show(place, &polisher.progress());
+        }
+    }
 }
 
 fn in_order(outcomes: Receiver<(usize, Outcome)>, mut tell: impl FnMut(Outcome)) {

@@ -1,31 +1,36 @@
-//! cargo run --release --example polish_rounds [--jobs N] [--patterns LIST] [--pairs LIST] [--shares] FILE: polishes each round of a file and says what was saved, which stop is
+//! cargo run --release --example polish_rounds [--jobs N] [--seconds N] [--patterns LIST] [--pairs LIST] [--shares] FILE: polishes each round of a file and says what was saved, which stop is
 //! late and which pair is not kept, if one is, a line for each round as it is done. The file has the form of the text program, with any number of lines `round=` at its
-//! end, each of which the library reads; see rounds.txt beside this file. Each round has the whole allowance; with --shares they share it. Exit 1 if the file is not of the form or a round is refused,
+//! end, each of which the library reads; see rounds.txt beside this file. Each round has the whole allowance; with --shares they share it. With --seconds it stops in time, and on a
+//! terminal a line shows how far it is. Exit 1 if the file is not of the form or a round is refused,
 //! 2 if the words are not understood.
 
 #![forbid(unsafe_code)]
 
+mod board;
 mod jobs;
 mod options;
 mod question;
 mod shares;
 
+use board::Board;
 use jobs::{polish_all, Outcome};
 use mittenschist::{Ending, Pair, PatternList, Polished};
 use options::{Options, USAGE};
 use question::Question;
 use std::process::ExitCode;
+use std::time::Instant;
 use std::{env, fs};
 
 fn main() -> ExitCode {
-    let (file, jobs, lists, shares) = match Options::parse(env::args().skip(1)) {
+    let (file, jobs, seconds, lists, shares) = match Options::parse(env::args().skip(1)) {
         Ok(Options::Polish {
             file,
             jobs,
+            seconds,
             patterns,
             pairs,
             shares,
-        }) => (file, jobs, (patterns, pairs), shares),
+        }) => (file, jobs, seconds, (patterns, pairs), shares),
         Ok(Options::Help) => {
             println!("{USAGE}");
             return ExitCode::SUCCESS;
@@ -36,11 +41,13 @@ fn main() -> ExitCode {
         }
     };
     match read(&file, lists.0.as_deref(), lists.1.as_deref()) {
-        Ok(question) => {
-            let tell = &mut |line| println!("{line}");
+        Ok(mut question) => {
+            question.until = seconds.and_then(|seconds| Instant::now().checked_add(seconds));
+            let board = &Board::of_terminal(question.rounds.len());
+            let tell = &mut |line| board.tell(line);
             let refused = match shares {
                 true => tell_shares(&question, tell),
-                false => tell_all(&question, jobs, tell),
+                false => tell_all(&question, jobs, board, tell),
             };
             ExitCode::from(u8::from(refused))
         }
@@ -72,10 +79,10 @@ fn read_as<T>(file: &str, parse: impl Fn(&str) -> Result<T, String>) -> Result<T
 }
 
 /// Tells a line for each round and one for all; whether a round was refused.
-fn tell_all(question: &Question, jobs: usize, tell: &mut dyn FnMut(String)) -> bool {
+fn tell_all(question: &Question, jobs: usize, board: &Board, tell: &mut dyn FnMut(String)) -> bool {
     let mut total = Total::default();
-    polish_all(question, jobs, |outcome| {
-        total.add(&outcome);
+    polish_all(question, jobs, board, |outcome| {
+        total.add(question, &outcome);
         let line = told(question, outcome);
         tell(format!("round {}: {line}", total.rounds));
     });
@@ -103,7 +110,7 @@ fn told(question: &Question, outcome: Outcome) -> String {
         Ok((polished, route)) => {
             let late = polished.late.map(|at| told_late(question, &route, at));
             let broken = question.broken_pair(&route).map(told_broken);
-            told_polished(&polished, &route)
+            told_polished(question, &polished, &route)
                 + &late.unwrap_or_default()
                 + &broken.unwrap_or_default()
         }
@@ -123,9 +130,15 @@ fn told_broken([first, second]: Pair) -> String {
     format!("; location {second} comes before location {first}")
 }
 
-fn told_polished(polished: &Polished, route: &[u32]) -> String {
+/// Whether the time was over before the allowance.
+fn stopped(question: &Question, polished: &Polished) -> bool {
+    polished.ending == Ending::Spent && polished.examined < question.allowance
+}
+
+fn told_polished(question: &Question, polished: &Polished, route: &[u32]) -> String {
     let ending = match polished.ending {
         Ending::Finished => "finished",
+        Ending::Spent if stopped(question, polished) => "time over",
         Ending::Spent => "allowance spent",
     };
     let order: Vec<String> = route.iter().map(u32::to_string).collect();
@@ -144,15 +157,17 @@ fn told_polished(polished: &Polished, route: &[u32]) -> String {
 struct Total {
     rounds: usize,
     refused: usize,
+    stopped: usize,
     before: u64,
     after: u64,
 }
 
 impl Total {
-    fn add(&mut self, outcome: &Outcome) {
+    fn add(&mut self, question: &Question, outcome: &Outcome) {
         self.rounds += 1;
         match outcome {
             Ok((polished, _)) => {
+                self.stopped += usize::from(stopped(question, polished));
                 self.before += polished.before;
                 self.after += polished.after;
             }
@@ -165,6 +180,9 @@ impl Total {
         let saved = before.saturating_sub(after);
         let mut line =
             format!("{rounds} rounds: {before} s before, {after} s after, {saved} s saved in all");
+        if self.stopped > 0 {
+            line += &format!("; {} stopped by the time", self.stopped);
+        }
         if self.refused > 0 {
             line += &format!("; {} refused", self.refused);
         }
@@ -175,13 +193,19 @@ impl Total {
 #[cfg(test)]
 mod tests {
     use super::*;
+    use mittenschist::Refusal;
+    use std::time::Duration;
 
     fn lines(text: &str, jobs: usize) -> (Vec<String>, bool) {
         let mut lines = Vec::new();
-        let refused = tell_all(&Question::parse(text).unwrap(), jobs, &mut |line| {
-            lines.push(line)
-        });
+        let refused = all_told(&Question::parse(text).unwrap(), jobs, &mut lines);
         (lines, refused)
+    }
+
+    fn all_told(question: &Question, jobs: usize, lines: &mut Vec<String>) -> bool {
+        tell_all(question, jobs, &Board::silent(), &mut |line| {
+            lines.push(line)
+        })
     }
 
     #[test]
@@ -206,7 +230,7 @@ mod tests {
         let list = PatternList::load(b"k=3\npatterns=1\npattern=0213,0\n");
         question.patterns = Some(list.unwrap());
         let mut told = Vec::new();
-        assert!(!tell_all(&question, 1, &mut |line| told.push(line)));
+        assert!(!all_told(&question, 1, &mut told));
         let first = "round 1: 23 s before, 5 s after, 18 s saved; finished after 11 candidates; order 2,1,3,4";
         assert_eq!(told[0], first);
     }
@@ -217,10 +241,47 @@ mod tests {
         let mut question = Question::parse(include_str!("rounds.txt")).unwrap();
         question.pairs = question::pairs("pair=1,2\npair=3,4\n").unwrap();
         let mut told = Vec::new();
-        assert!(!tell_all(&question, 1, &mut |line| told.push(line)));
+        assert!(!all_told(&question, 1, &mut told));
         assert!(told[0].ends_with("order 3,4,1,2"));
         assert!(told[1].ends_with("due by second 20; location 4 comes before location 3"));
         assert!(told[2].ends_with("order 3,4"));
+    }
+
+    /// No time at all: every round is judged, and told as it is written.
+    #[test]
+    fn with_the_time_over() {
+        let mut question = Question::parse(include_str!("rounds.txt")).unwrap();
+        question.until = Some(Instant::now());
+        question.rounds.insert(1, Err(Refusal::UnknownStop));
+        for jobs in 1..3 {
+            let mut told = Vec::new();
+            assert!(all_told(&question, jobs, &mut told));
+            let first = "round 1: 23 s before, 23 s after, 0 s saved; time over after 0 candidates; order 1,2,3,4; stop 3, ";
+            assert!(told[0].starts_with(first));
+            assert!(told[1].starts_with("round 2: refused (4)"));
+            let last = "4 rounds: 35 s before, 35 s after, 0 s saved in all; 3 stopped by the time; 1 refused";
+            assert_eq!(told[4], last);
+        }
+    }
+
+    /// With five cuts these 400 stops take hours; an allowance that is reached is told as such.
+    #[test]
+    fn with_a_time_limit() {
+        let head = include_str!("rounds.txt").replace("k=3", "k=5");
+        let head = head.split("round=").next().unwrap();
+        let long = vec!["0"; 400].join(",");
+        let text = format!("{head}round={long}\n").replace("=1000000\n", "=4000000000\n");
+        let mut question = Question::parse(&text).unwrap();
+        question.until = Instant::now().checked_add(Duration::from_millis(60));
+        let mut told = Vec::new();
+        assert!(!all_told(&question, 1, &mut told));
+        assert!(told[0].contains("; time over after "), "{told:?}");
+        assert!(told[1].ends_with("; 1 stopped by the time"));
+        question.until = Instant::now().checked_add(Duration::from_secs(3600));
+        question.allowance = 50_000;
+        told.clear();
+        assert!(!all_told(&question, 1, &mut told));
+        assert!(told[0].contains("; allowance spent after 50000 candidates; "));
     }
 
     /// 40 candidates for two rounds of four stops: the first keeps what it accepted in its 20, and the short one is passed over.

@@ -1,6 +1,7 @@
 //! The files of rounds and of pairs. A file of rounds is read by the library, round by round, each after the lines before the first of them.
 
 use mittenschist::{Harbours, Pair, PatternList, Problem, Refusal, Tables};
+use std::time::{Duration, Instant};
 
 pub struct Question {
     pub k: usize,
@@ -16,6 +17,8 @@ pub struct Question {
     pub patterns: Option<PatternList>,
     /// The pairs that each round is to keep.
     pub pairs: Vec<Pair>,
+    /// When polishing is to stop.
+    pub until: Option<Instant>,
 }
 
 impl Question {
@@ -45,6 +48,7 @@ impl Question {
             rounds: Vec::new(),
             patterns: None,
             pairs: Vec::new(),
+            until: None,
         };
         for (number, line) in (before + 1..).zip(rounds.split_inclusive('\n')) {
             let round = read(line).map(|problem| problem.route);
@@ -69,6 +73,12 @@ impl Question {
             latest: &self.latest,
             service: &self.service,
         }
+    }
+
+    /// How long polishing may still take.
+    pub fn time_left(&self) -> Duration {
+        let left = |until: Instant| until.saturating_duration_since(Instant::now());
+        self.until.map_or(Duration::MAX, left)
     }
 
     /// When the last of these stops is reached, by the legs up to it and the service at the stops before it. For stops that the library

@@ -16,6 +16,7 @@ mod polish;
 mod pools;
 mod problems;
 mod run;
+mod slices;
 #[path = "../support/mod.rs"]
 mod support;
 mod texts;

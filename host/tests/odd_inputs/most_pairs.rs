@@ -4,7 +4,7 @@ use crate::support::in_order::keeps_pairs;
 use crate::support::on_small_stack;
 use mittenschist::{
     polish_route_with_pairs, polish_with_patterns_and_pairs, run_list_k_opt_with_pairs, Pair,
-    PatternList, RoundState, Rounds, Tables,
+    PatternList, Polisher, RoundState, Rounds, Tables,
 };
 
 const LOCATIONS: u32 = 1024;
@@ -39,6 +39,14 @@ fn every_call() {
         let polished = polish_route_with_pairs(k, ALLOWANCE, &tables, end, &pairs, &mut route);
         assert!(polished.unwrap().accepted > 0);
         kept(&pairs, &route);
+        let mut again = stops.clone();
+        let mut polisher = Polisher::new(k, &tables, end, &pairs, &mut again);
+        let slices = [
+            polisher.step(ALLOWANCE / 3),
+            polisher.step(ALLOWANCE - ALLOWANCE / 3),
+        ];
+        let [first, second] = slices.map(Result::unwrap);
+        assert_eq!((Ok(first.then(second)), again), (polished, route));
         let mut rounds = stops.clone();
         let run = Rounds {
             stops: &mut rounds,

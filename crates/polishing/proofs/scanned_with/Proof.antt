@@ -1,5 +1,4 @@
 -- `polishing::scanned_with` meets its contract. Assumes nothing.
-use mathlib.Core.Path.{refl}
 use native.Mathlib.Omega.{arith}
 use Rattle.theory.specs.Tables.{Trip, trip}
 use Rattle.polishing.proofs.Replies.{scannable, no-cut-set, scanned-so}
@@ -16,27 +15,22 @@ add-if1 c = search needs
 returns : tie.Need-returns
 returns c =
     let s = c .before .before .before .before .before .before .before .before .before in
-    no-cut-set (s .args .k) (lent s) (s .args .orders .now) (s .args .masks .now) (s .args .members .now) (s .args .route .now) (s .args .allowance) (s .pre) (c .if1 .taken)
-
-fill-rows-requires : tie.Need-fill-rows-requires
-fill-rows-requires c κs =
-    let s = c .before .before .before .before .before .before .before .before .before .before in
-    record { least = s .pre .least; most = s .pre .most; patterns = s .pre .patterns; places = refl }
+    no-cut-set (s .args .k) (lent s) (s .args .orders .now) (s .args .masks .now) (s .args .members .now) (s .args .start) (s .args .from) (s .args .route .now) (s .args .allowance) (s .pre) (c .if1 .taken)
 
 scan-cut-sets-requires : tie.Need-scan-cut-sets-requires
 scan-cut-sets-requires c κs =
-    let s = c .before .before .before .before .before .before .before .before .before .before .before .before .before in
-    scannable (s .args .k) (lent s) (s .args .orders .now) (s .args .masks .now) (s .args .members .now) (s .args .route .now) (s .args .allowance) (s .pre) _ (omega (arith, c .before .before .before .before .if1 .left)) (c .before .before .fill-rows .ensures)
+    let s = c .before .before .before .before .before .before .before .before .before .before in
+    scannable (s .args .k) (lent s) (s .args .orders .now) (s .args .masks .now) (s .args .members .now) (s .args .start) (s .args .from) (s .args .route .now) (s .args .allowance) (s .pre) (omega (arith, c .before .if1 .left))
 
 same-length : tie.Need-same-length
 same-length c = search needs
 
 returns-2 : tie.Need-returns-2
 returns-2 c =
-    let s = c .before .before .before .before .before .before .before .before .before .before .before .before .before .before .before .before in
-    scanned-so (s .args .k) (lent s) (s .args .orders .now) (s .args .masks .now) (s .args .members .now) (s .args .route .now) (s .args .allowance) (s .pre) (c .before .before .scan-cut-sets .ensures)
+    let s = c .before .before .before .before .before .before .before .before .before .before .before .before .before in
+    scanned-so (s .args .k) (lent s) (s .args .orders .now) (s .args .masks .now) (s .args .members .now) (s .args .start) (s .args .from) (s .args .route .now) (s .args .allowance) (s .pre) (c .before .before .scan-cut-sets .ensures)
 
 pub scanned-with-spec : {M : Type 1} → statement M
 scanned-with-spec =
     tie.close
-    (tie.spec add-if1 returns fill-rows-requires scan-cut-sets-requires same-length returns-2)
+    (tie.spec add-if1 returns scan-cut-sets-requires same-length returns-2)

@@ -9,7 +9,7 @@ use beside::trial::{judge, Drawn, Family, Reply, Source, Trial};
 use beside::watch::Watch;
 use beside::{
     checks, desks, ends, every, first_move, in_shares, lists, moves, nearby, pairs, parts, polish,
-    precedence, problems, run, season, text, way_back,
+    precedence, problems, run, season, slices, text, way_back,
 };
 use std::collections::BTreeMap;
 use std::env;
@@ -145,6 +145,7 @@ fn families() -> Vec<Family> {
     all.extend(problems::FAMILIES);
     all.extend(desks::FAMILIES);
     all.extend(way_back::FAMILIES);
+    all.extend(slices::FAMILIES);
     match text::program() {
         Ok(_) => all.extend(text::FAMILIES),
         Err(reason) => println!("the text program is not compared: {reason}"),
@@ -194,6 +195,15 @@ fn run_family(tallies: &mut Tallies, settings: &Settings, family: &Family, salt:
             for index in (0..cases).filter(|&index| settings.wants(index)) {
                 let drawn = draw(&mut Random::of_case(settings.seed, salt, index), index);
                 run_drawn(tallies, family, index, drawn);
+            }
+        }
+        Source::Several(share, several) => {
+            let cases = (settings.cases * share).div_ceil(1000);
+            for index in (0..cases).filter(|&index| settings.wants(index)) {
+                let mut random = Random::of_case(settings.seed, salt, index);
+                several(&mut random, &mut |trial| {
+                    tallies.compare(family, index, &*trial);
+                });
             }
         }
     }

@@ -23,7 +23,7 @@ pub fn polish(case: &Case, patterns: &[Pattern]) -> (Counts, Vec<u32>) {
 }
 
 /// The first candidate that improves the route, if one is examined.
-fn improved(
+pub fn improved(
     case: &Case,
     patterns: &[Pattern],
     route: &[u32],
@@ -46,12 +46,12 @@ fn improved(
     None
 }
 
-fn in_time(case: &Case, route: &[u32]) -> bool {
+pub fn in_time(case: &Case, route: &[u32]) -> bool {
     let tables = &case.closed.tables;
     tables.late_position(case.closed.depot, route) == route.len() as u64
 }
 
-fn rejoined(route: &[u32], cuts: &[usize], pattern: &Pattern) -> Vec<u32> {
+pub fn rejoined(route: &[u32], cuts: &[usize], pattern: &Pattern) -> Vec<u32> {
     let mut after = route[..cuts[0]].to_vec();
     for (&segment, &reversed) in pattern.0.iter().zip(&pattern.1) {
         let mut stops = route[cuts[segment - 1]..cuts[segment]].to_vec();

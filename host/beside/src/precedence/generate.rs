@@ -18,17 +18,8 @@ pub fn draw(random: &mut Random, _index: u64) -> Drawn {
     (Box::new(random_paired(random)), None)
 }
 
-/// Longer routes, of which many are finished for k = 2 and few for k = 5.
 pub fn draw_long(random: &mut Random, _index: u64) -> Drawn {
-    let k = random.within(2, 5);
-    let stops = random.within(8, [120, 40, 24, 16][k - 2]);
-    let mut closed = route_of(random, k, stops);
-    closed.tables.legs = some_legs(random, closed.tables.locations);
-    closed.allowance = random.below(1 << 17);
-    let end = some_end(random, &closed.tables, closed.depot);
-    let mut case = ends::Case { closed, end };
-    pair(random, &mut case);
-    (Box::new(case), None)
+    (Box::new(long_paired(random)), None)
 }
 
 pub fn draw_list(random: &mut Random, _index: u64) -> Drawn {
@@ -37,6 +28,19 @@ pub fn draw_list(random: &mut Random, _index: u64) -> Drawn {
 
 pub fn draw_run(random: &mut Random, _index: u64) -> Drawn {
     (Box::new(random_paired_run(random)), None)
+}
+
+/// Longer routes, of which many are finished for k = 2 and few for k = 5.
+pub fn long_paired(random: &mut Random) -> ends::Case {
+    let k = random.within(2, 5);
+    let stops = random.within(8, [120, 40, 24, 16][k - 2]);
+    let mut closed = route_of(random, k, stops);
+    closed.tables.legs = some_legs(random, closed.tables.locations);
+    closed.allowance = random.below(1 << 17);
+    let end = some_end(random, &closed.tables, closed.depot);
+    let mut case = ends::Case { closed, end };
+    pair(random, &mut case);
+    case
 }
 
 pub fn random_paired(random: &mut Random) -> ends::Case {

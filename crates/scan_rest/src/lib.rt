@@ -1,0 +1,125 @@
+// A part of the scan: a stretch, or the rest of a cut set, whose patterns from an index on are a list of their own. No entry: crate scan_loop calls it.
+use scan_joints::CELLS;
+use scan_joints::ROW_BYTES;
+use scan_stretch::Stretch;
+use theory::CUT_PLACES;
+use theory::STOPS;
+ghost use mathlib.Core.Path.{_≡_};
+ghost use mathlib.Core.Bool.{true};
+ghost use Prim.Native.Nat.{_≤_};
+ghost use lib.ListN.{length};
+ghost use Rattle.theory.specs.Tables.{problem, pattern-rows, trip};
+ghost use Rattle.scan_rest.specs.Rest.{RowsFrom, RowsKeepable, PartAllowed, RestEnded, PartScannable, PartScanned};
+
+// The rows of the patterns from an index on, unless they were filled from there.
+fn keep_rows(
+    k: usize,
+    orders: &[u8],
+    masks: &[u8],
+    filled: usize,
+    index: usize,
+    rows: &mut [u8; ROW_BYTES],
+)
+    requires { ⌜ RowsKeepable k (now orders) (now masks) filled index (now rows) ⌝ }
+    ensures { λ _. ⌜ RowsFrom k (now (orders .entry)) (now (masks .entry)) index (now (rows .exit)) ⌝ }
+{
+    if filled == index {
+        return;
+    }
+    let from = index * (k + 1);
+    scan_rows::fill_rows(k, &orders[from..], &masks[index..], rows);
+}
+
+// The candidates that a part may take of those left: a rest no more than it has, so that it ends with its cut set.
+fn part_allowed(index: usize, patterns: usize, left: u64) -> u64
+    ensures { λ r. ⌜ PartAllowed index patterns left r ⌝ }
+{
+    if index == 0 {
+        return left;
+    }
+    scan_stretch::still_allowed(patterns, left) as u64
+}
+
+// How a rest ended, by how it did as a stretch of its own.
+fn rest_end(index: usize, patterns: usize, stretch: Stretch) -> Stretch
+    requires { ⌜ (index ≤ 383) × (stretch .gains ≡ true → stretch .pattern ≤ 383) ⌝ }
+    ensures { λ r. ⌜ RestEnded index patterns stretch r ⌝ }
+{
+    if stretch.gains {
+        return Stretch {
+            examined: stretch.examined,
+            gains: true,
+            through: false,
+            pattern: index + stretch.pattern,
+        };
+    }
+    Stretch {
+        examined: stretch.examined,
+        gains: false,
+        through: stretch.examined == patterns as u64,
+        pattern: 0,
+    }
+}
+
+// A stretch from a cut set on, or from one of its patterns on the rest of that cut set, which is left at hand. `filled` is where the rows were filled from.
+pub fn scan_part(
+    locations: usize,
+    legs: &[u32],
+    latest: &[u32],
+    service: &[u32],
+    depot: u32,
+    end: u32,
+    pairs: &[u32],
+    members: &[u64],
+    orders: &[u8],
+    masks: &[u8],
+    rows: &mut [u8; ROW_BYTES],
+    index: usize,
+    route: &[u32],
+    forward: &[u64; STOPS],
+    backward: &[u64; STOPS],
+    stayed: &[u64; CUT_PLACES],
+    heads: usize,
+    lateness: &[u64; CUT_PLACES],
+    since: usize,
+    cuts: &mut [usize],
+    joint: &mut [u64; CELLS],
+    filled: usize,
+    left: u64,
+) -> Stretch
+    requires { ⌜ PartScannable (trip locations (now legs) (now latest) (now service) depot end (now pairs)) (now members) (now rows) (now orders) (now masks) index (now route) (now forward) (now backward) (now stayed) heads (now lateness) since (now cuts) (now joint) filled ⌝ }
+    ensures { λ r. ⌜ PartScanned (problem (trip locations (now (legs .entry)) (now (latest .entry)) (now (service .entry)) depot end (now (pairs .entry)))) (pattern-rows (length (now (cuts .entry))) (now (orders .entry)) (now (masks .entry))) (now (route .entry)) (now (cuts .entry)) index left r (now (cuts .exit)) (now (joint .exit)) × RowsFrom (length (now (cuts .entry))) (now (orders .entry)) (now (masks .entry)) index (now (rows .exit)) ⌝ }
+{
+    keep_rows(cuts.len(), orders, masks, filled, index, rows);
+    let patterns = masks.len() - index;
+    let allowed = part_allowed(index, patterns, left);
+    let last = cuts.len() - 1;
+    let here = cuts[last];
+    let stretch = scan_stretch::scan_stretch(
+        locations,
+        legs,
+        latest,
+        service,
+        depot,
+        end,
+        pairs,
+        members,
+        rows,
+        patterns,
+        route,
+        forward,
+        backward,
+        stayed,
+        heads,
+        lateness,
+        since,
+        cuts,
+        joint,
+        allowed,
+    );
+    if index == 0 {
+        return stretch;
+    }
+    cuts[last] = here;
+    rest_end(index, patterns, stretch)
+}
