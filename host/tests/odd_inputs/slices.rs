@@ -1,5 +1,5 @@
 use crate::one_route::{Asked, PLACES};
-use crate::pools;
+use crate::pools::{self, Tables};
 use crate::support::in_order::keeps_pairs;
 use crate::support::lent::Lent;
 use crate::support::rules::{
@@ -188,39 +188,42 @@ fn every_place() {
 
 /// Every table, route and list of pairs, from the first place.
 fn every_call() {
-    let lists = pools::pairs();
     for k in pools::CUT_COUNTS {
-        let place = first_place(k.min(9));
         for tables in &pools::tables() {
             for route in &pools::routes() {
-                for (number, depot) in (0..).zip(pools::PLACES) {
-                    let end = pools::PLACES[(number + route.len()) % 4];
-                    let one = |allowance, room, pairs: &[u32]| {
-                        let asked = Asked {
-                            allowance,
-                            tables,
-                            depot,
-                            route,
-                            room,
-                        };
-                        let case = Case {
-                            k,
-                            asked,
-                            end,
-                            pairs,
-                            place: &place,
-                        };
-                        case.check();
-                        case.check_safe();
-                    };
-                    one(9, 8, &[]);
-                    one(1, 0, &[1, 2]);
-                    lists
-                        .iter()
-                        .filter(|_| depot == 0)
-                        .for_each(|list| one(7, 6, list));
-                }
+                every_depot(k, tables, route);
             }
+        }
+    }
+}
+
+fn every_depot(k: usize, tables: &Tables, route: &[u32]) {
+    let (lists, place) = (pools::pairs(), first_place(k.min(9)));
+    for (number, depot) in (0..).zip(pools::PLACES) {
+        let end = pools::PLACES[(number + route.len()) % 4];
+        let one = |allowance, room, pairs: &[u32]| {
+            let asked = Asked {
+                allowance,
+                tables,
+                depot,
+                route,
+                room,
+            };
+            let place = &place;
+            let case = Case {
+                k,
+                asked,
+                end,
+                pairs,
+                place,
+            };
+            case.check();
+            case.check_safe();
+        };
+        one(9, 8, &[]);
+        one(1, 0, &[1, 2]);
+        if depot == 0 {
+            lists.iter().for_each(|list| one(7, 6, list));
         }
     }
 }
