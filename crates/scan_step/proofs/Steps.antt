@@ -1,7 +1,7 @@
--- A stretch, over plain lists: what holds at each step, and what each end of a step gives. Assumes nothing.
+-- A step of a stretch, over plain lists: what holds at each step, and what each end of a step gives. Assumes nothing.
 use mathlib.Core.Path.{_≡_, refl, sym, ap, _∙_}
 use mathlib.Core.Bool.{Bool, true, false, true≢false, _&&_, and-false}
-use mathlib.Core.Logic.{inl, inr}
+use mathlib.Core.Logic.{_⊎_, inl, inr}
 use mathlib.Core.List.{List, [], _∷_, _++_}
 use Prim.Native.Nat.{ℕ, suc, min, _+_, _-_, _*_, _≤_, _<_}
 use native.Mathlib.Omega.{arith}
@@ -14,30 +14,37 @@ use Rattle.theory.specs.Pairs.{pairs-of}
 use Rattle.theory.specs.Route.{reconnected, feasible, tour-length}
 use Rattle.theory.specs.Scan.{improves}
 use Rattle.theory.specs.Polish.{search-of, move-at}
-use Rattle.theory.specs.Tables.{problem, clock-by, ForK, Trip}
-use Rattle.theory.proofs.Judged.{followed, to-end}
+use Rattle.theory.specs.Tables.{problem, clock-by, CutSet, ForK, Trip}
 use Rattle.costs.proofs.Segments.{head-at, cuts-parted, first-many}
 use Rattle.scan_joints.specs.JointTable.{Padded}
 use Rattle.scan_joints.specs.States.{row, states, no-pattern}
 use Rattle.costs.specs.RouteCosts.{first-cuts, last-cut}
-use Rattle.scan_shared.specs.Prepared.{Cut}
-use Rattle.scan_shared.specs.Filling.{PreparedNow}
-use Rattle.scan_shared.proofs.Preparing.{first-of-cuts, last-of-cuts, zero-at}
-use Rattle.scan_bound.specs.Tests.{Nextable, NextPromising}
+use Rattle.scan_shared.specs.Prepared.{Cut, RowsFit}
+use Rattle.scan_shared.specs.Filling.{open-by, PreparedNow}
+use Rattle.scan_shared.proofs.Preparing.{first-of-cuts, last-of-cuts, zero-at, row-prepared, row-alone}
+use Rattle.scan_bound.specs.Tests.{Nextable}
 use Rattle.deadline_dues.specs.Dues.{DuesHeld}
-use Rattle.precedence.specs.Words.{PairsLent}
+use Rattle.precedence.specs.Words.{PairsLent, Readable}
 use Rattle.precedence_marks.specs.Held.{MarksKept}
 use Rattle.scan_cut_set.specs.Gain.{FirstGain, Findable, Found}
-use Rattle.scan_stretch.specs.declared.Step.{Step}
-use Rattle.scan_stretch.specs.declared.Step.the-variants.{Done, On}
-use Rattle.scan_stretch.specs.Stretch.{Listed, Hopeful, Ended, GainAt, Going, StepTo, Triable, Steppable, Openable, idle-end, improves-at}
-use Rattle.scan_stretch.proofs.LastCut.{first-below, long, at-cut}
-use Rattle.scan_stretch.proofs.Counting.{count-to, count-next, count-least, up-to}
+use Rattle.scan_step.specs.declared.Step.{Step}
+use Rattle.scan_step.specs.declared.Step.the-variants.{Done, On, Closed}
+use Rattle.scan_step.specs.Stepping.{Listed, Hopeful, Ended, GainAt, Going, StepTo, NotClosed, ClosingKept, Shutting, ShutBy, BlockAsked, BlockedAt, GainAsked, NextHit, Triable, Steppable, idle-end, improves-at}
+use Rattle.scan_step.proofs.LastCut.{first-below, long, at-cut}
+use Rattle.scan_step.proofs.Closing.{shut-idle, open-findable}
+use Rattle.scan_step.proofs.Counting.{count-to, count-next, count-least, up-to}
+
+decBool : (b : Bool) → (b ≡ true) ⊎ (b ≡ false)
+decBool true = inl refl
+decBool false = inr refl
 
 -- ---- the last cut as the array has it
 
 pub last-stored : (l : List ℕ) (v : ℕ) → 1 ≤ length l → set l (length l - 1) v ≡ first-cuts l ++ (v ∷ [])
 last-stored l v h = ap (λ z. set z (length l - 1) v) (cuts-parted l h) ∙ set-at (first-cuts l) (last-cut l) [] v (length l - 1) (first-many l)
+
+hit-stored : {cuts : List ℕ} → 2 ≤ length cuts → (hit : ℕ) → last-cut (set cuts (length cuts - 1) hit) ≡ hit
+hit-stored {cuts} h hit = ap last-cut (last-stored cuts hit (omega arith)) ∙ last-of-cuts (first-cuts cuts) hit
 
 -- ---- what is known of the cut set at hand
 
@@ -82,37 +89,28 @@ module _ {T : Trip} {ps : List Pattern} {members r first : List ℕ} {left : ℕ
           back = given .back;
         }
 
-    pub triable-on : Triable T members rows patterns r forwards backwards stayed late since cuts table dues words examined left
-    triable-on =
-        record { hopeful = hopeful-on; held = rw (going .same) (going .held); behind = going .behind; marks = rw (going .same) (going .marks); marks-behind = going .marks-behind; within = going .within }
+    pub triable-on : {signs : List ℕ} {blocked : ℕ} → Shutting T rows patterns r cuts signs blocked → Triable T members rows patterns signs blocked r forwards backwards stayed late since cuts table dues words examined left
+    triable-on s =
+        record { hopeful = hopeful-on; held = rw (going .same) (going .held); behind = going .behind; marks = rw (going .same) (going .marks); marks-behind = going .marks-behind; shutting = s; within = going .within }
 
-    pub prepared-on : {entries exits inside low : List ℕ} → PreparedNow (T .tables .locations) (T .tables .legs) (T .depot) r first rows patterns entries exits inside low →
-        PreparedNow (T .tables .locations) (T .tables .legs) (T .depot) r cuts rows patterns entries exits inside low
-    prepared-on k = record { places = k .places; prepared = rw (going .same) (k .prepared) }
+    pub prepared-on : {is-open : ℕ → Bool} {entries exits inside low : List ℕ} → PreparedNow (T .tables .locations) (T .tables .legs) (T .depot) r first rows patterns is-open entries exits inside low →
+        PreparedNow (T .tables .locations) (T .tables .legs) (T .depot) r cuts rows patterns is-open entries exits inside low
+    prepared-on k = record { places = k .places; prepared = rw (going .same) (k .prepared); least = rw (going .same) (k .least) }
+
+-- What is blocked at a cut set is at the later ones with the same first cuts.
+pub shut-on : {T : Trip} {rows : List ℕ} {patterns : ℕ} {r cuts signs : List ℕ} {blocked : ℕ} (cuts′ : List ℕ) → length cuts′ ≡ length cuts → first-cuts cuts′ ≡ first-cuts cuts → last-cut cuts ≤ last-cut cuts′ →
+    Shutting T rows patterns r cuts signs blocked → Shutting T rows patterns r cuts′ signs blocked
+shut-on cuts′ many same later s =
+    record { small = s .small; signed = s .signed; shut = λ order mask c f l h e. rw same (s .shut order mask c (rw many at f) (omega (arith, later, l)) h (rw many at e)) }
 
 -- ---- the start
 
 module _ {T : Trip} {members rows : List ℕ} {patterns : ℕ} {r forwards backwards stayed late : List ℕ} {since : ℕ} {cuts table : List ℕ} (given : Hopeful T members rows patterns r forwards backwards stayed late since cuts table) where
-  cut : Cut (T .tables .locations) (T .tables .legs) (T .depot) (T .end) r forwards backwards cuts
+  pub cut : Cut (T .tables .locations) (T .tables .legs) (T .depot) (T .end) r forwards backwards cuts
   cut = let g = given .searchable in record { measurable = g .timed .measurable; forwards = g .forwards; backwards = g .backwards; cut-set = g .cut-set }
 
   pub few-patterns : patterns ≤ 383
   few-patterns = omega (arith, given .listed .patterned .few, given .listed .many)
-
-  pub openable : Openable (T .tables .locations) (T .tables .legs) (T .depot) r forwards backwards cuts rows patterns (replicate 8 0) (replicate 8 0) (replicate 8 0) (replicate 21 0)
-  openable =
-      let w = given .listed .patterned in
-      record {
-        cut = let g = given .searchable in
-            record {
-              measurable = to-end (followed (g .timed .measurable)) (g .timed .measurable .depot-known);
-              forwards = g .forwards;
-              backwards = g .backwards;
-              cut-set = g .cut-set;
-            };
-        rows-fit = record { places = w .places; few = few-patterns; known = rw (given .listed .many) at (w .small) };
-        places = record { ends = record { entry-places = refl; exit-places = refl; inside-places = refl }; low-places = refl; low-small = λ c. rw (zero-at 21 c) (omega arith) };
-      }
 
   pub starts : (ps : List Pattern) (left : ℕ) {dues words : List ℕ} → DuesHeld (clock-by (T .tables)) r (first-cuts cuts) dues → getD dues 8 0 ≤ last-cut cuts →
       MarksKept (pairs-of (T .pairs)) members r (first-cuts cuts) words → getD words 16 0 ≤ last-cut cuts → Going T ps members r cuts left cuts table dues words 0
@@ -144,20 +142,24 @@ module _ {T : Trip} {members rows : List ℕ} {patterns : ℕ} {r forwards backw
 
 -- ---- up to the first last cut that is promising
 
-module _ {T : Trip} {members rows : List ℕ} {patterns : ℕ} {r forwards backwards stayed late : List ℕ} {since : ℕ} {cuts entries exits inside low zero table dues words : List ℕ} {examined left : ℕ}
-    (given : Steppable T members rows patterns r forwards backwards stayed late since cuts entries exits inside low zero table dues words examined left) where
+module _ {T : Trip} {members rows : List ℕ} {patterns : ℕ} {signs : List ℕ} {blocked : ℕ} {some : Bool} {r forwards backwards stayed late : List ℕ} {since : ℕ} {cuts entries exits inside low zero table dues words visits : List ℕ} {examined left : ℕ}
+    (given : Steppable T members rows patterns signs blocked some r forwards backwards stayed late since cuts entries exits inside low zero table dues words visits examined left) where
   pub nextable : Nextable (T .tables .locations) (T .tables .legs) (T .depot) (T .end) r forwards backwards cuts entries exits inside low zero
   nextable =
-      let k = given .prepared .prepared in
       record {
         cut = cut (given .triable .hopeful);
         places = given .prepared .places;
-        prepared = record { entry = k .entry; exit = k .exit; within = k .within; standing = k .standing; least = λ i h. absurd (omega arith) };
+        prepared = given .prepared .prepared;
         zero-places = given .zero-places;
         zero-is = given .zero-is;
       }
 
-  module _ {hit : ℕ} (next : NextPromising (T .tables .locations) (T .tables .legs) (T .depot) (T .end) r cuts entries exits inside low hit) where
+  rows-fit : RowsFit rows patterns
+  rows-fit =
+      let w = given .triable .hopeful .listed in
+      record { places = w .patterned .places; few = few-patterns (given .triable .hopeful); known = rw (w .many) at (w .patterned .small) }
+
+  module _ {hit : ℕ} (next : NextHit (T .tables .locations) (T .tables .legs) (T .depot) (T .end) r cuts entries exits inside low some hit) where
     pub few-sets : (hit - last-cut cuts ≤ 513) × (patterns ≤ 383)
     few-sets = (omega (arith, next .most, given .triable .hopeful .searchable .cut-set .short), few-patterns (given .triable .hopeful))
 
@@ -165,17 +167,34 @@ module _ {T : Trip} {members rows : List ℕ} {patterns : ℕ} {r forwards backw
       behind-hit : last-cut first ≤ hit
       behind-hit = omega (arith, going .from, next .least)
 
-      no-gain : (t x : ℕ) → last-cut cuts ≤ t → t < hit → x < length ps → improves-at (problem T) ps r first t x ≡ false
+      -- A row that is closed.
+      closed-idle : (t x : ℕ) → last-cut cuts ≤ t → t < hit → x < length ps → open-by signs blocked x ≡ false → improves-at (problem T) ps r first t x ≡ false
+      closed-idle t x h l i e =
+          ap (λ pre. improves (search-of (problem T) ps (length first) (length r)) r (move-at ps (pre ++ (t ∷ [])) x)) (sym (going .same))
+          ∙ ap (λ n. improves (search-of (problem T) ps n (length r)) r (move-at ps (first-cuts cuts ++ (t ∷ [])) x)) (sym (going .many))
+          ∙ shut-idle (given .triable .hopeful .back) (given .triable .shutting) (going .cut-set) ps (rw (going .many) (list .patterned)) x i (omega (arith, i, list .many)) e t h (omega (arith, l, next .most))
+
+      -- A row that is open, by the least costs.
+      open-idle : (t x : ℕ) → last-cut cuts ≤ t → t < hit → x < length ps → some ≡ true → open-by signs blocked x ≡ true → improves-at (problem T) ps r first t x ≡ false
       unfolding tour-length
-      no-gain t x h l i =
+      open-idle t x h l i s o =
           let p = getD ps x no-pattern in
+          let c : x < patterns = omega (arith, i, list .many) in
           let n : suc (length (first-cuts first)) ≡ length first = omega (arith, first-many first, going .begin .least) in
           let f : ForK (suc (length (first-cuts first))) (p .order) (p .mask) = rw n (list .patterned .for-k x i) in
-          let w : row rows x ≡ states (suc (length (first-cuts first))) (p .order) (p .mask) = rw n (list .patterned .each x i) in
-          let q = rw (going .same) at (next .idle t h l) in
+          let w : row (row rows x) 0 ≡ states (suc (length (first-cuts first))) (p .order) (p .mask) = row-alone rows-fit x c ∙ rw n (list .patterned .each x i) in
+          let q = rw (going .same) at (next .idle s t h l) in
           ap (λ b. feasible (problem T) (reconnected (move-at ps (first-cuts first ++ (t ∷ [])) x) r) && b)
-          (q rows patterns (rw (going .same) at (given .prepared .prepared)) (p .order) (p .mask) x (omega (arith, i, list .many)) f w)
+          (q (row rows x) 1 (rw (going .same) at (row-prepared (given .prepared) rows-fit x c o)) (p .order) (p .mask) 0 (omega arith) f w)
           ∙ and-false (feasible (problem T) (reconnected (move-at ps (first-cuts first ++ (t ∷ [])) x) r))
+
+      no-gain : (t x : ℕ) → last-cut cuts ≤ t → t < hit → x < length ps → improves-at (problem T) ps r first t x ≡ false
+      no-gain t x h l i = by (decBool some) (decBool (open-by signs blocked x))
+        where
+          by : (some ≡ true) ⊎ (some ≡ false) → (open-by signs blocked x ≡ true) ⊎ (open-by signs blocked x ≡ false) → improves-at (problem T) ps r first t x ≡ false
+          by s (inr e) = closed-idle t x h l i e
+          by (inr s) (inl o) = closed-idle t x h l i (given .none s x (omega (arith, i, list .many)))
+          by (inl s) (inl o) = open-idle t x h l i s o
 
       passed : (t x : ℕ) → last-cut first ≤ t → t < hit → x < length ps → improves-at (problem T) ps r first t x ≡ false
       passed t x h l i = by (decLt t (last-cut cuts))
@@ -245,27 +264,81 @@ module _ {T : Trip} {members rows : List ℕ} {patterns : ℕ} {r forwards backw
           pub from-hit : (answer : Step) (cuts′ table′ dues′ words′ : List ℕ) →
               StepTo T ps members r first left (last-cut (set cuts (length cuts - 1) hit)) answer cuts′ table′ dues′ words′ → StepTo T ps members r first left (last-cut cuts) answer cuts′ table′ dues′ words′
           from-hit (Done answer) cuts′ table′ dues′ words′ w = w
-          from-hit (On reached) cuts′ table′ dues′ words′ w =
-              let e : last-cut (set cuts (length cuts - 1) hit) ≡ hit = ap last-cut (stored going hit) ∙ last-of-cuts (first-cuts first) hit in
-              (w .0, omega (arith, w .1, e, next .least))
+          from-hit (On reached) cuts′ table′ dues′ words′ w = (w .0, omega (arith, w .1, hit-stored (given .triable .hopeful .searchable .cut-set .least) hit, next .least))
+          from-hit (Closed reached closed) cuts′ table′ dues′ words′ w = (w .0, omega (arith, w .1, hit-stored (given .triable .hopeful .searchable .cut-set .least) hit, next .least))
 
-pub hit-triable : {T : Trip} {members rows : List ℕ} {patterns : ℕ} {r forwards backwards stayed late : List ℕ} {since : ℕ} {cuts entries exits inside low zero table dues words : List ℕ} {examined left : ℕ} →
-    Steppable T members rows patterns r forwards backwards stayed late since cuts entries exits inside low zero table dues words examined left →
-    {hit : ℕ} → NextPromising (T .tables .locations) (T .tables .legs) (T .depot) (T .end) r cuts entries exits inside low hit → {over : ℕ} → over ≡ (hit - last-cut cuts) * patterns → over ≤ left - examined → hit ≤ length r →
-    Triable T members rows patterns r forwards backwards stayed late since (set cuts (length cuts - 1) hit) table dues words (examined + over) left
-hit-triable {T} {members} {rows} {patterns} {r} {forwards} {backwards} {stayed} {late} {since} {cuts} {entries} {exits} {inside} {low} {zero} {table} {dues} {words} given next {over} e room l =
+          -- Or rows are closed here that were open.
+          pub closes : (l : hit ≤ length r) (closed : ℕ) → StepTo T ps members r first left (last-cut cuts) (Closed (examined + over) closed) (set cuts (length cuts - 1) hit) table dues words
+          closes l closed = (at-hit l, omega (arith, hit-stored (given .triable .hopeful .searchable .cut-set .least) hit, next .least))
+
+    -- The cut set at a hit.
+    module _ (l : hit ≤ length r) where
+      abbrev here : List ℕ
+      here = set cuts (length cuts - 1) hit
+
+      own : CutSet (length cuts) (length r) cuts
+      own = given .triable .hopeful .searchable .cut-set
+
+      here-is : here ≡ first-cuts cuts ++ (hit ∷ [])
+      here-is = last-stored cuts hit (omega (arith, own .least))
+
+      here-cut : CutSet (length here) (length r) here
+      here-cut = rw here-is (at-cut r cuts own hit (next .least) l)
+
+      here-shut : Shutting T rows patterns r here signs blocked
+      here-shut =
+          shut-on here (ap length here-is ∙ long r cuts own hit) (ap first-cuts here-is ∙ first-of-cuts (first-cuts cuts) hit) (omega (arith, hit-stored (own .least) hit, next .least)) (given .triable .shutting)
+
+      words-read : ClosingKept (pairs-of (T .pairs)) members r signs visits → 0 < length signs → Readable members r × (length visits ≡ 1027) × (getD visits 1026 0 ≤ length r)
+      words-read (inl n) h = absurd (omega (arith, n, h))
+      words-read (inr m) h =
+          (record { places = m .1; short = own .short; known = given .triable .hopeful .searchable .timed .known }, m .3 .places, m .3 .reach)
+
+      pub block-asked : BlockAsked members r here signs visits
+      block-asked =
+          record { cut-set = here-cut; readable = λ h. words-read (given .kept) h .0; visit-places = λ h. words-read (given .kept) h .1; reach = λ h. words-read (given .kept) h .2 }
+
+      module _ {visits′ : List ℕ} {closed : ℕ} (now : BlockedAt members r since here signs visits visits′ closed) where
+        pub kept-then : ClosingKept (pairs-of (T .pairs)) members r signs visits′
+        kept-then = now .is (pairs-of (T .pairs)) (given .kept) (given .triable .hopeful .back) .1
+
+        pub shut-more : blocked < closed → (blocked < closed) × Shutting T rows patterns r here signs closed
+        shut-more h = (
+          h,
+          record { small = now .small; signed = λ b. given .signed (now .by-signs b); shut = now .is (pairs-of (T .pairs)) (given .kept) (given .triable .hopeful .back) .0 },
+        )
+
+pub hit-triable : {T : Trip} {members rows : List ℕ} {patterns : ℕ} {signs : List ℕ} {blocked : ℕ} {some : Bool} {r forwards backwards stayed late : List ℕ} {since : ℕ} {cuts entries exits inside low zero table dues words visits : List ℕ} {examined left : ℕ} →
+    Steppable T members rows patterns signs blocked some r forwards backwards stayed late since cuts entries exits inside low zero table dues words visits examined left →
+    {hit : ℕ} → NextHit (T .tables .locations) (T .tables .legs) (T .depot) (T .end) r cuts entries exits inside low some hit → {over : ℕ} → over ≡ (hit - last-cut cuts) * patterns → over ≤ left - examined → hit ≤ length r →
+    Triable T members rows patterns signs blocked r forwards backwards stayed late since (set cuts (length cuts - 1) hit) table dues words (examined + over) left
+hit-triable {T} {members} {rows} {patterns} {signs} {blocked} {some} {r} {forwards} {backwards} {stayed} {late} {since} {cuts} {entries} {exits} {inside} {low} {zero} {table} {dues} {words} {visits} given next {over} e room l =
     let w = given .triable in
     let h = w .hopeful in
-    let alone : Steppable T members rows patterns r forwards backwards stayed late since cuts entries exits inside low zero table dues words 0 over =
-    record { triable = record { hopeful = h; held = w .held; behind = w .behind; marks = w .marks; marks-behind = w .marks-behind; within = omega arith }; prepared = given .prepared; zero-places = given .zero-places; zero-is = given .zero-is } in
-    let t = triable-on (at-hit alone next (h .listed) (starts h (h .list) over (w .held) (w .behind) (w .marks) (w .marks-behind)) e (omega arith) l) h in
-    record { hopeful = t .hopeful; held = t .held; behind = t .behind; marks = t .marks; marks-behind = t .marks-behind; within = omega (arith, room, w .within) }
+    let alone : Steppable T members rows patterns signs blocked some r forwards backwards stayed late since cuts entries exits inside low zero table dues words visits 0 over =
+    record {
+      triable = record { hopeful = h; held = w .held; behind = w .behind; marks = w .marks; marks-behind = w .marks-behind; shutting = w .shutting; within = omega arith };
+      prepared = given .prepared;
+      none = given .none;
+      signed = given .signed;
+      kept = given .kept;
+      zero-places = given .zero-places;
+      zero-is = given .zero-is;
+    } in
+    let t = triable-on (at-hit alone next (h .listed) (starts h (h .list) over (w .held) (w .behind) (w .marks) (w .marks-behind)) e (omega arith) l) h (here-shut given next l) in
+    record { hopeful = t .hopeful; held = t .held; behind = t .behind; marks = t .marks; marks-behind = t .marks-behind; shutting = t .shutting; within = omega (arith, room, w .within) }
+
+-- A cut set that is tried tells of no closed rows.
+pub shut-tried : {T : Trip} {rows : List ℕ} {patterns : ℕ} {r signs : List ℕ} {blocked : ℕ} (answer : Step) (cuts : List ℕ) → NotClosed answer → ShutBy T rows patterns r signs blocked answer cuts
+shut-tried (Done answer) cuts n = refl
+shut-tried (On examined) cuts n = refl
+shut-tried (Closed examined closed) cuts n = absurd n
 
 -- ---- at a last cut that is promising
 
-module _ {T : Trip} {members rows : List ℕ} {patterns : ℕ} {r forwards backwards stayed late : List ℕ} {since : ℕ} {cuts table dues words : List ℕ} {examined left : ℕ}
-    (given : Triable T members rows patterns r forwards backwards stayed late since cuts table dues words examined left) {limit : ℕ} (limit-is : limit ≡ min patterns (left - examined)) where
-  pub findable : Findable T members r forwards backwards stayed cuts rows late since table dues words limit
+module _ {T : Trip} {members rows : List ℕ} {patterns : ℕ} {signs : List ℕ} {blocked : ℕ} {r forwards backwards stayed late : List ℕ} {since : ℕ} {cuts table dues words : List ℕ} {examined left : ℕ}
+    (given : Triable T members rows patterns signs blocked r forwards backwards stayed late since cuts table dues words examined left) {limit : ℕ} (limit-is : limit ≡ min patterns (left - examined)) where
+  findable : Findable T members r forwards backwards stayed cuts rows late since table dues words limit
   findable =
       let h = given .hopeful in
       record {
@@ -284,6 +357,9 @@ module _ {T : Trip} {members rows : List ℕ} {patterns : ℕ} {r forwards backw
         marks-behind = given .marks-behind;
         padded = h .padded;
       }
+
+  pub gain-asked : GainAsked T members r forwards backwards stayed cuts rows signs blocked late since table dues words limit
+  gain-asked = record { findable = findable; open-findable = open-findable findable (omega (arith, limit-is)) (given .shutting) }
 
   module _ {i : ℕ} {table′ dues′ words′ : List ℕ} (found : Found T members r cuts rows limit i table′ dues′ words′) where
     pub room-left : examined + i ≤ left

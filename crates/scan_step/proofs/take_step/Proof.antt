@@ -1,10 +1,10 @@
--- `scan_stretch::take_step` meets its contract. Assumes nothing.
+-- `scan_step::take_step` meets its contract. Assumes nothing.
 use lib.ListN.{length-set}
 use native.Mathlib.Omega.{arith}
 use borrow.Author.Needs.{needs}
-use Rattle.scan_stretch.proofs.Stretching.{nextable, few-sets, spent-over, through-over, at-hit, hit-triable, from-hit}
-use Rattle.scan_stretch.proofs.take_step.Statement.{statement}
-use Rattle.scan_stretch.proofs.take_step.Tie as tie
+use Rattle.scan_step.proofs.Steps.{nextable, few-sets, spent-over, through-over, at-hit, hit-triable, from-hit}
+use Rattle.scan_step.proofs.take_step.Statement.{statement}
+use Rattle.scan_step.proofs.take_step.Tie as tie
 
 sub-last : tie.Need-sub-last
 sub-last c = search needs

@@ -1,10 +1,10 @@
--- `scan_stretch::try_cut_set` meets its contract. Assumes nothing.
+-- `scan_step::try_cut_set` meets its contract. Assumes nothing.
 use native.Mathlib.Omega.{arith}
 use borrow.Author.Needs.{needs}
-use Rattle.scan_stretch.proofs.LastCut.{first-below}
-use Rattle.scan_stretch.proofs.Stretching.{findable, gains, spent-here, ends, goes-on}
-use Rattle.scan_stretch.proofs.try_cut_set.Statement.{statement}
-use Rattle.scan_stretch.proofs.try_cut_set.Tie as tie
+use Rattle.scan_step.proofs.LastCut.{first-below}
+use Rattle.scan_step.proofs.Steps.{findable, gains, spent-here, ends, goes-on}
+use Rattle.scan_step.proofs.try_cut_set.Statement.{statement}
+use Rattle.scan_step.proofs.try_cut_set.Tie as tie
 
 sub-still-allowed : tie.Need-sub-still-allowed
 sub-still-allowed c = search needs
