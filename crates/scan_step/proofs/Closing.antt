@@ -53,8 +53,8 @@ keeps-all ps route since back e = alone ps route ∙ back .is 0 (omega arith) �
 
 -- ---- blocked_now
 
-module _ {members route : List ℕ} {since : ℕ} {cuts signs visits : List ℕ} (given : BlockAsked members route cuts signs visits) where
-  pub nothing-blocked : BlockedAt members route since cuts signs visits visits 0
+module _ {members route cuts signs visits : List ℕ} (given : BlockAsked members route cuts signs visits) where
+  pub nothing-blocked : {since : ℕ} → BlockedAt members route since cuts signs visits visits 0
   nothing-blocked = record { small = omega arith; by-signs = λ h. absurd (omega arith); is = λ ps k b. (none-shut ps route cuts, k) }
 
   module _ (lent : 0 < length signs) where
@@ -64,8 +64,8 @@ module _ {members route : List ℕ} {since : ℕ} {cuts signs visits : List ℕ}
     pub closing-asked : {visits′ : List ℕ} → VisitsReached members route (last-cut cuts) visits visits′ → ClosingAsked visits′ cuts
     closing-asked w = record { places = w .places; stops = length route; cut-set = given .cut-set }
 
-    pub rows-blocked : since ≡ 0 → {visits′ : List ℕ} {r : ℕ} → VisitsReached members route (last-cut cuts) visits visits′ → ClosedBy visits′ cuts r → BlockedAt members route since cuts signs visits visits′ r
-    rows-blocked e {visits′} {r} w k =
+    pub rows-blocked : {since : ℕ} → since ≡ 0 → {visits′ : List ℕ} {r : ℕ} → VisitsReached members route (last-cut cuts) visits visits′ → ClosedBy visits′ cuts r → BlockedAt members route since cuts signs visits visits′ r
+    rows-blocked {since} e {visits′} {r} w k =
         record { small = k .small; by-signs = λ _. lent; is = λ ps kept back. told ps kept back }
       where
         told : (ps : List (ℕ × ℕ)) → ClosingKept ps members route signs visits → BackSince ps route since → Shuts ps route cuts r × ClosingKept ps members route signs visits′
@@ -76,7 +76,7 @@ module _ {members route : List ℕ} {since : ℕ} {cuts signs visits : List ℕ}
 
 -- ---- a closed row does not improve the route
 
-module _ {T : Trip} {since : ℕ} {r : List ℕ} (back : BackSince (pairs-of (T .pairs)) r since) where
+module _ (T : Trip) {since : ℕ} {r : List ℕ} (back : BackSince (pairs-of (T .pairs)) r since) where
   -- A candidate whose middle breaks a pair.
   broken-idle : (cs : List ℕ) (list : List Pattern) (k x : ℕ) → CutSet (length cs) (length r) cs → ForK (length cs) (getD list x no-pattern .order) (getD list x no-pattern .mask) →
       pairs-kept (pairs-of (T .pairs)) (middle r cs (getD list x no-pattern .order) (getD list x no-pattern .mask)) ≡ false → improves (search-of (problem T) list k (length r)) r (move-at list cs x) ≡ false
@@ -114,4 +114,4 @@ open-findable {T} {members} {r} {forwards} {backwards} {stayed} {cuts} {rows} {s
     here list w x h k e =
         let g = f .searchable .cut-set in
         ap (λ cs. improves (search-of (problem T) list (length cuts) (length r)) r (move-at list cs x)) (cuts-parted cuts (omega (arith, g .least)))
-        ∙ shut-idle (f .back) s g list w x h k e (last-cut cuts) (omega arith) (first-below r cuts g .1)
+        ∙ shut-idle T (f .back) s g list w x h k e (last-cut cuts) (omega arith) (first-below r cuts g .1)

@@ -22,7 +22,7 @@ use Rattle.costs.specs.RouteCosts.{first-cuts, last-cut}
 use Rattle.scan_shared.specs.Prepared.{Cut, RowsFit}
 use Rattle.scan_shared.specs.Filling.{open-by, PreparedNow}
 use Rattle.scan_shared.proofs.Preparing.{first-of-cuts, last-of-cuts, zero-at, row-prepared, row-alone}
-use Rattle.scan_bound.specs.Tests.{Nextable}
+use Rattle.scan_bound.specs.Tests.{Nextable, NextPromising}
 use Rattle.deadline_dues.specs.Dues.{DuesHeld}
 use Rattle.precedence.specs.Words.{PairsLent, Readable}
 use Rattle.precedence_marks.specs.Held.{MarksKept}
@@ -43,8 +43,8 @@ decBool false = inr refl
 pub last-stored : (l : List ℕ) (v : ℕ) → 1 ≤ length l → set l (length l - 1) v ≡ first-cuts l ++ (v ∷ [])
 last-stored l v h = ap (λ z. set z (length l - 1) v) (cuts-parted l h) ∙ set-at (first-cuts l) (last-cut l) [] v (length l - 1) (first-many l)
 
-hit-stored : {cuts : List ℕ} → 2 ≤ length cuts → (hit : ℕ) → last-cut (set cuts (length cuts - 1) hit) ≡ hit
-hit-stored {cuts} h hit = ap last-cut (last-stored cuts hit (omega arith)) ∙ last-of-cuts (first-cuts cuts) hit
+hit-stored : (cuts : List ℕ) → 2 ≤ length cuts → (hit : ℕ) → last-cut (set cuts (length cuts - 1) hit) ≡ hit
+hit-stored cuts h hit = ap last-cut (last-stored cuts hit (omega arith)) ∙ last-of-cuts (first-cuts cuts) hit
 
 -- ---- what is known of the cut set at hand
 
@@ -172,7 +172,7 @@ module _ {T : Trip} {members rows : List ℕ} {patterns : ℕ} {signs : List ℕ
       closed-idle t x h l i e =
           ap (λ pre. improves (search-of (problem T) ps (length first) (length r)) r (move-at ps (pre ++ (t ∷ [])) x)) (sym (going .same))
           ∙ ap (λ n. improves (search-of (problem T) ps n (length r)) r (move-at ps (first-cuts cuts ++ (t ∷ [])) x)) (sym (going .many))
-          ∙ shut-idle (given .triable .hopeful .back) (given .triable .shutting) (going .cut-set) ps (rw (going .many) (list .patterned)) x i (omega (arith, i, list .many)) e t h (omega (arith, l, next .most))
+          ∙ shut-idle T (given .triable .hopeful .back) (given .triable .shutting) (going .cut-set) ps (rw (going .many) (list .patterned)) x i (omega (arith, i, list .many)) e t h (omega (arith, l, next .most))
 
       -- A row that is open, by the least costs.
       open-idle : (t x : ℕ) → last-cut cuts ≤ t → t < hit → x < length ps → some ≡ true → open-by signs blocked x ≡ true → improves-at (problem T) ps r first t x ≡ false
@@ -264,45 +264,45 @@ module _ {T : Trip} {members rows : List ℕ} {patterns : ℕ} {signs : List ℕ
           pub from-hit : (answer : Step) (cuts′ table′ dues′ words′ : List ℕ) →
               StepTo T ps members r first left (last-cut (set cuts (length cuts - 1) hit)) answer cuts′ table′ dues′ words′ → StepTo T ps members r first left (last-cut cuts) answer cuts′ table′ dues′ words′
           from-hit (Done answer) cuts′ table′ dues′ words′ w = w
-          from-hit (On reached) cuts′ table′ dues′ words′ w = (w .0, omega (arith, w .1, hit-stored (given .triable .hopeful .searchable .cut-set .least) hit, next .least))
-          from-hit (Closed reached closed) cuts′ table′ dues′ words′ w = (w .0, omega (arith, w .1, hit-stored (given .triable .hopeful .searchable .cut-set .least) hit, next .least))
+          from-hit (On reached) cuts′ table′ dues′ words′ w = (w .0, omega (arith, w .1, hit-stored cuts (given .triable .hopeful .searchable .cut-set .least) hit, next .least))
+          from-hit (Closed reached closed) cuts′ table′ dues′ words′ w = (w .0, omega (arith, w .1, hit-stored cuts (given .triable .hopeful .searchable .cut-set .least) hit, next .least))
 
           -- Or rows are closed here that were open.
           pub closes : (l : hit ≤ length r) (closed : ℕ) → StepTo T ps members r first left (last-cut cuts) (Closed (examined + over) closed) (set cuts (length cuts - 1) hit) table dues words
-          closes l closed = (at-hit l, omega (arith, hit-stored (given .triable .hopeful .searchable .cut-set .least) hit, next .least))
+          closes l closed = (at-hit l, omega (arith, hit-stored cuts (given .triable .hopeful .searchable .cut-set .least) hit, next .least))
 
     -- The cut set at a hit.
     module _ (l : hit ≤ length r) where
-      abbrev here : List ℕ
-      here = set cuts (length cuts - 1) hit
+      abbrev hand : List ℕ
+      hand = set cuts (length cuts - 1) hit
 
       own : CutSet (length cuts) (length r) cuts
       own = given .triable .hopeful .searchable .cut-set
 
-      here-is : here ≡ first-cuts cuts ++ (hit ∷ [])
+      here-is : hand ≡ first-cuts cuts ++ (hit ∷ [])
       here-is = last-stored cuts hit (omega (arith, own .least))
 
-      here-cut : CutSet (length here) (length r) here
+      here-cut : CutSet (length hand) (length r) hand
       here-cut = rw here-is (at-cut r cuts own hit (next .least) l)
 
-      here-shut : Shutting T rows patterns r here signs blocked
+      here-shut : Shutting T rows patterns r hand signs blocked
       here-shut =
-          shut-on here (ap length here-is ∙ long r cuts own hit) (ap first-cuts here-is ∙ first-of-cuts (first-cuts cuts) hit) (omega (arith, hit-stored (own .least) hit, next .least)) (given .triable .shutting)
+          shut-on hand (ap length here-is ∙ long r cuts own hit) (ap first-cuts here-is ∙ first-of-cuts (first-cuts cuts) hit) (omega (arith, hit-stored cuts (own .least) hit, next .least)) (given .triable .shutting)
 
       words-read : ClosingKept (pairs-of (T .pairs)) members r signs visits → 0 < length signs → Readable members r × (length visits ≡ 1027) × (getD visits 1026 0 ≤ length r)
       words-read (inl n) h = absurd (omega (arith, n, h))
       words-read (inr m) h =
-          (record { places = m .1; short = own .short; known = given .triable .hopeful .searchable .timed .known }, m .3 .places, m .3 .reach)
+          (record { places = m .1; short = own .short; known = λ i k. let m = given .triable .hopeful .searchable .timed .measurable in omega (arith, m .stops .known i k, m .table .few) }, m .3 .places, m .3 .reach)
 
-      pub block-asked : BlockAsked members r here signs visits
+      pub block-asked : BlockAsked members r hand signs visits
       block-asked =
           record { cut-set = here-cut; readable = λ h. words-read (given .kept) h .0; visit-places = λ h. words-read (given .kept) h .1; reach = λ h. words-read (given .kept) h .2 }
 
-      module _ {visits′ : List ℕ} {closed : ℕ} (now : BlockedAt members r since here signs visits visits′ closed) where
+      module _ {visits′ : List ℕ} {closed : ℕ} (now : BlockedAt members r since hand signs visits visits′ closed) where
         pub kept-then : ClosingKept (pairs-of (T .pairs)) members r signs visits′
         kept-then = now .is (pairs-of (T .pairs)) (given .kept) (given .triable .hopeful .back) .1
 
-        pub shut-more : blocked < closed → (blocked < closed) × Shutting T rows patterns r here signs closed
+        pub shut-more : blocked < closed → (blocked < closed) × Shutting T rows patterns r hand signs closed
         shut-more h = (
           h,
           record { small = now .small; signed = λ b. given .signed (now .by-signs b); shut = now .is (pairs-of (T .pairs)) (given .kept) (given .triable .hopeful .back) .0 },
@@ -329,10 +329,21 @@ hit-triable {T} {members} {rows} {patterns} {signs} {blocked} {some} {r} {forwar
     record { hopeful = t .hopeful; held = t .held; behind = t .behind; marks = t .marks; marks-behind = t .marks-behind; shutting = t .shutting; within = omega (arith, room, w .within) }
 
 -- A cut set that is tried tells of no closed rows.
-pub shut-tried : {T : Trip} {rows : List ℕ} {patterns : ℕ} {r signs : List ℕ} {blocked : ℕ} (answer : Step) (cuts : List ℕ) → NotClosed answer → ShutBy T rows patterns r signs blocked answer cuts
-shut-tried (Done answer) cuts n = refl
-shut-tried (On examined) cuts n = refl
-shut-tried (Closed examined closed) cuts n = absurd n
+pub shut-tried : (T : Trip) (rows : List ℕ) (patterns : ℕ) (r signs : List ℕ) (blocked : ℕ) (answer : Step) (cuts : List ℕ) → NotClosed answer → ShutBy T rows patterns r signs blocked answer cuts
+shut-tried T rows patterns r signs blocked (Done answer) cuts n = refl
+shut-tried T rows patterns r signs blocked (On examined) cuts n = refl
+shut-tried T rows patterns r signs blocked (Closed examined closed) cuts n = absurd n
+
+-- ---- where a last cut may hold a gain
+
+module _ {locations : ℕ} {legs : List ℕ} {depot end : ℕ} {r cuts entries exits inside low : List ℕ} where
+  -- None where no row is open.
+  pub no-hit : {some : Bool} {forwards backwards zero : List ℕ} → Nextable locations legs depot end r forwards backwards cuts entries exits inside low zero → some ≡ false →
+      NextHit locations legs depot end r cuts entries exits inside low some (length r + 1)
+  no-hit w e = record { least = omega (arith, first-below r cuts (w .cut .cut-set) .1); most = omega arith; idle = λ t. absurd (true≢false (sym t ∙ e)) }
+
+  pub hit-next : {some : Bool} {hit : ℕ} → NextPromising locations legs depot end r cuts entries exits inside low hit → NextHit locations legs depot end r cuts entries exits inside low some hit
+  hit-next w = record { least = w .least; most = w .most; idle = λ _. w .idle }
 
 -- ---- at a last cut that is promising
 

@@ -255,24 +255,24 @@ fn next_hit(
     requires { ⌜ Nextable locations (now legs) depot end (now route) (now forward) (now backward) (now cuts) (now entries) (now exits) (now inside) (now low) (now zero) ⌝ }
     ensures { λ r. ⌜ NextHit locations (now (legs .entry)) depot end (now (route .entry)) (now (cuts .entry)) (now (entries .entry)) (now (exits .entry)) (now (inside .entry)) (now (low .entry)) some r ⌝ }
 {
-    if !some {
-        return route.len() + 1;
+    if some {
+        return scan_bound::next_promising(
+            locations,
+            legs,
+            depot,
+            end,
+            route,
+            forward,
+            backward,
+            cuts,
+            entries,
+            exits,
+            inside,
+            low,
+            zero,
+        );
     }
-    scan_bound::next_promising(
-        locations,
-        legs,
-        depot,
-        end,
-        route,
-        forward,
-        backward,
-        cuts,
-        entries,
-        exits,
-        inside,
-        low,
-        zero,
-    )
+    route.len() + 1
 }
 
 // Over the last cuts that can hold no gain to the first that is promising, which is tried, unless rows are closed there that were open: then their least costs are of no use any more.
