@@ -1,1 +1,4 @@
-mod Stub
+pub mod Signs
+pub mod Broken
+pub mod Further
+pub mod Closed

@@ -3,7 +3,7 @@ use mathlib.Core.Path.{_≡_}
 use mathlib.Core.Bool.{Bool, true, false, cond, not, _&&_, _||_}
 use mathlib.Core.Logic.{_⊎_}
 use mathlib.Core.List.{List, [], _∷_, _++_}
-use Prim.Native.Nat.{ℕ, _+_, _-_, _*_, _/_, _≤_, _<_}
+use Prim.Native.Nat.{ℕ, _+_, _*_, _/_, _≤_, _<_}
 use lib.Bits.{bitAnd}
 use lib.Dec.{eqb}
 use lib.ListN.{length, getD}
@@ -95,4 +95,4 @@ pub record EventClosed (visits cuts : List ℕ) (a b bit r : ℕ) : Type 0 where
 
 -- The event behind (a, b), in their order.
 pub record EventNext (a b a′ b′ : ℕ) : Type 0 where
-  pub is : (a ≡ b) × (a′ ≡ 0) × (b′ ≡ b + 1) ⊎ (a < b) × (a′ ≡ a + 1) × (b′ ≡ b)
+  pub is : ((a ≡ b) × (a′ ≡ 0) × (b′ ≡ b + 1)) ⊎ ((a < b) × (a′ ≡ a + 1) × (b′ ≡ b))

@@ -2,16 +2,16 @@
 use mathlib.Core.Path.{_≡_, refl, sym, ap, _∙_}
 use mathlib.Core.Bool.{Bool, true, false, cond, not, _&&_, _||_, false≢true}
 use mathlib.Core.List.{List, [], _∷_, _++_}
-use Prim.Native.Nat.{ℕ, zero, suc, _+_, _*_, _≤_, _<_}
+use Prim.Native.Nat.{ℕ, _+_, _*_, _≤_}
 use native.Mathlib.Omega.{arith}
 use lib.Bits.{bitAnd, bitOr}
-use lib.ListN.{length, getD, take, drop, take-append-drop}
+use lib.ListN.{getD, take, drop, take-append-drop}
 use lib.Seq.{slice, take-take}
 use Rattle.theory.specs.Pairs.{visited, all}
 use Rattle.precedence.specs.Words.{marks}
 use Rattle.precedence.proofs.Words.{marks-or, marks-and, all-true}
 use Rattle.precedence.proofs.Kept.{visited-append}
-use Rattle.precedence_visits.specs.Visits.{Visits, Crosses}
+use Rattle.precedence_visits.specs.Visits.{Crosses}
 
 -- ---- tests over a list of pairs
 

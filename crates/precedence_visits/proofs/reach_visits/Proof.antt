@@ -1,9 +1,9 @@
 -- `precedence_visits::reach_visits` meets its contract. The invariant: the words up to here are known, and those of here at hand. Assumes nothing.
 use mathlib.Core.Path.{_≡_, sym, _∙_}
 use mathlib.Core.List.{List}
-use Prim.Native.Nat.{ℕ, _+_, _-_, _*_, _≤_, _<_}
+use Prim.Native.Nat.{ℕ, _-_, _≤_, _<_}
 use native.Mathlib.Omega.{arith}
-use lib.ListN.{length, getD, set, length-set}
+use lib.ListN.{length, length-set}
 use lib.Seq.{getD-set-same}
 use Rattle.precedence.specs.Words.{Members}
 use Rattle.precedence_visits.specs.Visits.{Visits}

@@ -1,5 +1,4 @@
 -- `precedence_visits::visited_between` meets its contract. Assumes nothing.
-use mathlib.Core.Path.{_≡_}
 use borrow.Author.Needs.{needs}
 use borrow.Author.Tests.{not-true, eqb-false}
 use Rattle.precedence_visits.proofs.Between.{crosses}
