@@ -8,7 +8,7 @@ use lib.ListN.{length, getD}
 use Rattle.theory.specs.Tables.{Trip}
 use Rattle.costs.proofs.Segments.{last-cut}
 use Rattle.scan_joints.specs.States.{standing-row}
-use Rattle.scan_joints.specs.JointTable.{chain, JointOf}
+use Rattle.scan_joints.specs.JointTable.{chain, Joinable, Standing, JointOf}
 use Rattle.deadline_dues.specs.Parts.{HeadClock}
 use Rattle.deadline_dues.specs.Dues.{DuesReachable, StatesTimed}
 use Rattle.deadline_dues.proofs.Held.{reached-held, reached-dues}
@@ -27,6 +27,9 @@ module _ {T : Trip} {members r forwards backwards stayed cs rows late : List ℕ
       let k = given .searchable .cut-set in
       record { not-empty = omega (arith, k .least); within = omega (arith, last-cut cs r k, k .short, given .latenesses .places); places = given .latenesses .places }
 
+  pub joinable : Joinable (T .tables .locations) (T .tables .legs) (T .depot) (T .end) r forwards backwards cs J
+  joinable = let g = given .searchable in record { measurable = g .timed .measurable; forwards = g .forwards; backwards = g .backwards; cut-set = g .cut-set; padded = given .padded }
+
   pub dues-reachable : DuesReachable (T .tables) r backwards stayed cs D
   dues-reachable = let g = given .searchable in record { read = dues-read g; cut-set = g .cut-set; held = given .held; behind = given .behind }
 
@@ -44,6 +47,9 @@ module _ {T : Trip} {members r forwards backwards stayed cs rows late : List ℕ
 
   -- Once the joint table is filled: the rows can be looked at.
   module _ {J′ : List ℕ} (joined : JointOf (T .tables .locations) (T .tables .legs) (T .depot) (T .end) r cs J′) where
+    pub standing-read : Standing J′ (length cs)
+    standing-read = let k = given .searchable .cut-set in record { padded = joined .padded; least = k .least; most = k .most }
+
     pub all-chains : Chains J′ rows 0 limit
     all-chains = chains (tabled (given .searchable) (given .patterned) (given .allowed) joined) 0 (omega arith)
 

@@ -400,7 +400,7 @@ pub fn first_open_gain(
         dues,
         &mut stays,
     );
-    let left = deadline_dues::head_clock(locations, legs, depot, route, forward, stayed, cuts);
+    let leaving = deadline_dues::head_clock(locations, legs, depot, route, forward, stayed, cuts);
     first_open_due(
         joint,
         rows,
@@ -410,7 +410,7 @@ pub fn first_open_gain(
         dues,
         held,
         last,
-        left,
+        leaving,
         below,
         ordered,
         limit,
