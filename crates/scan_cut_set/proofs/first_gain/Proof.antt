@@ -10,13 +10,13 @@ use Rattle.scan_cut_set.proofs.first_gain.Statement.{statement}
 use Rattle.scan_cut_set.proofs.first_gain.Tie as tie
 
 sub-if1 : tie.Need-sub-if1
-sub-if1 c = search needs
+sub-if1 c = omega (arith, c .before .before .before .before .before .before .before .pre .searchable .cut-set .least)
 
 mul-if1 : tie.Need-mul-if1
 mul-if1 c = search needs
 
 shared-slice-read-if1 : tie.Need-shared-slice-read-if1
-shared-slice-read-if1 c = search needs
+shared-slice-read-if1 c = omega (arith, c .before .before .before .before .before .before .before .before .pre .searchable .cut-set .least)
 
 returns : tie.Need-returns
 returns c = found-no-tail (c .before .before .before .before .before .before .before .before .before .pre) (c .if1 .taken)
@@ -31,7 +31,7 @@ late-behind-requires : tie.Need-late-behind-requires
 late-behind-requires c κs = lateness-read (c .before .before .before .before .before .before .before .before .before .before .before .before .before .pre)
 
 threshold-requires : tie.Need-threshold-requires
-threshold-requires c κs = search needs
+threshold-requires c κs = tt
 
 next-shorter-requires : tie.Need-next-shorter-requires
 next-shorter-requires c κs = all-chains (c .before .before .before .before .before .before .before .before .before .before .before .before .before .before .before .before .pre) (c .before .before .before .before .before .fill-joint .ensures)

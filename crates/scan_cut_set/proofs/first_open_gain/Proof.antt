@@ -9,13 +9,13 @@ use Rattle.scan_cut_set.proofs.first_open_gain.Statement.{statement}
 use Rattle.scan_cut_set.proofs.first_open_gain.Tie as tie
 
 sub-last : tie.Need-sub-last
-sub-last c = search needs
+sub-last c = omega (arith, c .before .before .before .before .before .before .before .before .pre .findable .searchable .cut-set .least)
 
 mul-if1 : tie.Need-mul-if1
 mul-if1 c = search needs
 
 shared-slice-read-if1 : tie.Need-shared-slice-read-if1
-shared-slice-read-if1 c = search needs
+shared-slice-read-if1 c = omega (arith, c .before .before .before .before .before .before .before .before .before .pre .findable .searchable .cut-set .least)
 
 returns : tie.Need-returns
 returns c = found-no-tail (c .before .before .before .before .before .before .before .before .before .before .pre .findable) (c .if1 .taken)
@@ -30,7 +30,7 @@ late-behind-requires : tie.Need-late-behind-requires
 late-behind-requires c κs = lateness-read (c .before .before .before .before .before .before .before .before .before .before .before .before .before .before .pre .findable)
 
 threshold-requires : tie.Need-threshold-requires
-threshold-requires c κs = search needs
+threshold-requires c κs = tt
 
 next-open-requires : tie.Need-next-open-requires
 next-open-requires c κs = record { chains = all-chains (c .before .before .before .before .before .before .before .before .before .before .before .before .before .before .before .before .before .pre .findable) (c .before .before .before .before .before .fill-joint .ensures); sign-places = c .before .before .before .before .before .before .before .before .before .before .before .before .before .before .before .before .before .pre .sign-places }
