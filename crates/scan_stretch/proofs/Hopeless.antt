@@ -54,17 +54,20 @@ module _ {T : Trip} {members rows : List ℕ} {patterns : ℕ} {signs r forwards
   pub scannable : getD cuts 0 0 < heads → Scannable T members rows patterns signs r forwards backwards stayed late since cuts table shared visits
   scannable l =
       let h = within-longest (given .head .left) l in
-      record { lent = given .closing; hopeful = record {
-        searchable = given .searchable;
-        list = given .list;
-        listed = given .listed;
-        padded = given .padded;
-        early = head-on-time (clock-by (T .tables)) (T .depot) r (given .head .punctual) (given .head .timed) (getD cuts 0 0) (omega (arith, h));
-        latenesses = given .latenesses;
-        lent = given .lent;
-        front = given .head .front .is (getD cuts 0 0) (cut-below cuts r own 0 (omega (arith, own .least))) ∙ le-leb (getD cuts 0 0) (given .head .reach) (omega (arith, h));
-        back = given .back;
-      } }
+      record {
+        lent = given .closing;
+        hopeful = record {
+          searchable = given .searchable;
+          list = given .list;
+          listed = given .listed;
+          padded = given .padded;
+          early = head-on-time (clock-by (T .tables)) (T .depot) r (given .head .punctual) (given .head .timed) (getD cuts 0 0) (omega (arith, h));
+          latenesses = given .latenesses;
+          lent = given .lent;
+          front = given .head .front .is (getD cuts 0 0) (cut-below cuts r own 0 (omega (arith, own .least))) ∙ le-leb (getD cuts 0 0) (given .head .reach) (omega (arith, h));
+          back = given .back;
+        };
+      }
 
   module _ (l : heads ≤ getD cuts 0 0) where
     pub none : (ps : List Pattern) → Listed (length cuts) patterns rows ps → (t x : ℕ) → last-cut cuts ≤ t → t ≤ length r → x < length ps → improves-at (problem T) ps r cuts t x ≡ false

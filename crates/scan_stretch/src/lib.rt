@@ -171,7 +171,15 @@ fn scan_last_cuts(
             Step::Closed(reached, closed) => {
                 examined = reached;
                 blocked = closed;
-                some = scan_shared::lower_again(rows, patterns, p, shared, signs, blocked, &mut low);
+                some = scan_shared::lower_again(
+                    rows,
+                    patterns,
+                    p,
+                    shared,
+                    signs,
+                    blocked,
+                    &mut low,
+                );
             }
         }
     }
