@@ -23,6 +23,9 @@ scan-last-cuts-requires c κs = scannable (c .before .before .before .before .be
 same-length-2 : tie.Need-same-length-2
 same-length-2 c = search needs
 
+same-length-3 : tie.Need-same-length-3
+same-length-3 c = search needs
+
 returns-2 : tie.Need-returns-2
 returns-2 c = search needs
 
@@ -36,4 +39,5 @@ scan-stretch-spec =
     returns
     scan-last-cuts-requires
     same-length-2
+    same-length-3
     returns-2)
