@@ -1,12 +1,12 @@
 -- The steps of the loops over the rows: those that are open and cost less, of them those that keep their pairs, and of these those that are left in time. Assumes nothing.
 use mathlib.Core.Path.{_≡_, refl, sym, ap, _∙_}
-use mathlib.Core.Bool.{Bool, true, false, _&&_, and-false, false≢true}
+use mathlib.Core.Bool.{Bool, true, false, _&&_, and-false}
 use mathlib.Core.List.{List}
 use Prim.Native.Nat.{ℕ, _+_, _*_, _≤_, _<_}
 use native.Mathlib.Omega.{arith}
 use native.Mathlib.Decide.{decLt}
 use borrow.Author.Count.{below-more}
-use borrow.Author.Tests.{lt-ltb, le-ltb, ltb-true, ltb-false}
+use borrow.Author.Tests.{lt-ltb, le-ltb}
 use lib.Dec.{ltb}
 use lib.Seq.{slice}
 use Rattle.scan_joints.specs.States.{row}
@@ -24,15 +24,6 @@ pub between : (a b c : Bool) → (a && c) ≡ false → ((a && b) && c) ≡ fals
 between true true c e = e
 between true false c e = refl
 between false b c e = refl
-
--- A test of two that is passed: the second holds; and one that is not, where the first holds: the second does not.
-pub open-shorter : (a : Bool) (cost standing : ℕ) → (a && ltb cost standing) ≡ true → cost < standing
-open-shorter true cost standing e = ltb-true cost standing e
-open-shorter false cost standing e = absurd (false≢true e)
-
-pub open-longer : (a : Bool) (cost standing : ℕ) → (a && ltb cost standing) ≡ false → a ≡ true → standing ≤ cost
-open-longer true cost standing e o = ltb-false cost standing e
-open-longer false cost standing e o = absurd (false≢true o)
 
 -- ---- the loop over the rows that cost less
 

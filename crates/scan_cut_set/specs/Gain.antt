@@ -22,7 +22,7 @@ use Rattle.deadline_dues.specs.Parts.{head}
 use Rattle.deadline_dues.specs.Dues.{in-time, DuesHeld, RowTimed}
 use Rattle.precedence.specs.Words.{PairsLent, BackSince}
 use Rattle.precedence_marks.specs.Held.{in-order, MarksKept}
-use Rattle.scan_joints.specs.JointTable.{chain, Chainable, Padded, JointOf}
+use Rattle.scan_joints.specs.JointTable.{chain, Padded, JointOf}
 
 -- What the step reads: tables, the route with its running sums and its stays, and k cuts of it.
 pub record Searchable (T : Trip) (route forward-sums backward-sums stayed cuts : List ℕ) : Type 0 where
@@ -76,12 +76,6 @@ abbrev pub Closed : Trip → (route cuts rows : List ℕ) → ℕ → (ℕ → B
 Closed T route cuts rows limit is-open =
     (ps : List Pattern) → Patterned (length cuts) ps rows → limit ≤ length ps → (x : ℕ) → x < limit → is-open x ≡ false → improves (search-of (problem T) ps (length cuts) (length route)) route (move-at ps cuts x) ≡ false
 
--- With what is known of the rows: a number for each, and what of its bits is blocked.
-pub record OpenFindable (T : Trip) (members route forward-sums backward-sums stayed cuts rows signs : List ℕ) (blocked : ℕ) (late : List ℕ) (since : ℕ) (table dues words : List ℕ) (limit : ℕ) : Type 0 where
-  pub findable : Findable T members route forward-sums backward-sums stayed cuts rows late since table dues words limit
-  pub sign-places : length signs ≡ 383
-  pub closed : Closed T route cuts rows limit (open-row signs blocked)
-
 -- The answer, of whichever patterns the rows are, with what is then held.
 pub record Found (T : Trip) (members route cuts rows : List ℕ) (limit i : ℕ) (table dues words : List ℕ) : Type 0 where
   pub within : i ≤ limit
@@ -101,16 +95,6 @@ pub record Chains (table rows : List ℕ) (from limit : ℕ) : Type 0 where
   pub few : limit ≤ 383
   pub within : from ≤ limit
   pub known : (c : ℕ) → c < 4 * limit → getD rows c 0 ≤ 8
-
--- A row of states whose chain can be added up, and its signs.
-pub record OpenRow (table rows signs : List ℕ) (i : ℕ) : Type 0 where
-  pub chained : Chainable table rows i
-  pub signed : i < length signs
-
--- Such rows, each with its signs.
-pub record OpenChains (table rows signs : List ℕ) (from limit : ℕ) : Type 0 where
-  pub chains : Chains table rows from limit
-  pub sign-places : length signs ≡ 383
 
 -- The first row from `from` on whose chain is below `standing`, or `limit` where none is; those that are not open are passed in any case.
 pub record NextShorter (is-open : ℕ → Bool) (table rows : List ℕ) (standing from limit i : ℕ) : Type 0 where
@@ -151,11 +135,6 @@ pub record OrderRows (is-open : ℕ → Bool) (table rows words : List ℕ) (m b
   pub states : (i : ℕ) → i < limit → (c : ℕ) → 4 * i ≤ c → c < 4 * i + m → getD rows c 0 < 8
   pub first : NextShorter is-open table rows below 0 limit shorter
 
--- With the signs of the rows.
-pub record OpenOrderRows (table rows signs : List ℕ) (blocked : ℕ) (words : List ℕ) (m below shorter limit : ℕ) : Type 0 where
-  pub rows-of : OrderRows (open-row signs blocked) table rows words m below shorter limit
-  pub sign-places : length signs ≡ 383
-
 -- No open row before this one costs less and keeps every pair; and this one costs less, unless it is `limit`.
 pub record FirstOrdered (is-open : ℕ → Bool) (table rows words : List ℕ) (m below limit i : ℕ) : Type 0 where
   pub within : i ≤ limit
@@ -173,11 +152,6 @@ pub record DueRows (is-open : ℕ → Bool) (table rows stays dues words : List 
   pub states : (i : ℕ) → i < limit → (c : ℕ) → 4 * i ≤ c → c < 4 * i + m → getD rows c 0 < 8
   pub early : clock ≤ 2 ^ 40
   pub first : FirstOrdered is-open table rows words m below limit start
-
--- With the signs of the rows.
-pub record OpenDueRows (table rows signs : List ℕ) (blocked : ℕ) (stays dues words : List ℕ) (m clock below start limit : ℕ) : Type 0 where
-  pub rows-of : DueRows (open-row signs blocked) table rows stays dues words m clock below start limit
-  pub sign-places : length signs ≡ 383
 
 -- The first such row, or `limit` where none is.
 pub record FirstDue (is-open : ℕ → Bool) (table rows stays dues words : List ℕ) (m clock below limit i : ℕ) : Type 0 where

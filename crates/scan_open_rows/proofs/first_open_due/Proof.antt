@@ -1,11 +1,11 @@
--- `scan_cut_set::first_open_due` meets its contract. The invariant: no open row passed is shorter and kept, and the one at i is shorter. Assumes nothing.
+-- `scan_open_rows::first_open_due` meets its contract. The invariant: no open row passed is shorter and kept, and the one at i is shorter. Assumes nothing.
 use mathlib.Core.Path.{sym, _∙_}
 use Prim.Native.Nat.{_+_, _-_}
 use native.Mathlib.Omega.{arith}
 use Rattle.scan_cut_set.specs.Gain.{open-row}
 use Rattle.scan_cut_set.proofs.FirstDue.{DueSoFar, chains-from, row-judged, due-first, due-broken, due-found, due-not-found}
-use Rattle.scan_cut_set.proofs.first_open_due.Statement.{statement}
-use Rattle.scan_cut_set.proofs.first_open_due.Tie as tie
+use Rattle.scan_open_rows.proofs.first_open_due.Statement.{statement}
+use Rattle.scan_open_rows.proofs.first_open_due.Tie as tie
 
 abbrev Inv-loop : tie.InvT-loop
 Inv-loop joint rows signs blocked stays dues held m clock below start limit i₀ i = DueSoFar (open-row signs blocked) joint rows stays dues held m clock below limit i

@@ -1,12 +1,13 @@
--- `scan_cut_set::next_open` meets its contract. The invariant: no open row passed is shorter. Assumes nothing.
+-- `scan_open_rows::next_open` meets its contract. The invariant: no open row passed is shorter. Assumes nothing.
 use mathlib.Core.Path.{sym, _∙_}
 use Prim.Native.Nat.{_-_}
 use native.Mathlib.Omega.{arith}
 use borrow.Author.Needs.{needs}
 use Rattle.scan_cut_set.specs.Gain.{open-row}
-use Rattle.scan_cut_set.proofs.FirstDue.{Longer, chainable, open-shorter, open-longer, longer-none, longer-more, longer-found, longer-not-found}
-use Rattle.scan_cut_set.proofs.next_open.Statement.{statement}
-use Rattle.scan_cut_set.proofs.next_open.Tie as tie
+use Rattle.scan_cut_set.proofs.FirstDue.{Longer, chainable, longer-none, longer-more, longer-found, longer-not-found}
+use Rattle.scan_open_rows.proofs.Shorter.{open-shorter, open-longer}
+use Rattle.scan_open_rows.proofs.next_open.Statement.{statement}
+use Rattle.scan_open_rows.proofs.next_open.Tie as tie
 
 abbrev Inv-loop : tie.InvT-loop
 Inv-loop joint rows signs blocked standing from limit i₀ i = Longer (open-row signs blocked) joint rows standing from limit i

@@ -1,12 +1,12 @@
--- `scan_cut_set::first_open_gain` meets its contract, by the laws of `first_gain`: a row that is passed is closed, or costs too much, breaks a pair or is late. Assumes nothing.
+-- `scan_open_rows::first_open_gain` meets its contract, by the laws of `first_gain` of crate scan_cut_set: a row that is passed is closed, or costs too much, breaks a pair or is late. Assumes nothing.
 use mathlib.Core.Path.{refl}
 use native.Mathlib.Omega.{arith}
 use borrow.Author.Needs.{needs}
 use Rattle.deadline_dues.proofs.Filling.{no-stays}
 use Rattle.scan_cut_set.proofs.Gain.{head-timed, tellable}
 use Rattle.scan_cut_set.proofs.Found.{lateness-read, joinable, dues-reachable, standing-read, all-chains, all-ordered, all-due, found-no-tail, found-none-below, found-none-ordered, found-due}
-use Rattle.scan_cut_set.proofs.first_open_gain.Statement.{statement}
-use Rattle.scan_cut_set.proofs.first_open_gain.Tie as tie
+use Rattle.scan_open_rows.proofs.first_open_gain.Statement.{statement}
+use Rattle.scan_open_rows.proofs.first_open_gain.Tie as tie
 
 sub-last : tie.Need-sub-last
 sub-last c = omega (arith, c .before .before .before .before .before .before .before .before .pre .findable .searchable .cut-set .least)

@@ -1,11 +1,11 @@
--- `scan_cut_set::first_open_ordered` meets its contract. The invariant: no open row passed is shorter and keeps every pair, and the one at i is shorter. Assumes nothing.
+-- `scan_open_rows::first_open_ordered` meets its contract. The invariant: no open row passed is shorter and keeps every pair, and the one at i is shorter. Assumes nothing.
 use mathlib.Core.Path.{sym, _∙_}
 use Prim.Native.Nat.{_+_, _-_}
 use native.Mathlib.Omega.{arith}
 use Rattle.scan_cut_set.specs.Gain.{open-row, FirstOrdered}
 use Rattle.scan_cut_set.proofs.FirstDue.{order-chains, order-row, order-first, order-broken}
-use Rattle.scan_cut_set.proofs.first_open_ordered.Statement.{statement}
-use Rattle.scan_cut_set.proofs.first_open_ordered.Tie as tie
+use Rattle.scan_open_rows.proofs.first_open_ordered.Statement.{statement}
+use Rattle.scan_open_rows.proofs.first_open_ordered.Tie as tie
 
 abbrev Inv-loop : tie.InvT-loop
 Inv-loop joint rows signs blocked held m below shorter limit i₀ i = FirstOrdered (open-row signs blocked) joint rows held m below limit i

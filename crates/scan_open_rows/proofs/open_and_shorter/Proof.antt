@@ -1,12 +1,12 @@
--- `scan_cut_set::open_and_shorter` meets its contract. Assumes nothing.
+-- `scan_open_rows::open_and_shorter` meets its contract. Assumes nothing.
 use mathlib.Core.Path.{_≡_, sym, ap, _∙_}
 use mathlib.Core.Bool.{Bool, false, _&&_}
 use Prim.Native.Nat.{ℕ}
 use lib.Dec.{ltb, eqb}
 use borrow.Author.Needs.{needs}
 use borrow.Author.Tests.{eq-eqb, ne-eqb}
-use Rattle.scan_cut_set.proofs.open_and_shorter.Statement.{statement}
-use Rattle.scan_cut_set.proofs.open_and_shorter.Tie as tie
+use Rattle.scan_open_rows.proofs.open_and_shorter.Statement.{statement}
+use Rattle.scan_open_rows.proofs.open_and_shorter.Tie as tie
 
 closed-told : (common : ℕ) (b : Bool) → (common ≡ 0 → ⊥) → false ≡ (eqb common 0 && b)
 closed-told common b n = sym (ap (λ z. z && b) (ne-eqb common 0 n))
