@@ -26,7 +26,8 @@ use Rattle.precedence.proofs.Words.{all-same}
 use Rattle.precedence_visits.specs.Visits.{VisitsAsked, VisitsReached}
 use Rattle.precedence_closing.specs.Closing.{sign, Signed, Shuts, ClosingAsked, ClosedBy}
 use Rattle.scan_cut_set.proofs.Kept.{candidate-kept}
-use Rattle.scan_cut_set.specs.Gain.{Findable, OpenFindable}
+use Rattle.scan_cut_set.specs.Gain.{Findable}
+use Rattle.scan_open_rows.specs.OpenRows.{OpenFindable}
 use Rattle.scan_step.specs.Stepping.{Listed, ClosingKept, Shutting, BlockAsked, BlockedAt, improves-at}
 use Rattle.scan_step.proofs.LastCut.{first-below, long, at-cut}
 

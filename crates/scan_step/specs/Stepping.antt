@@ -23,7 +23,8 @@ use Rattle.precedence.specs.Words.{Members, PairsLent, Readable, BackSince}
 use Rattle.precedence_visits.specs.Visits.{Visits}
 use Rattle.precedence_closing.specs.Closing.{Signed, Shuts}
 use Rattle.precedence_marks.specs.Held.{MarksKept}
-use Rattle.scan_cut_set.specs.Gain.{Searchable, Findable, OpenFindable}
+use Rattle.scan_cut_set.specs.Gain.{Searchable, Findable}
+use Rattle.scan_open_rows.specs.OpenRows.{OpenFindable}
 use Rattle.scan_step.specs.declared.Stretch.{Stretch}
 use Rattle.scan_step.specs.declared.Step.{Step}
 use Rattle.scan_step.specs.declared.Step.the-variants.{Done, On, Closed}

@@ -133,7 +133,7 @@ fn try_gain(
             limit,
         );
     }
-    scan_cut_set::first_open_gain(
+    scan_open_rows::first_open_gain(
         locations,
         legs,
         latest,
