@@ -27,6 +27,10 @@ pub record VisitsReached (members route : List ℕ) (to : ℕ) (visits visits′
   pub places : length visits′ ≡ 1027
   pub is : (ps : List (ℕ × ℕ)) → Members ps members → Visits ps route visits → Visits ps route visits′ × (to ≤ getD visits′ 1026 0)
 
+-- Of whichever route the visits are to be.
+pub record VisitsForgotten (visits visits′ : List ℕ) : Type 0 where
+  pub is : (ps : List (ℕ × ℕ)) (route route′ : List ℕ) → Visits ps route visits → Visits ps route′ visits′
+
 -- Two parts of a route.
 pub record BetweenAsked (visits : List ℕ) (a b c d : ℕ) : Type 0 where
   pub places : length visits ≡ 1027

@@ -1,6 +1,6 @@
 // The pairs of which a member is visited before each position of a route, as words, found as far as asked: by them it is told of two parts of the route whether
 // some pair goes from one to the other. No entry: for the inner search.
-ghost use Rattle.precedence_visits.specs.Visits.{VisitsAsked, VisitsReached, BetweenAsked, Between};
+ghost use Rattle.precedence_visits.specs.Visits.{VisitsAsked, VisitsReached, VisitsForgotten, BetweenAsked, Between};
 
 // At 2 * i the pairs whose first is visited before position i, at 2 * i + 1 those whose second is; behind them the last position of which they are known.
 pub const VISIT_REACH: usize = 1026;
@@ -34,4 +34,14 @@ pub fn visited_between(visits: &[u64], a: usize, b: usize, c: usize, d: usize) -
     let out = visits[2 * a] | visits[2 * c + 1];
     let both = visits[2 * b] & visits[2 * d + 1];
     (both | out) != out
+}
+
+// Another route is at hand: none of its visits is found yet.
+pub fn forget_visits(visits: &mut [u64])
+    ensures { λ _. ⌜ VisitsForgotten (now (visits .entry)) (now (visits .exit)) ⌝ }
+{
+    if visits.len() < VISIT_PLACES {
+        return;
+    }
+    visits[VISIT_REACH] = 0;
 }
