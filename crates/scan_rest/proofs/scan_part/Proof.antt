@@ -69,7 +69,7 @@ same-length-6 c = search needs
 returns-2 : tie.Need-returns-2
 returns-2 c =
     let later : 0 < c .before .before .before .before .before .before .before .before .before .before .before .before .before .before .before .before .before .before .before .before .before .before .before .before .before .before .before .before .before .before .before .before .before .args .index = omega (arith, c .before .if1 .left) in
-    (rw (put-back (c .before .before .before .before .before .before .before .before .before .before .before .before .before .before .before .before .before .before .before .before .before .before .before .before .before .before .before .before .before .before .before .before .before .pre) (c .before .before .before .before .before .before .before .before .before .before .before .before .before .before .before .before .before .before .before .before .keep-rows .ensures .from) (c .before .before .before .before .before .before .before .before .before .before .before .before .before .before .part-allowed .ensures) (c .before .before .before .before .before .before .scan-stretch .ensures) later (c .before .before .before .before .before .before .scan-stretch .kept .1 .1 .1 .1 .1 .1 .1 .1 .1 .1 .1 .1 .1 .1 .1 .1 .1 .1 .0)) (rest (c .before .before .before .before .before .before .before .before .before .before .before .before .before .before .before .before .before .before .before .before .before .before .before .before .before .before .before .before .before .before .before .before .before .pre) (c .before .before .before .before .before .before .before .before .before .before .before .before .before .before .before .before .before .before .before .before .keep-rows .ensures .from) (c .before .before .before .before .before .before .before .before .before .before .before .before .before .before .part-allowed .ensures) (c .before .before .before .before .before .before .scan-stretch .ensures) later (c .rest-end .ensures)),left-so (c .before .before .before .before .before .before .before .before .before .before .before .before .before .before .before .before .before .before .before .before .before .before .before .before .before .before .before .before .before .before .before .before .before .pre) (c .before .before .before .before .before .before .before .before .before .before .before .before .before .before .before .before .before .before .before .before .keep-rows .ensures) (c .before .before .before .before .before .before .before .before .before .before .before .before .before .before .before .before .before .keep-signs .kept .1 .1 .1 .1 .0) (c .before .before .before .before .before .before .before .before .before .before .before .before .before .before .before .before .before .keep-signs .ensures) (c .before .before .before .before .before .before .scan-stretch .ensures))
+    (rw (put-back (c .before .before .before .before .before .before .before .before .before .before .before .before .before .before .before .before .before .before .before .before .before .before .before .before .before .before .before .before .before .before .before .before .before .pre) (c .before .before .before .before .before .before .before .before .before .before .before .before .before .before .before .before .before .before .before .before .keep-rows .ensures .from) (c .before .before .before .before .before .before .before .before .before .before .before .before .before .before .part-allowed .ensures) (c .before .before .before .before .before .before .scan-stretch .ensures) later (c .before .before .before .before .before .before .scan-stretch .kept .1 .1 .1 .1 .1 .1 .1 .1 .1 .1 .1 .1 .1 .1 .1 .1 .1 .1 .0)) (rest (c .before .before .before .before .before .before .before .before .before .before .before .before .before .before .before .before .before .before .before .before .before .before .before .before .before .before .before .before .before .before .before .before .before .pre) (c .before .before .before .before .before .before .before .before .before .before .before .before .before .before .before .before .before .before .before .before .keep-rows .ensures .from) (c .before .before .before .before .before .before .before .before .before .before .before .before .before .before .part-allowed .ensures) (c .before .before .before .before .before .before .scan-stretch .ensures) later (c .rest-end .ensures)), left-so (c .before .before .before .before .before .before .before .before .before .before .before .before .before .before .before .before .before .before .before .before .before .before .before .before .before .before .before .before .before .before .before .before .before .pre) (c .before .before .before .before .before .before .before .before .before .before .before .before .before .before .before .before .before .before .before .before .keep-rows .ensures) (c .before .before .before .before .before .before .before .before .before .before .before .before .before .before .before .before .before .keep-signs .kept .1 .1 .1 .1 .0) (c .before .before .before .before .before .before .before .before .before .before .before .before .before .before .before .before .before .keep-signs .ensures) (c .before .before .before .before .before .before .scan-stretch .ensures))
 
 pub scan-part-spec : {M : Type 1} → statement M
 scan-part-spec =
