@@ -130,6 +130,33 @@ module _ {T : Trip} {r cs rows J : List ℕ} {ps : List Pattern} {limit : ℕ}
             ∙ and-false (in-pairs && in-time-all)
             ∙ sym (ap (λ b. (middle-kept i && middle-on-time i) && b) (le-ltb (cost i) (below standing late) (omega arith)) ∙ and-false (middle-kept i && middle-on-time i))
 
+    -- Where no pattern costs so little, none improves.
+    pub none-below : (limit′ b : ℕ) → limit′ ≡ limit → b ≡ below standing late → NextShorter J rows b 0 limit limit′ → FirstGain P ps (length cs) r cs limit limit
+    none-below limit′ b e is next =
+        record {
+          within = omega arith;
+          passed = λ x h.
+              gain-is x (omega (arith, given .allowed))
+              ∙ ap (λ t. (middle-kept x && middle-on-time x) && t) (le-ltb (cost x) (below standing late) (omega (arith, is, next .passed x (omega arith) (omega arith))))
+              ∙ and-false (middle-kept x && middle-on-time x);
+          gains = λ m. absurd (omega arith);
+        }
+
+    -- With the words of the states alone: where no pattern costs so little and keeps its pairs, none improves.
+    pub none-ordered : (H : List ℕ) → SegmentsMarked (P .pairs) cs r (length cs - 1) H → (i b : ℕ) → i ≡ limit → b ≡ below standing late → FirstOrdered J rows H (length cs - 1) b limit i → FirstGain P ps (length cs) r cs limit limit
+    none-ordered H words i b e is first =
+        record {
+          within = omega arith;
+          passed = λ x h.
+              let k : x < length ps = omega (arith, given .allowed) in
+              gain-is x k
+              ∙ between (middle-kept x) (middle-on-time x) (short x) (
+              ap (λ t. t && short x) (sym (row-in-order (P .pairs) cs r (given .cut-set) H words (pattern x .order) rows (pattern x .mask) x (given .patterned .for-k x k) (given .patterned .each x k)))
+              ∙ ap (λ n. in-order H 0 (slice (4 * x) (4 * x + (length cs - 1)) rows) && ltb (cost x) n) (sym is)
+              ∙ first .passed x (omega (arith, e)));
+          gains = λ m. absurd (omega arith);
+        }
+
     -- With the dues and the words of the states.
     module _ (S D H : List ℕ) (stays : StaysOf (T .tables .service) cs r S) (dues : DuesOf C cs r D) (words : SegmentsMarked (P .pairs) cs r (length cs - 1) H) where
       gain-due : (i : ℕ) → i < limit → gain i ≡ due-gain J rows S D H (length cs - 1) now (below standing late) i
@@ -142,50 +169,13 @@ module _ {T : Trip} {r cs rows J : List ℕ} {ps : List Pattern} {limit : ℕ}
           ∙ ap (λ b. (in-order H 0 (slice (4 * i) (4 * i + (length cs - 1)) rows) && b) && short i)
           (sym (row-kept (T .tables) cs r J S D (given .cut-set) (given .joined) stays dues (pattern i .order) rows (pattern i .mask) i now f w))
 
-    -- A row that is not open does not improve.
-    module _ (is-open : ℕ → Bool) (closed : (x : ℕ) → x < limit → is-open x ≡ false → gain x ≡ false) where
-      either : (x : ℕ) → x < limit → (is-open x ≡ true → gain x ≡ false) → gain x ≡ false
-      either x h opened = by (is-open x) refl
-        where
-          by : (b : Bool) → is-open x ≡ b → gain x ≡ false
-          by true e = opened e
-          by false e = closed x h e
-
-      -- Where no pattern costs so little, none improves.
-      pub none-below : (limit′ b : ℕ) → limit′ ≡ limit → b ≡ below standing late → NextShorter is-open J rows b 0 limit limit′ → FirstGain P ps (length cs) r cs limit limit
-      none-below limit′ b e is next =
-          record {
-            within = omega arith;
-            passed = λ x h. either x h (λ o.
-                gain-is x (omega (arith, given .allowed))
-                ∙ ap (λ t. (middle-kept x && middle-on-time x) && t) (le-ltb (cost x) (below standing late) (omega (arith, is, next .passed x (omega arith) (omega arith) o)))
-                ∙ and-false (middle-kept x && middle-on-time x));
-            gains = λ m. absurd (omega arith);
-          }
-
-      -- With the words of the states alone: where no pattern costs so little and keeps its pairs, none improves.
-      pub none-ordered : (H : List ℕ) → SegmentsMarked (P .pairs) cs r (length cs - 1) H → (i b : ℕ) → i ≡ limit → b ≡ below standing late → FirstOrdered is-open J rows H (length cs - 1) b limit i → FirstGain P ps (length cs) r cs limit limit
-      none-ordered H words i b e is first =
-          record {
-            within = omega arith;
-            passed = λ x h. either x h (λ o.
-                let k : x < length ps = omega (arith, given .allowed) in
-                gain-is x k
-                ∙ between (middle-kept x) (middle-on-time x) (short x) (
-                ap (λ t. t && short x) (sym (row-in-order (P .pairs) cs r (given .cut-set) H words (pattern x .order) rows (pattern x .mask) x (given .patterned .for-k x k) (given .patterned .each x k)))
-                ∙ ap (λ n. in-order H 0 (slice (4 * x) (4 * x + (length cs - 1)) rows) && ltb (cost x) n) (sym is)
-                ∙ first .passed x (omega (arith, e)) o));
-            gains = λ m. absurd (omega arith);
-          }
-
-      pub first-due-gain : (S D H : List ℕ) → StaysOf (T .tables .service) cs r S → DuesOf C cs r D → SegmentsMarked (P .pairs) cs r (length cs - 1) H →
-          (b i : ℕ) → b ≡ below standing late → FirstDue is-open J rows S D H (length cs - 1) now b limit i → FirstGain P ps (length cs) r cs limit i
-      first-due-gain S D H stays dues words b i e f =
-          let d : FirstDue is-open J rows S D H (length cs - 1) now (below standing late) limit i = rw e at f in
+      pub first-due-gain : (b i : ℕ) → b ≡ below standing late → FirstDue J rows S D H (length cs - 1) now b limit i → FirstGain P ps (length cs) r cs limit i
+      first-due-gain b i e f =
+          let d : FirstDue J rows S D H (length cs - 1) now (below standing late) limit i = rw e at f in
           record {
             within = d .within;
-            passed = λ x h. let l : x < limit = omega (arith, d .within) in either x l (λ o. gain-due S D H stays dues words x l ∙ d .passed x h o);
-            gains = λ h. gain-due S D H stays dues words i h ∙ d .gains h;
+            passed = λ x h. gain-due x (omega (arith, d .within)) ∙ d .passed x h;
+            gains = λ h. gain-due i h ∙ d .gains h;
           }
 
   states-known : (i : ℕ) → i < limit → (c : ℕ) → 4 * i ≤ c → c < 4 * i + (length cs - 1) → getD rows c 0 < 8
@@ -194,11 +184,11 @@ module _ {T : Trip} {r cs rows J : List ℕ} {ps : List Pattern} {limit : ℕ}
       row-known (length cs) (pattern i .order) rows (pattern i .mask) i (given .cut-set .least) (given .cut-set .most) (given .patterned .for-k i k) (given .patterned .each i k) c l m
 
   -- The rows can be judged by the words, and by all.
-  pub order-rows : {is-open : ℕ → Bool} (H : List ℕ) → length H ≡ 17 → (b shorter : ℕ) → NextShorter is-open J rows b 0 limit shorter → OrderRows is-open J rows H (length cs - 1) b shorter limit
+  pub order-rows : (H : List ℕ) → length H ≡ 17 → (b shorter : ℕ) → NextShorter J rows b 0 limit shorter → OrderRows J rows H (length cs - 1) b shorter limit
   order-rows H word-places b shorter next =
       record { chains = chains 0 (omega arith); most = omega (arith, given .cut-set .most); word-places = word-places; states = states-known; first = next }
 
-  pub due-rows : {is-open : ℕ → Bool} (S D H : List ℕ) → StaysOf (T .tables .service) cs r S → length D ≡ 9 → length H ≡ 17 → (b start : ℕ) → now ≤ 2 ^ 40 → FirstOrdered is-open J rows H (length cs - 1) b limit start → DueRows is-open J rows S D H (length cs - 1) now b start limit
+  pub due-rows : (S D H : List ℕ) → StaysOf (T .tables .service) cs r S → length D ≡ 9 → length H ≡ 17 → (b start : ℕ) → now ≤ 2 ^ 40 → FirstOrdered J rows H (length cs - 1) b limit start → DueRows J rows S D H (length cs - 1) now b start limit
   due-rows S D H stays places word-places b start e next =
       record {
         chains = chains 0 (omega arith);

@@ -1,4 +1,3 @@
 pub mod Kept
 pub mod Gain
 pub mod FirstDue
-pub mod Found

@@ -3,8 +3,7 @@ use mathlib.Core.Path.{_≡_}
 use mathlib.Core.Bool.{Bool, true, false, _&&_}
 use mathlib.Core.List.{List}
 use Prim.Native.Nat.{ℕ, _+_, _-_, _*_, _^_, _≤_, _<_}
-use lib.Bits.{bitAnd}
-use lib.Dec.{ltb, eqb}
+use lib.Dec.{ltb}
 use lib.Seq.{slice}
 use lib.ListN.{length, getD, take, drop}
 use Rattle.theory.specs.Moves.{Pattern}
@@ -63,19 +62,6 @@ pub record Findable (T : Trip) (members route forward-sums backward-sums stayed 
   pub marks-behind : getD words 16 0 ≤ getD cuts (length cuts - 1) 0
   pub padded : Padded table
 
--- Where every row is looked at.
-abbrev pub every : ℕ → Bool
-every x = true
-
--- Row x is open: its signs have no bit in common with those that are blocked.
-abbrev pub open-row : List ℕ → ℕ → ℕ → Bool
-open-row signs blocked x = eqb (bitAnd (getD signs x 0) blocked) 0
-
--- Of the first `limit` rows those that are not open do not improve the route.
-abbrev pub Closed : Trip → (route cuts rows : List ℕ) → ℕ → (ℕ → Bool) → Type 0
-Closed T route cuts rows limit is-open =
-    (ps : List Pattern) → Patterned (length cuts) ps rows → limit ≤ length ps → (x : ℕ) → x < limit → is-open x ≡ false → improves (search-of (problem T) ps (length cuts) (length route)) route (move-at ps cuts x) ≡ false
-
 -- The answer, of whichever patterns the rows are, with what is then held.
 pub record Found (T : Trip) (members route cuts rows : List ℕ) (limit i : ℕ) (table dues words : List ℕ) : Type 0 where
   pub within : i ≤ limit
@@ -96,11 +82,11 @@ pub record Chains (table rows : List ℕ) (from limit : ℕ) : Type 0 where
   pub within : from ≤ limit
   pub known : (c : ℕ) → c < 4 * limit → getD rows c 0 ≤ 8
 
--- The first row from `from` on whose chain is below `standing`, or `limit` where none is; those that are not open are passed in any case.
-pub record NextShorter (is-open : ℕ → Bool) (table rows : List ℕ) (standing from limit i : ℕ) : Type 0 where
+-- The first row from `from` on whose chain is below `standing`, or `limit` where none is.
+pub record NextShorter (table rows : List ℕ) (standing from limit i : ℕ) : Type 0 where
   pub least : from ≤ i
   pub most : i ≤ limit
-  pub passed : (x : ℕ) → from ≤ x → x < i → is-open x ≡ true → standing ≤ chain table 9 (row rows x)
+  pub passed : (x : ℕ) → from ≤ x → x < i → standing ≤ chain table 9 (row rows x)
   pub shorter : i < limit → chain table 9 (row rows i) < standing
 
 -- The step once the joint table is filled, for patterns that are rows of states.
@@ -128,21 +114,21 @@ pub record RowJudged (table rows stays dues words : List ℕ) (i m clock : ℕ) 
   pub word-places : length words ≡ 17
 
 -- Rows of states, the joint table and the words of the states, and the first row that costs less.
-pub record OrderRows (is-open : ℕ → Bool) (table rows words : List ℕ) (m below shorter limit : ℕ) : Type 0 where
+pub record OrderRows (table rows words : List ℕ) (m below shorter limit : ℕ) : Type 0 where
   pub chains : Chains table rows 0 limit
   pub most : m ≤ 4
   pub word-places : length words ≡ 17
   pub states : (i : ℕ) → i < limit → (c : ℕ) → 4 * i ≤ c → c < 4 * i + m → getD rows c 0 < 8
-  pub first : NextShorter is-open table rows below 0 limit shorter
+  pub first : NextShorter table rows below 0 limit shorter
 
--- No open row before this one costs less and keeps every pair; and this one costs less, unless it is `limit`.
-pub record FirstOrdered (is-open : ℕ → Bool) (table rows words : List ℕ) (m below limit i : ℕ) : Type 0 where
+-- No row before this one costs less and keeps every pair; and this one costs less, unless it is `limit`.
+pub record FirstOrdered (table rows words : List ℕ) (m below limit i : ℕ) : Type 0 where
   pub within : i ≤ limit
-  pub passed : (x : ℕ) → x < i → is-open x ≡ true → (in-order words 0 (slice (4 * x) (4 * x + m) rows) && ltb (chain table 9 (row rows x)) below) ≡ false
+  pub passed : (x : ℕ) → x < i → (in-order words 0 (slice (4 * x) (4 * x + m) rows) && ltb (chain table 9 (row rows x)) below) ≡ false
   pub shorter : i < limit → chain table 9 (row rows i) < below
 
 -- Rows of states, the joint table, the service, the dues and the words of the states, when the head is left, and a row before which none costs less and keeps every pair.
-pub record DueRows (is-open : ℕ → Bool) (table rows stays dues words : List ℕ) (m clock below start limit : ℕ) : Type 0 where
+pub record DueRows (table rows stays dues words : List ℕ) (m clock below start limit : ℕ) : Type 0 where
   pub chains : Chains table rows 0 limit
   pub most : m ≤ 4
   pub due-places : length dues ≡ 9
@@ -151,10 +137,10 @@ pub record DueRows (is-open : ℕ → Bool) (table rows stays dues words : List 
   pub brief : (s : ℕ) → getD stays s 0 ≤ 512 * 1000000
   pub states : (i : ℕ) → i < limit → (c : ℕ) → 4 * i ≤ c → c < 4 * i + m → getD rows c 0 < 8
   pub early : clock ≤ 2 ^ 40
-  pub first : FirstOrdered is-open table rows words m below limit start
+  pub first : FirstOrdered table rows words m below limit start
 
 -- The first such row, or `limit` where none is.
-pub record FirstDue (is-open : ℕ → Bool) (table rows stays dues words : List ℕ) (m clock below limit i : ℕ) : Type 0 where
+pub record FirstDue (table rows stays dues words : List ℕ) (m clock below limit i : ℕ) : Type 0 where
   pub within : i ≤ limit
-  pub passed : (x : ℕ) → x < i → is-open x ≡ true → due-gain table rows stays dues words m clock below x ≡ false
+  pub passed : (x : ℕ) → x < i → due-gain table rows stays dues words m clock below x ≡ false
   pub gains : i < limit → due-gain table rows stays dues words m clock below i ≡ true

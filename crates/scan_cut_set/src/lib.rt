@@ -15,7 +15,7 @@ ghost use lib.Seq.{slice};
 ghost use Rattle.theory.specs.Tables.{trip};
 ghost use Rattle.deadline_dues.specs.Dues.{in-time};
 ghost use Rattle.precedence_marks.specs.Held.{in-order};
-ghost use Rattle.scan_cut_set.specs.Gain.{below, every, LateBehind, Findable, Found, Chains, NextShorter, RowJudged, DueRows, FirstDue, OrderRows, FirstOrdered};
+ghost use Rattle.scan_cut_set.specs.Gain.{below, LateBehind, Findable, Found, Chains, NextShorter, RowJudged, DueRows, FirstDue, OrderRows, FirstOrdered};
 
 // The first pattern from `from` on that costs less than `standing`, or `limit`.
 fn next_shorter(
@@ -26,7 +26,7 @@ fn next_shorter(
     limit: usize,
 ) -> usize
     requires { ⌜ Chains (now joint) (now rows) from limit ⌝ }
-    ensures { λ r. ⌜ NextShorter every (now (joint .entry)) (now (rows .entry)) standing from limit r ⌝ }
+    ensures { λ r. ⌜ NextShorter (now (joint .entry)) (now (rows .entry)) standing from limit r ⌝ }
 {
     let mut i = from;
     while i < limit {
@@ -39,7 +39,7 @@ fn next_shorter(
 }
 
 // Whether row i is left in time, and then whether it keeps every pair.
-pub fn row_kept(
+fn row_kept(
     joint: &[u64; CELLS],
     rows: &[u8; ROW_BYTES],
     stays: &[u64; DUE_PLACES],
@@ -72,8 +72,8 @@ fn first_due(
     start: usize,
     limit: usize,
 ) -> usize
-    requires { ⌜ DueRows every (now joint) (now rows) (now stays) (now dues) (now held) m clock below start limit ⌝ }
-    ensures { λ r. ⌜ FirstDue every (now (joint .entry)) (now (rows .entry)) (now (stays .entry)) (now (dues .entry)) (now (held .entry)) m clock below limit r ⌝ }
+    requires { ⌜ DueRows (now joint) (now rows) (now stays) (now dues) (now held) m clock below start limit ⌝ }
+    ensures { λ r. ⌜ FirstDue (now (joint .entry)) (now (rows .entry)) (now (stays .entry)) (now (dues .entry)) (now (held .entry)) m clock below limit r ⌝ }
 {
     let mut i = start;
     while i < limit {
@@ -96,8 +96,8 @@ fn first_ordered(
     shorter: usize,
     limit: usize,
 ) -> usize
-    requires { ⌜ OrderRows every (now joint) (now rows) (now held) m below shorter limit ⌝ }
-    ensures { λ r. ⌜ FirstOrdered every (now (joint .entry)) (now (rows .entry)) (now (held .entry)) m below limit r ⌝ }
+    requires { ⌜ OrderRows (now joint) (now rows) (now held) m below shorter limit ⌝ }
+    ensures { λ r. ⌜ FirstOrdered (now (joint .entry)) (now (rows .entry)) (now (held .entry)) m below limit r ⌝ }
 {
     if !paired {
         return shorter;
@@ -113,7 +113,7 @@ fn first_ordered(
 }
 
 // What a candidate must cost less than: what stands, and so much less that the tail is on time.
-pub fn threshold(standing: u64, late: u64) -> u64
+fn threshold(standing: u64, late: u64) -> u64
     ensures { λ r. ⌜ r ≡ below standing late ⌝ }
 {
     if late <= 1 {
@@ -127,7 +127,7 @@ pub fn threshold(standing: u64, late: u64) -> u64
 }
 
 // By how much a stop behind the last cut is late at most.
-pub fn late_behind(lateness: &[u64; CUT_PLACES], cuts: &[usize]) -> u64
+fn late_behind(lateness: &[u64; CUT_PLACES], cuts: &[usize]) -> u64
     requires { ⌜ LateBehind (now lateness) (now cuts) ⌝ }
     ensures { λ r. ⌜ r ≡ getD (now (lateness .entry)) (getD (now (cuts .entry)) (length (now (cuts .entry)) - 1) 0) 0 ⌝ }
 {

@@ -17,7 +17,6 @@ use Rattle.theory.specs.Scan.{improves}
 use Rattle.theory.specs.Polish.{search-of, move-at}
 use Rattle.theory.specs.Tables.{problem, timetable-by, CutSet, ForK, Trip}
 use Rattle.costs.specs.RouteCosts.{first-cuts, last-cut}
-use Rattle.costs.proofs.Segments.{cuts-parted}
 use Rattle.scan_joints.specs.States.{row, states, no-pattern, Patterned}
 use Rattle.scan_shared.specs.Filling.{open-by}
 use Rattle.deadline_dues.specs.Parts.{middle}
@@ -26,8 +25,6 @@ use Rattle.precedence.proofs.Words.{all-same}
 use Rattle.precedence_visits.specs.Visits.{VisitsAsked, VisitsReached}
 use Rattle.precedence_closing.specs.Closing.{sign, Signed, Shuts, ClosingAsked, ClosedBy}
 use Rattle.scan_cut_set.proofs.Kept.{candidate-kept}
-use Rattle.scan_cut_set.specs.Gain.{Findable}
-use Rattle.scan_open_rows.specs.OpenRows.{OpenFindable}
 use Rattle.scan_step.specs.Stepping.{Listed, ClosingKept, Shutting, BlockAsked, BlockedAt, improves-at}
 use Rattle.scan_step.proofs.LastCut.{first-below, long, at-cut}
 
@@ -102,17 +99,3 @@ module _ (T : Trip) {since : ℕ} {r : List ℕ} (back : BackSince (pairs-of (T 
         let p = getD list x no-pattern in
         broken-idle (first-cuts cuts ++ (t ∷ [])) list (length cuts) x (at-cut r cuts cut-set t h l) (rw (long r cuts cut-set t) (patterned .for-k x listed))
         (shutting .shut (p .order) (p .mask) t (patterned .for-k x listed) h l same-sign)
-
--- The rows that are not looked at where some are closed.
-pub open-findable : {T : Trip} {members r forwards backwards stayed cuts rows signs : List ℕ} {patterns blocked : ℕ} {late : List ℕ} {since : ℕ} {table dues words : List ℕ} {limit : ℕ} →
-    Findable T members r forwards backwards stayed cuts rows late since table dues words limit → limit ≤ patterns → Shutting T rows patterns r cuts signs blocked → 0 < blocked →
-    OpenFindable T members r forwards backwards stayed cuts rows signs blocked late since table dues words limit
-open-findable {T} {members} {r} {forwards} {backwards} {stayed} {cuts} {rows} {signs} {patterns} {blocked} {late} {since} {table} {dues} {words} {limit} f few s b =
-    record { findable = f; sign-places = s .signed b .places; closed = λ list w l x h e. here list w x (omega arith) (omega arith) e }
-  where
-    here : (list : List Pattern) → Patterned (length cuts) list rows → (x : ℕ) → x < length list → x < patterns → open-by signs blocked x ≡ false →
-        improves (search-of (problem T) list (length cuts) (length r)) r (move-at list cuts x) ≡ false
-    here list w x h k e =
-        let g = f .searchable .cut-set in
-        ap (λ cs. improves (search-of (problem T) list (length cuts) (length r)) r (move-at list cs x)) (cuts-parted cuts (omega (arith, g .least)))
-        ∙ shut-idle T (f .back) s g list w x h k e (last-cut cuts) (omega arith) (first-below r cuts g .1)

@@ -29,9 +29,9 @@ use Rattle.precedence_marks.specs.Held.{MarksKept}
 use Rattle.scan_cut_set.specs.Gain.{FirstGain, Findable, Found}
 use Rattle.scan_step.specs.declared.Step.{Step}
 use Rattle.scan_step.specs.declared.Step.the-variants.{Done, On, Closed}
-use Rattle.scan_step.specs.Stepping.{Listed, Hopeful, Ended, GainAt, Going, StepTo, NotClosed, ClosingKept, Shutting, ShutBy, BlockAsked, BlockedAt, GainAsked, NextHit, Triable, Steppable, idle-end, improves-at}
+use Rattle.scan_step.specs.Stepping.{Listed, Hopeful, Ended, GainAt, Going, StepTo, NotClosed, ClosingKept, Shutting, ShutBy, BlockAsked, BlockedAt, NextHit, Triable, Steppable, idle-end, improves-at}
 use Rattle.scan_step.proofs.LastCut.{first-below, long, at-cut}
-use Rattle.scan_step.proofs.Closing.{shut-idle, open-findable}
+use Rattle.scan_step.proofs.Closing.{shut-idle}
 use Rattle.scan_step.proofs.Counting.{count-to, count-next, count-least, up-to}
 
 decBool : (b : Bool) → (b ≡ true) ⊎ (b ≡ false)
@@ -89,9 +89,9 @@ module _ {T : Trip} {ps : List Pattern} {members r first : List ℕ} {left : ℕ
           back = given .back;
         }
 
-    pub triable-on : {signs : List ℕ} {blocked : ℕ} → Shutting T rows patterns r cuts signs blocked → Triable T members rows patterns signs blocked r forwards backwards stayed late since cuts table dues words examined left
-    triable-on s =
-        record { hopeful = hopeful-on; held = rw (going .same) (going .held); behind = going .behind; marks = rw (going .same) (going .marks); marks-behind = going .marks-behind; shutting = s; within = going .within }
+    pub triable-on : Triable T members rows patterns r forwards backwards stayed late since cuts table dues words examined left
+    triable-on =
+        record { hopeful = hopeful-on; held = rw (going .same) (going .held); behind = going .behind; marks = rw (going .same) (going .marks); marks-behind = going .marks-behind; within = going .within }
 
     pub prepared-on : {is-open : ℕ → Bool} {entries exits inside low : List ℕ} → PreparedNow (T .tables .locations) (T .tables .legs) (T .depot) r first rows patterns is-open entries exits inside low →
         PreparedNow (T .tables .locations) (T .tables .legs) (T .depot) r cuts rows patterns is-open entries exits inside low
@@ -172,7 +172,7 @@ module _ {T : Trip} {members rows : List ℕ} {patterns : ℕ} {signs : List ℕ
       closed-idle t x h l i e =
           ap (λ pre. improves (search-of (problem T) ps (length first) (length r)) r (move-at ps (pre ++ (t ∷ [])) x)) (sym (going .same))
           ∙ ap (λ n. improves (search-of (problem T) ps n (length r)) r (move-at ps (first-cuts cuts ++ (t ∷ [])) x)) (sym (going .many))
-          ∙ shut-idle T (given .triable .hopeful .back) (given .triable .shutting) (going .cut-set) ps (rw (going .many) (list .patterned)) x i (omega (arith, i, list .many)) e t h (omega (arith, l, next .most))
+          ∙ shut-idle T (given .triable .hopeful .back) (given .shutting) (going .cut-set) ps (rw (going .many) (list .patterned)) x i (omega (arith, i, list .many)) e t h (omega (arith, l, next .most))
 
       -- A row that is open, by the least costs.
       open-idle : (t x : ℕ) → last-cut cuts ≤ t → t < hit → x < length ps → some ≡ true → open-by signs blocked x ≡ true → improves-at (problem T) ps r first t x ≡ false
@@ -287,7 +287,7 @@ module _ {T : Trip} {members rows : List ℕ} {patterns : ℕ} {signs : List ℕ
 
       here-shut : Shutting T rows patterns r hand signs blocked
       here-shut =
-          shut-on hand (ap length here-is ∙ long r cuts own hit) (ap first-cuts here-is ∙ first-of-cuts (first-cuts cuts) hit) (omega (arith, hit-stored cuts (own .least) hit, next .least)) (given .triable .shutting)
+          shut-on hand (ap length here-is ∙ long r cuts own hit) (ap first-cuts here-is ∙ first-of-cuts (first-cuts cuts) hit) (omega (arith, hit-stored cuts (own .least) hit, next .least)) (given .shutting)
 
       words-read : ClosingKept (pairs-of (T .pairs)) members r signs visits → 0 < length signs → Readable members r × (length visits ≡ 1027) × (getD visits 1026 0 ≤ length r)
       words-read (inl n) h = absurd (omega (arith, n, h))
@@ -311,22 +311,23 @@ module _ {T : Trip} {members rows : List ℕ} {patterns : ℕ} {signs : List ℕ
 pub hit-triable : {T : Trip} {members rows : List ℕ} {patterns : ℕ} {signs : List ℕ} {blocked : ℕ} {some : Bool} {r forwards backwards stayed late : List ℕ} {since : ℕ} {cuts entries exits inside low zero table dues words visits : List ℕ} {examined left : ℕ} →
     Steppable T members rows patterns signs blocked some r forwards backwards stayed late since cuts entries exits inside low zero table dues words visits examined left →
     {hit : ℕ} → NextHit (T .tables .locations) (T .tables .legs) (T .depot) (T .end) r cuts entries exits inside low some hit → {over : ℕ} → over ≡ (hit - last-cut cuts) * patterns → over ≤ left - examined → hit ≤ length r →
-    Triable T members rows patterns signs blocked r forwards backwards stayed late since (set cuts (length cuts - 1) hit) table dues words (examined + over) left
+    Triable T members rows patterns r forwards backwards stayed late since (set cuts (length cuts - 1) hit) table dues words (examined + over) left
 hit-triable {T} {members} {rows} {patterns} {signs} {blocked} {some} {r} {forwards} {backwards} {stayed} {late} {since} {cuts} {entries} {exits} {inside} {low} {zero} {table} {dues} {words} {visits} given next {over} e room l =
     let w = given .triable in
     let h = w .hopeful in
     let alone : Steppable T members rows patterns signs blocked some r forwards backwards stayed late since cuts entries exits inside low zero table dues words visits 0 over =
     record {
-      triable = record { hopeful = h; held = w .held; behind = w .behind; marks = w .marks; marks-behind = w .marks-behind; shutting = w .shutting; within = omega arith };
+      triable = record { hopeful = h; held = w .held; behind = w .behind; marks = w .marks; marks-behind = w .marks-behind; within = omega arith };
       prepared = given .prepared;
       none = given .none;
+      shutting = given .shutting;
       signed = given .signed;
       kept = given .kept;
       zero-places = given .zero-places;
       zero-is = given .zero-is;
     } in
-    let t = triable-on (at-hit alone next (h .listed) (starts h (h .list) over (w .held) (w .behind) (w .marks) (w .marks-behind)) e (omega arith) l) h (here-shut given next l) in
-    record { hopeful = t .hopeful; held = t .held; behind = t .behind; marks = t .marks; marks-behind = t .marks-behind; shutting = t .shutting; within = omega (arith, room, w .within) }
+    let t = triable-on (at-hit alone next (h .listed) (starts h (h .list) over (w .held) (w .behind) (w .marks) (w .marks-behind)) e (omega arith) l) h in
+    record { hopeful = t .hopeful; held = t .held; behind = t .behind; marks = t .marks; marks-behind = t .marks-behind; within = omega (arith, room, w .within) }
 
 -- A cut set that is tried tells of no closed rows.
 pub shut-tried : (T : Trip) (rows : List ℕ) (patterns : ℕ) (r signs : List ℕ) (blocked : ℕ) (answer : Step) (cuts : List ℕ) → NotClosed answer → ShutBy T rows patterns r signs blocked answer cuts
@@ -347,9 +348,9 @@ module _ {locations : ℕ} {legs : List ℕ} {depot end : ℕ} {r cuts entries e
 
 -- ---- at a last cut that is promising
 
-module _ {T : Trip} {members rows : List ℕ} {patterns : ℕ} {signs : List ℕ} {blocked : ℕ} {r forwards backwards stayed late : List ℕ} {since : ℕ} {cuts table dues words : List ℕ} {examined left : ℕ}
-    (given : Triable T members rows patterns signs blocked r forwards backwards stayed late since cuts table dues words examined left) {limit : ℕ} (limit-is : limit ≡ min patterns (left - examined)) where
-  findable : Findable T members r forwards backwards stayed cuts rows late since table dues words limit
+module _ {T : Trip} {members rows : List ℕ} {patterns : ℕ} {r forwards backwards stayed late : List ℕ} {since : ℕ} {cuts table dues words : List ℕ} {examined left : ℕ}
+    (given : Triable T members rows patterns r forwards backwards stayed late since cuts table dues words examined left) {limit : ℕ} (limit-is : limit ≡ min patterns (left - examined)) where
+  pub findable : Findable T members r forwards backwards stayed cuts rows late since table dues words limit
   findable =
       let h = given .hopeful in
       record {
@@ -368,9 +369,6 @@ module _ {T : Trip} {members rows : List ℕ} {patterns : ℕ} {signs : List ℕ
         marks-behind = given .marks-behind;
         padded = h .padded;
       }
-
-  pub gain-asked : GainAsked T members r forwards backwards stayed cuts rows signs blocked late since table dues words limit
-  gain-asked = record { findable = findable; open-findable = open-findable findable (omega (arith, limit-is)) (given .shutting) }
 
   module _ {i : ℕ} {table′ dues′ words′ : List ℕ} (found : Found T members r cuts rows limit i table′ dues′ words′) where
     pub room-left : examined + i ≤ left

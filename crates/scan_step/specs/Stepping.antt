@@ -23,8 +23,7 @@ use Rattle.precedence.specs.Words.{Members, PairsLent, Readable, BackSince}
 use Rattle.precedence_visits.specs.Visits.{Visits}
 use Rattle.precedence_closing.specs.Closing.{Signed, Shuts}
 use Rattle.precedence_marks.specs.Held.{MarksKept}
-use Rattle.scan_cut_set.specs.Gain.{Searchable, Findable}
-use Rattle.scan_open_rows.specs.OpenRows.{OpenFindable}
+use Rattle.scan_cut_set.specs.Gain.{Searchable}
 use Rattle.scan_step.specs.declared.Stretch.{Stretch}
 use Rattle.scan_step.specs.declared.Step.{Step}
 use Rattle.scan_step.specs.declared.Step.the-variants.{Done, On, Closed}
@@ -153,19 +152,13 @@ pub record Stepped (T : Trip) (members rows : List ℕ) (patterns : ℕ) (signs 
   pub shut : ShutBy T rows patterns route signs blocked answer cuts′
   pub kept : ClosingKept (pairs-of (T .pairs)) members route signs visits′
 
--- A cut set to be searched, where something is blocked with rows that it closes.
-pub record GainAsked (T : Trip) (members route forward-sums backward-sums stayed cuts rows signs : List ℕ) (blocked : ℕ) (late : List ℕ) (since : ℕ) (table dues words : List ℕ) (limit : ℕ) : Type 0 where
-  pub findable : Findable T members route forward-sums backward-sums stayed cuts rows late since table dues words limit
-  pub open-findable : 0 < blocked → OpenFindable T members route forward-sums backward-sums stayed cuts rows signs blocked late since table dues words limit
-
 -- A cut set that can be tried, with what is held of the dues and of the words.
-pub record Triable (T : Trip) (members rows : List ℕ) (patterns : ℕ) (signs : List ℕ) (blocked : ℕ) (route forward-sums backward-sums stayed late : List ℕ) (since : ℕ) (cuts table dues words : List ℕ) (examined left : ℕ) : Type 0 where
+pub record Triable (T : Trip) (members rows : List ℕ) (patterns : ℕ) (route forward-sums backward-sums stayed late : List ℕ) (since : ℕ) (cuts table dues words : List ℕ) (examined left : ℕ) : Type 0 where
   pub hopeful : Hopeful T members rows patterns route forward-sums backward-sums stayed late since cuts table
   pub held : DuesHeld (clock-by (T .tables)) route (first-cuts cuts) dues
   pub behind : getD dues 8 0 ≤ last-cut cuts
   pub marks : MarksKept (pairs-of (T .pairs)) members route (first-cuts cuts) words
   pub marks-behind : getD words 16 0 ≤ last-cut cuts
-  pub shutting : Shutting T rows patterns route cuts signs blocked
   pub within : examined ≤ left
 
 -- The first last cut that may hold a gain: of the rows, where some are open, that the least costs are of.
@@ -177,9 +170,10 @@ pub record NextHit (locations : ℕ) (legs : List ℕ) (depot end : ℕ) (route 
 
 -- The same with what is kept of the first cuts, over the rows that are open. `zero` holds nothing.
 pub record Steppable (T : Trip) (members rows : List ℕ) (patterns : ℕ) (signs : List ℕ) (blocked : ℕ) (some : Bool) (route forward-sums backward-sums stayed late : List ℕ) (since : ℕ) (cuts entries exits inside low zero table dues words visits : List ℕ) (examined left : ℕ) : Type 0 where
-  pub triable : Triable T members rows patterns signs blocked route forward-sums backward-sums stayed late since cuts table dues words examined left
+  pub triable : Triable T members rows patterns route forward-sums backward-sums stayed late since cuts table dues words examined left
   pub prepared : PreparedNow (T .tables .locations) (T .tables .legs) (T .depot) route cuts rows patterns (open-by signs blocked) entries exits inside low
   pub none : some ≡ false → (i : ℕ) → i < patterns → open-by signs blocked i ≡ false
+  pub shutting : Shutting T rows patterns route cuts signs blocked
   pub signed : 0 < length signs → Signed rows patterns signs
   pub kept : ClosingKept (pairs-of (T .pairs)) members route signs visits
   pub zero-places : length zero ≡ 21

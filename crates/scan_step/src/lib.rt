@@ -11,8 +11,7 @@ ghost use mathlib.Core.Path.{_≡_};
 ghost use Prim.Native.Nat.{min, _*_, _≤_};
 ghost use Rattle.theory.specs.Tables.{trip};
 ghost use Rattle.scan_bound.specs.Tests.{Nextable};
-ghost use Rattle.scan_cut_set.specs.Gain.{Found};
-ghost use Rattle.scan_step.specs.Stepping.{idle-end, BlockAsked, BlockedAt, NextHit, GainAsked, Triable, Steppable, Carried, NotClosed, Stepped};
+ghost use Rattle.scan_step.specs.Stepping.{idle-end, BlockAsked, BlockedAt, NextHit, Triable, Steppable, Carried, NotClosed, Stepped};
 
 // How a stretch ended: at an improving candidate, whose pattern is told and whose cuts are at hand; or through it; or else with the candidates allowed. Those before were examined.
 pub struct Stretch {
@@ -81,84 +80,6 @@ pub fn blocked_now(
     precedence_closing::closed_signs(&visits[..], cuts)
 }
 
-// The first of the first `limit` patterns on the cut set that improves the route, or `limit`; closed rows are not looked at.
-fn try_gain(
-    locations: usize,
-    legs: &[u32],
-    latest: &[u32],
-    service: &[u32],
-    depot: u32,
-    end: u32,
-    pairs: &[u32],
-    members: &[u64],
-    route: &[u32],
-    forward: &[u64; STOPS],
-    backward: &[u64; STOPS],
-    stayed: &[u64; CUT_PLACES],
-    cuts: &[usize],
-    rows: &[u8; ROW_BYTES],
-    signs: &[u16],
-    blocked: u16,
-    lateness: &[u64; CUT_PLACES],
-    since: usize,
-    joint: &mut [u64; CELLS],
-    dues: &mut [u64; DUE_PLACES],
-    held: &mut [u64; MARK_PLACES],
-    limit: usize,
-) -> usize
-    requires { ⌜ GainAsked (trip locations (now legs) (now latest) (now service) depot end (now pairs)) (now members) (now route) (now forward) (now backward) (now stayed) (now cuts) (now rows) (now signs) blocked (now lateness) since (now joint) (now dues) (now held) limit ⌝ }
-    ensures { λ r. ⌜ Found (trip locations (now (legs .entry)) (now (latest .entry)) (now (service .entry)) depot end (now (pairs .entry))) (now (members .entry)) (now (route .entry)) (now (cuts .entry)) (now (rows .entry)) limit r (now (joint .exit)) (now (dues .exit)) (now (held .exit)) ⌝ }
-{
-    if blocked == 0 {
-        return scan_cut_set::first_gain(
-            locations,
-            legs,
-            latest,
-            service,
-            depot,
-            end,
-            pairs,
-            members,
-            route,
-            forward,
-            backward,
-            stayed,
-            cuts,
-            rows,
-            lateness,
-            since,
-            joint,
-            dues,
-            held,
-            limit,
-        );
-    }
-    scan_open_rows::first_open_gain(
-        locations,
-        legs,
-        latest,
-        service,
-        depot,
-        end,
-        pairs,
-        members,
-        route,
-        forward,
-        backward,
-        stayed,
-        cuts,
-        rows,
-        signs,
-        blocked,
-        lateness,
-        since,
-        joint,
-        dues,
-        held,
-        limit,
-    )
-}
-
 // The patterns at the last cut at hand, and with none the last cut behind it.
 fn try_cut_set(
     locations: usize,
@@ -171,8 +92,6 @@ fn try_cut_set(
     members: &[u64],
     rows: &[u8; ROW_BYTES],
     patterns: usize,
-    signs: &[u16],
-    blocked: u16,
     route: &[u32],
     forward: &[u64; STOPS],
     backward: &[u64; STOPS],
@@ -186,11 +105,11 @@ fn try_cut_set(
     examined: u64,
     left: u64,
 ) -> Step
-    requires { ⌜ Triable (trip locations (now legs) (now latest) (now service) depot end (now pairs)) (now members) (now rows) patterns (now signs) blocked (now route) (now forward) (now backward) (now stayed) (now lateness) since (now cuts) (now joint) (now dues) (now held) examined left ⌝ }
+    requires { ⌜ Triable (trip locations (now legs) (now latest) (now service) depot end (now pairs)) (now members) (now rows) patterns (now route) (now forward) (now backward) (now stayed) (now lateness) since (now cuts) (now joint) (now dues) (now held) examined left ⌝ }
     ensures { λ r. ⌜ Carried (trip locations (now (legs .entry)) (now (latest .entry)) (now (service .entry)) depot end (now (pairs .entry))) (now (members .entry)) (now (rows .entry)) patterns (now (route .entry)) (now (cuts .entry)) (now (joint .entry)) (now (dues .entry)) (now (held .entry)) examined left r (now (cuts .exit)) (now (joint .exit)) (now (dues .exit)) (now (held .exit)) × NotClosed r ⌝ }
 {
     let limit = still_allowed(patterns, left - examined);
-    let found = try_gain(
+    let found = scan_cut_set::first_gain(
         locations,
         legs,
         latest,
@@ -205,8 +124,6 @@ fn try_cut_set(
         stayed,
         &cuts[..],
         rows,
-        signs,
-        blocked,
         lateness,
         since,
         joint,
@@ -354,8 +271,6 @@ pub fn take_step(
         members,
         rows,
         patterns,
-        signs,
-        blocked,
         route,
         forward,
         backward,

@@ -108,9 +108,10 @@ module _ {T : Trip} {members rows : List ℕ} {patterns : ℕ} {signs r forwards
   pub steppable : Steppable T members rows patterns signs blocked some r forwards backwards stayed late since cuts entries exits inside low (replicate 21 0) table dues words visits examined left
   steppable =
       record {
-        triable = triable-on g (b .hopeful) (t .shutting);
+        triable = triable-on g (b .hopeful);
         prepared = prepared-on g (b .hopeful) (t .prepared);
         none = t .none;
+        shutting = t .shutting;
         signed = b .signed;
         kept = t .kept;
         zero-places = refl;

@@ -1,26 +1,30 @@
 -- `scan_cut_set::next_shorter` meets its contract. The invariant: no row passed is shorter. Assumes nothing.
-use Prim.Native.Nat.{_-_}
+use Prim.Native.Nat.{ℕ, _-_, _≤_, _<_}
 use native.Mathlib.Omega.{arith}
+use borrow.Author.Count.{below-more}
 use borrow.Author.Needs.{needs}
-use Rattle.scan_cut_set.specs.Gain.{every}
-use Rattle.scan_cut_set.proofs.FirstDue.{Longer, chainable, longer-none, longer-more, longer-found, longer-not-found}
+use Rattle.scan_joints.specs.States.{row}
+use Rattle.scan_joints.specs.JointTable.{chain}
 use Rattle.scan_cut_set.proofs.next_shorter.Statement.{statement}
 use Rattle.scan_cut_set.proofs.next_shorter.Tie as tie
 
 abbrev Inv-loop : tie.InvT-loop
-Inv-loop joint rows standing from limit i₀ i = Longer every joint rows standing from limit i
+Inv-loop joint rows standing from limit i₀ i = (from ≤ i) × (i ≤ limit) × ((x : ℕ) → from ≤ x → x < i → standing ≤ chain joint 9 (row rows x))
 
 abbrev μ-loop : tie.MeasureT-loop
 μ-loop joint rows standing from limit i₀ i = limit - i
 
 loop-holds : tie.Need-loop-holds Inv-loop μ-loop
-loop-holds c = longer-none (c .pre) every _
+loop-holds c = search needs
 
 chain4-requires : tie.Need-chain4-requires Inv-loop μ-loop
-chain4-requires c κs = chainable (c .before .before .pre) (c .before .loop .i) (c .loop-test .taken)
+chain4-requires c κs =
+    let s = c .before .before in
+    let h = c .loop-test .taken in
+    record { padded = s .pre .padded; places = s .pre .places; within = omega (arith, s .pre .few, h); known = λ x l m. s .pre .known x (omega (arith, h)) }
 
 returns : tie.Need-returns Inv-loop μ-loop
-returns c = longer-found (c .before .before .before .loop .inv) (omega (arith, c .before .chain4 .ensures, c .if1 .taken))
+returns c = search needs
 
 add-i : tie.Need-add-i Inv-loop μ-loop
 add-i c = search needs
@@ -29,10 +33,15 @@ loop-less : tie.Need-loop-less Inv-loop μ-loop
 loop-less c = search needs
 
 loop-again : tie.Need-loop-again Inv-loop μ-loop
-loop-again c = longer-more (c .before .before .before .loop .inv) (c .before .before .loop-test .taken) (λ o. omega (arith, c .before .chain4 .ensures, c .if1 .left))
+loop-again c =
+    let s = c .before .before .before .before in
+    let l = c .before .before .before .loop in
+    let now = below-more (λ x. s .args .from ≤ x → s .args .standing ≤ chain (s .args .joint .now) 9 (row (s .args .rows .now) x)) (l .i)
+    (λ x h m. l .inv .2 x m h) (λ m. omega (arith, c .before .chain4 .ensures, c .if1 .left)) in
+    (omega arith, omega (arith, c .before .before .loop-test .taken), λ x m h. now x h m)
 
 returns-2 : tie.Need-returns-2 Inv-loop μ-loop
-returns-2 c = longer-not-found (c .before .loop .inv) (c .loop-test .left)
+returns-2 c = search needs
 
 pub next-shorter-spec : {M : Type 1} → statement M
 next-shorter-spec =

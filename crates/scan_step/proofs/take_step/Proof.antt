@@ -85,7 +85,7 @@ try-cut-set-requires : tie.Need-try-cut-set-requires
 try-cut-set-requires c κs = hit-triable (c .before .before .before .before .before .before .before .before .before .before .before .before .before .before .before .before .before .before .before .before .before .before .before .before .before .pre) (c .before .before .before .before .before .before .before .before .before .before .before .before .before .before .next-hit .ensures) (c .before .before .before .before .before .before .before .before .before .before .before .before .passed-patterns .ensures) (c .before .before .before .before .before .before .before .before .before .before .before .if1 .left) (c .before .before .before .before .before .before .before .before .before .before .if2 .left)
 
 same-length-5 : tie.Need-same-length-5
-same-length-5 c = simp length-set at (c .before .before .try-cut-set .kept .1 .1 .1 .1 .1 .1 .1 .1 .1 .1 .1 .1 .1 .1 .1 .1 .1 .1 .0)
+same-length-5 c = simp length-set at (c .before .before .try-cut-set .kept .1 .1 .1 .1 .1 .1 .1 .1 .1 .1 .1 .1 .1 .1 .1 .1 .0)
 
 same-length-6 : tie.Need-same-length-6
 same-length-6 c = search needs
