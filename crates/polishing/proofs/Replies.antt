@@ -1,11 +1,13 @@
 -- What a slice and polishing answer, from what the scan counted. Assumes nothing.
 use mathlib.Core.Path.{_≡_, refl, sym, ap, _∙_}
 use mathlib.Core.Bool.{true, false, false≢true}
+use mathlib.Core.Logic.{inl, inr}
 use mathlib.Core.List.{List, [], _∷_}
 use Prim.Native.Nat.{ℕ, suc, _+_, _≤_, _<_}
 use native.Mathlib.Omega.{arith}
-use lib.ListN.{length}
+use lib.ListN.{length, replicate}
 use Rattle.theory.specs.Moves.{Pattern, total}
+use Rattle.theory.specs.Pairs.{pairs-of}
 use Rattle.theory.specs.Route.{Problem, tour-length, late-position}
 use Rattle.theory.specs.Polish.{ForCuts, polish-with}
 use Rattle.theory.proofs.Rows.{length-rows}
@@ -25,11 +27,25 @@ use Rattle.slices.proofs.Slices.{from-the-first, nowhere, same-total}
 use Rattle.deadlines.specs.Lateness.{LateAsked}
 use Rattle.polish_numbers.specs.Answer.{answer-of}
 use Rattle.polish_numbers.proofs.Answered.{length-without-deadlines, counts-are, reply-is}
-use Rattle.scan_loop.specs.Loop.{place-held, Scannable, Scans}
+use Rattle.precedence.specs.Words.{PairsLent}
+use Rattle.precedence_visits.proofs.Visits.{no-visits}
+use Rattle.scan_loop.specs.Loop.{place-held, Scannable, ScanAsked, Scans}
 use Rattle.scan_loop.proofs.Scanning as Scanning
 use Rattle.scan_loop.specs.declared.Scanned.{Scanned}
 use Rattle.polishing.specs.declared.Sliced.{Sliced}
-use Rattle.polishing.specs.Loop.{PolishableRows, Started, SliceableRows, ScannedWith, SlicedRows}
+use Rattle.polishing.specs.Loop.{PairedScan, PolishableRows, Started, SliceableRows, ScannedWith, SlicedRows}
+
+-- ---- what closed rows are found by
+
+pub asked-plain : {k : ℕ} {T : Trip} {orders masks members start : List ℕ} {from : ℕ} {route visits : List ℕ} → Scannable k T orders masks members start from route → ScanAsked k T orders masks members start from route [] visits
+asked-plain w = record { scannable = w; closing = inl refl }
+
+pub asked-paired : {k : ℕ} {T : Trip} {orders masks members start : List ℕ} {from : ℕ} {route : List ℕ} → PairedScan k T orders masks members start from route →
+    ScanAsked k T orders masks members start from route (replicate 383 0) (replicate 1027 0)
+asked-paired {T = T} {route = route} w =
+    record { scannable = w .scannable; closing = inr (refl, w .places, w .words, no-visits (pairs-of (T .pairs)) route (replicate 1027 0) refl refl refl refl) }
+
+-- ---- a slice
 
 module _ (k : ℕ) (T : Trip) (orders masks members start : List ℕ) (from : ℕ) (route : List ℕ) (A : ℕ) (ok : SliceableRows k T orders masks members start from route) where
   for-cuts : ForCuts k (pattern-rows k orders masks)
@@ -39,6 +55,14 @@ module _ (k : ℕ) (T : Trip) (orders masks members start : List ℕ) (from : �
   scannable h =
       let p = ok .rows in
       record { least = p .least; most = p .most; timed = p .timed; patterns = p .patterns; lent = p .lent; places = ok .started .places; place = ok .started .place h }
+
+  -- Words are lent exactly where there are pairs.
+  pub paired : k ≤ length route + 1 → (length members ≡ 0 → ⊥) → PairedScan k T orders masks members start from route
+  paired h n = by (ok .rows .lent)
+    where
+      by : PairsLent (pairs-of (T .pairs)) members → PairedScan k T orders masks members start from route
+      by (inl e) = absurd (n (e .1))
+      by (inr m) = record { scannable = scannable h; places = m .0; words = m .1 }
 
   abbrev P : Problem
   P = problem T

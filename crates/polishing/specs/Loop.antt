@@ -10,8 +10,8 @@ use Rattle.theory.specs.Route.{Problem, timetable-of, timely, tour-length, late
 use Rattle.theory.specs.Tables.{Timed, PatternRows, pattern-rows, Trip}
 use Rattle.slices.specs.Places.{IsPlace}
 use Rattle.slices.specs.Slices.{slice}
-use Rattle.precedence.specs.Words.{PairsLent, PairsFillable}
-use Rattle.scan_loop.specs.Loop.{place-held}
+use Rattle.precedence.specs.Words.{Members, PairsLent, PairsFillable}
+use Rattle.scan_loop.specs.Loop.{place-held, Scannable}
 use Rattle.scan_loop.specs.declared.Scanned.{Scanned}
 use Rattle.polishing.specs.declared.Sliced.{Sliced}
 
@@ -54,6 +54,12 @@ pub record Sliceable (k : ℕ) (T : Trip) (members start : List ℕ) (from : ℕ
 pub record SliceableWithPairs (k : ℕ) (T : Trip) (start : List ℕ) (from : ℕ) (route : List ℕ) : Type 0 where
   pub fine : PolishableWithPairs k T route
   pub started : Started (patterns k) k start from route
+
+-- The scan with pairs, of which the words are lent.
+pub record PairedScan (k : ℕ) (T : Trip) (orders masks members start : List ℕ) (from : ℕ) (route : List ℕ) : Type 0 where
+  pub scannable : Scannable k T orders masks members start from route
+  pub places : length members ≡ 2048
+  pub words : Members (pairs-of (T .pairs)) members
 
 -- ---- what is answered
 

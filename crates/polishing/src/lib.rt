@@ -1,13 +1,16 @@
 // Polishing a route by the scan of document 01, with every pattern for k or with lent rows of patterns; with pairs, whose words are lent beside them, or without. No
 // entry: crates mittenschist, run and text call it. All stands on the slice: the scan from a place on.
 use precedence::MEMBERS;
+use precedence_closing::SIGNS;
+use precedence_visits::VISIT_PLACES;
 use scan_loop::Scanned;
 use theory::Counts;
 use theory::Polished;
 ghost use Rattle.theory.specs.Moves.{patterns};
 ghost use Rattle.theory.specs.Tables.{problem, pattern-rows, trip};
 ghost use Rattle.theory.specs.Answers.{Polishes};
-ghost use Rattle.polishing.specs.Loop.{PolishableRows, Polishable, PolishableWithPairs, SliceableRows, Sliceable, SliceableWithPairs, ScannedWith, SlicedRows};
+ghost use Rattle.scan_loop.specs.Loop.{Scannable, Scans};
+ghost use Rattle.polishing.specs.Loop.{PairedScan, PolishableRows, Polishable, PolishableWithPairs, SliceableRows, Sliceable, SliceableWithPairs, ScannedWith, SlicedRows};
 
 // What a slice counted, as polishing does, and the place where the next one begins.
 pub struct Sliced {
@@ -19,6 +22,95 @@ pub struct Sliced {
     pub late: u64,
     pub cuts: [usize; 5],
     pub index: usize,
+}
+
+// The scan where there are no pairs, so that no row is closed.
+fn scan_plain(
+    k: usize,
+    allowance: u64,
+    locations: usize,
+    legs: &[u32],
+    latest: &[u32],
+    service: &[u32],
+    depot: u32,
+    end: u32,
+    pairs: &[u32],
+    members: &[u64],
+    orders: &[u8],
+    masks: &[u8],
+    start: [usize; 5],
+    from: usize,
+    route: &mut [u32],
+) -> Scanned
+    requires { ⌜ Scannable k (trip locations (now legs) (now latest) (now service) depot end (now pairs)) (now orders) (now masks) (now members) start from (now route) ⌝ }
+    ensures { λ r. ⌜ Scans (problem (trip locations (now (legs .entry)) (now (latest .entry)) (now (service .entry)) depot end (now (pairs .entry)))) (pattern-rows k (now (orders .entry)) (now (masks .entry))) k allowance start from (now (route .entry)) r (now (route .exit)) ⌝ }
+{
+    let mut signs = [0u16; 1];
+    let mut visits = [0u64; 1];
+    let none = 0;
+    scan_loop::scan_cut_sets(
+        k,
+        allowance,
+        locations,
+        legs,
+        latest,
+        service,
+        depot,
+        end,
+        pairs,
+        members,
+        orders,
+        masks,
+        start,
+        from,
+        route,
+        &mut signs[..none],
+        &mut visits[..none],
+    )
+}
+
+// The scan where there are pairs: what closed rows are found by stands here alone, so that a scan without pairs clears none of it.
+fn scan_paired(
+    k: usize,
+    allowance: u64,
+    locations: usize,
+    legs: &[u32],
+    latest: &[u32],
+    service: &[u32],
+    depot: u32,
+    end: u32,
+    pairs: &[u32],
+    members: &[u64],
+    orders: &[u8],
+    masks: &[u8],
+    start: [usize; 5],
+    from: usize,
+    route: &mut [u32],
+) -> Scanned
+    requires { ⌜ PairedScan k (trip locations (now legs) (now latest) (now service) depot end (now pairs)) (now orders) (now masks) (now members) start from (now route) ⌝ }
+    ensures { λ r. ⌜ Scans (problem (trip locations (now (legs .entry)) (now (latest .entry)) (now (service .entry)) depot end (now (pairs .entry)))) (pattern-rows k (now (orders .entry)) (now (masks .entry))) k allowance start from (now (route .entry)) r (now (route .exit)) ⌝ }
+{
+    let mut signs = [0u16; SIGNS];
+    let mut visits = [0u64; VISIT_PLACES];
+    scan_loop::scan_cut_sets(
+        k,
+        allowance,
+        locations,
+        legs,
+        latest,
+        service,
+        depot,
+        end,
+        pairs,
+        members,
+        orders,
+        masks,
+        start,
+        from,
+        route,
+        &mut signs[..],
+        &mut visits[..],
+    )
 }
 
 // The scan from a place on with lent rows of patterns for k cuts; where the route has no cut set it is over at once.
@@ -52,7 +144,26 @@ fn scanned_with(
             index: 0,
         };
     }
-    scan_loop::scan_cut_sets(
+    if members.len() == 0 {
+        return scan_plain(
+            k,
+            allowance,
+            locations,
+            legs,
+            latest,
+            service,
+            depot,
+            end,
+            pairs,
+            members,
+            orders,
+            masks,
+            start,
+            from,
+            route,
+        );
+    }
+    scan_paired(
         k,
         allowance,
         locations,

@@ -2,8 +2,7 @@
 use mathlib.Core.Path.{_≡_, refl, sym, ap, subst, _∙_}
 use mathlib.Core.Bool.{Bool, true, false, _&&_, _||_, false≢true}
 use mathlib.Core.List.{List, [], _∷_}
-use Prim.Native.Nat.{ℕ, zero, suc, max, _+_, _-_, _<_, _≤_}
-use native.Mathlib.Decide.{decLt}
+use Prim.Native.Nat.{ℕ, zero, suc, _+_, _-_, _<_, _≤_}
 use native.Mathlib.Numerals.{add-one}
 use native.Mathlib.Omega.{arith}
 use lib.Dec.{ltb, T}
@@ -28,15 +27,7 @@ any-more z t l i h n e = e ∙ any-drop z t l i h ∙ rw n
 pub any-here : {A : Type 0} (z : A) (t : A → Bool) (l : List A) (i : ℕ) → i < length l → t (getD l i z) ≡ true → any t l ≡ any t (drop i l) → true ≡ any t l
 any-here z t l i h y e = sym (e ∙ any-drop z t l i h ∙ rw y)
 
--- ---- by the greatest so far
-
-above-both : (limit a b : ℕ) → ltb limit (max a b) ≡ (ltb limit a || ltb limit b)
-above-both limit a b = by (decLt limit a) (decLt limit b)
-  where
-    by : Dec (limit < a) → Dec (limit < b) → ltb limit (max a b) ≡ (ltb limit a || ltb limit b)
-    by (yes l) y = rw (lt-ltb limit a l) (lt-ltb limit (max a b) (omega arith))
-    by (no n) (yes l) = rw (le-ltb limit a (omega arith), lt-ltb limit b l) (lt-ltb limit (max a b) (omega arith))
-    by (no n) (no m) = rw (le-ltb limit a (omega arith), le-ltb limit b (omega arith)) (le-ltb limit (max a b) (omega arith))
+-- ---- by whether one was found so far
 
 or-assoc : (a b c : Bool) → (a || (b || c)) ≡ ((a || b) || c)
 or-assoc true b c = refl
@@ -46,21 +37,24 @@ or-none : (a : Bool) → (a || false) ≡ a
 or-none true = refl
 or-none false = refl
 
-module _ (limit : ℕ) (l : List ℕ) where
-  pub above-none : any (λ x. ltb limit x) l ≡ (ltb limit 0 || any (λ x. ltb limit x) (drop 0 l))
-  above-none = rw (le-ltb limit 0 (omega arith))
+or-true : (a : Bool) → true ≡ (a || true)
+or-true true = refl
+or-true false = refl
 
-  pub above-more : (most i most′ : ℕ) → i < length l → most′ ≡ max most (getD l i 0) → any (λ x. ltb limit x) l ≡ (ltb limit most || any (λ x. ltb limit x) (drop i l)) →
-      any (λ x. ltb limit x) l ≡ (ltb limit most′ || any (λ x. ltb limit x) (drop (i + 1) l))
-  above-more most i most′ h is e =
-      e
-      ∙ ap (λ b. ltb limit most || b) (any-drop 0 (λ x. ltb limit x) l i h)
-      ∙ or-assoc (ltb limit most) (ltb limit (getD l i 0)) (any (λ x. ltb limit x) (drop (i + 1) l))
-      ∙ ap (λ b. b || any (λ x. ltb limit x) (drop (i + 1) l)) (sym (above-both limit most (getD l i 0)) ∙ ap (ltb limit) (sym is))
+pub found-above : (found : Bool) (limit entry : ℕ) → limit < entry → true ≡ (found || ltb limit entry)
+found-above found limit entry l = or-true found ∙ ap (λ b. found || b) (sym (lt-ltb limit entry l))
 
-  pub above-all : (most i : ℕ) → length l ≤ i → any (λ x. ltb limit x) l ≡ (ltb limit most || any (λ x. ltb limit x) (drop i l)) → ltb limit most ≡ any (λ x. ltb limit x) l
+pub found-before : (found : Bool) (limit entry : ℕ) → entry ≤ limit → found ≡ (found || ltb limit entry)
+found-before found limit entry l = sym (or-none found) ∙ ap (λ b. found || b) (sym (le-ltb limit entry l))
+
+module _ (t : ℕ → Bool) (l : List ℕ) where
+  pub found-more : (found : Bool) (i : ℕ) (found′ : Bool) → i < length l → found′ ≡ (found || t (getD l i 0)) → any t l ≡ (found || any t (drop i l)) → any t l ≡ (found′ || any t (drop (i + 1) l))
+  found-more found i found′ h is e =
+      e ∙ ap (λ b. found || b) (any-drop 0 t l i h) ∙ or-assoc found (t (getD l i 0)) (any t (drop (i + 1) l)) ∙ ap (λ b. b || any t (drop (i + 1) l)) (sym is)
+
+  pub found-all : (found : Bool) (i : ℕ) → length l ≤ i → any t l ≡ (found || any t (drop i l)) → found ≡ any t l
   unfolding any
-  above-all most i h e = sym (e ∙ rw (drop-of-length-le l h) (or-none (ltb limit most)))
+  found-all found i h e = sym (e ∙ rw (drop-of-length-le l h) (or-none found))
 
 pub any-none : {A : Type 0} (t : A → Bool) (l : List A) (i : ℕ) → length l ≤ i → any t l ≡ any t (drop i l) → false ≡ any t l
 unfolding any

@@ -1,33 +1,32 @@
 // Tests over a list, by which the checks of refusals are made. No entry: the crates above call them.
 ghost use mathlib.Core.Path.{_≡_};
-ghost use mathlib.Core.Bool.{not};
-ghost use Prim.Native.Nat.{max};
+ghost use mathlib.Core.Bool.{not, _||_};
 ghost use lib.Dec.{ltb, leb, eqb};
 ghost use Rattle.theory.specs.Refusals.{any, rises, no-number};
 ghost use Rattle.theory.specs.Moves.{total};
 ghost use Rattle.refusal_tests.specs.Rounds.{ShortRounds};
 
-// The greater of two.
-fn greater(a: u32, b: u32) -> u32
-    ensures { λ r. ⌜ r ≡ max a b ⌝ }
+// Whether one was found before, or this entry is above the limit.
+fn or_above(found: bool, limit: u32, entry: u32) -> bool
+    ensures { λ r. ⌜ r ≡ (found || ltb limit entry) ⌝ }
 {
-    if a < b {
-        return b;
+    if limit < entry {
+        return true;
     }
-    a
+    found
 }
 
-// Whether an entry is above the limit: by the greatest, so that no turn of the loop leaves it and the compiler takes several entries at a time.
+// Whether an entry is above the limit. No turn of the loop leaves it, so that the compiler takes several entries at a time.
 pub fn any_above(entries: &[u32], limit: u32) -> bool
     ensures { λ r. ⌜ r ≡ any (λ x. ltb limit x) (now (entries .entry)) ⌝ }
 {
-    let mut most = 0u32;
+    let mut found = false;
     let mut i = 0;
     while i < entries.len() {
-        most = greater(most, entries[i]);
+        found = or_above(found, limit, entries[i]);
         i += 1;
     }
-    limit < most
+    found
 }
 
 // Whether a stop is not below the locations.

@@ -29,12 +29,15 @@ use Rattle.deadlines.specs.Stays.{Stays}
 use Rattle.deadlines.specs.Lateness.{lateness, Latenesses}
 use Rattle.deadlines.proofs.Lateness.{on-time-is, none-late, kept-not-late, kept-head}
 use Rattle.scan_joints.specs.JointTable.{Padded}
-use Rattle.scan_stretch.specs.declared.Stretch.{Stretch}
+use Rattle.scan_step.specs.declared.Stretch.{Stretch}
 use Rattle.precedence.specs.Words.{PairsLent, BackSince}
 use Rattle.precedence_marks.proofs.Judged.{kept-reach, kept-since}
 use Rattle.scan_stretch.specs.Stretch.{HeadsKept}
-use Rattle.scan_stretch.proofs.Stretching.{last-stored}
-use Rattle.scan_rest.specs.Rest.{RowsFrom, PartScannable, PartScanned}
+use Rattle.precedence_visits.specs.Visits.{VisitsForgotten}
+use Rattle.scan_shared.proofs.Preparing.{no-table}
+use Rattle.scan_step.specs.Stepping.{ClosingKept}
+use Rattle.scan_step.proofs.Steps.{last-stored}
+use Rattle.scan_rest.specs.Rest.{RowsFrom, PartLent, PartLeft, PartScannable, PartScanned}
 use Rattle.candidates.specs.Candidate.{candidate, Candidate}
 use Rattle.scan_taking.specs.declared.Limits.{Limits}
 use Rattle.scan_taking.specs.Measure.{Measured, Cleared}
@@ -51,8 +54,23 @@ at-most-none zero = le-leb 0 0 (omega arith) ∙ sym (eq-eqb 0 0 refl)
 at-most-none (suc x) = lt-leb (suc x) 0 (omega arith) ∙ sym (ne-eqb (suc x) 0 (λ e. absurd (omega (arith, e))))
 
 -- No rows are filled before the first turn.
-pub none-filled : (k : ℕ) (orders masks : List ℕ) → RowsFrom k orders masks (length masks) (replicate 1532 0)
-none-filled k orders masks = record { places = refl; listed = λ h. absurd (omega (arith, h)) }
+pub none-filled : (k : ℕ) (T : Trip) (orders masks : List ℕ) {members r signs visits : List ℕ} → ClosingKept (pairs-of (T .pairs)) members r signs visits →
+    PartLeft (problem T) members orders masks (length masks) r k (replicate 1532 0) signs (replicate 160 0) visits
+none-filled k T orders masks closing =
+    record {
+      rows-from = record { places = refl; listed = λ h. absurd (omega (arith, h)) };
+      lent = record { blank = no-table (2 * (k - 2)); signed = λ h. absurd (omega (arith, h)); kept = closing };
+    }
+
+-- Of another route no visit is found yet.
+pub lent-anew : (T : Trip) {members orders masks : List ℕ} {i : ℕ} {r : List ℕ} {k : ℕ} {rows signs shared visits visits′ : List ℕ} (r′ : List ℕ) → VisitsForgotten visits visits′ →
+    PartLeft (problem T) members orders masks i r k rows signs shared visits → PartLeft (problem T) members orders masks i r′ k rows signs shared visits′
+lent-anew T {members} {r = r} {signs = signs} {visits = visits} {visits′ = visits′} r′ f w =
+    record { rows-from = w .rows-from; lent = record { blank = w .lent .blank; signed = w .lent .signed; kept = anew (w .lent .kept) } }
+  where
+    anew : ClosingKept (pairs-of (T .pairs)) members r signs visits → ClosingKept (pairs-of (T .pairs)) members r′ signs visits′
+    anew (inl e) = inl e
+    anew (inr m) = inr (m .0, m .1, m .2, f .is (pairs-of (T .pairs)) r r′ (m .3))
 
 -- What is at hand of a route: its sums, its stays and its lateness, and what it leaves to its candidates.
 pub record Known (T : Trip) (r forward-sums backward-sums stayed : List ℕ) (limits : Limits) (late : List ℕ) : Type 0 where
@@ -121,8 +139,9 @@ module _ (k : ℕ) (T : Trip) (orders masks members start : List ℕ) (from : �
 
     -- ---- before a stretch
 
-    pub partable : {forwards backwards stayed table late rows : List ℕ} {limits : Limits} {filled : ℕ} → Known T r forwards backwards stayed limits late → Padded table → RowsFrom k orders masks filled rows →
-        PartScannable T members rows orders masks i r forwards backwards stayed (limits .heads) late (limits .since) cuts table filled
+    pub partable : {forwards backwards stayed table late rows signs shared visits : List ℕ} {limits : Limits} {filled : ℕ} → Known T r forwards backwards stayed limits late → Padded table →
+        PartLeft (problem T) members orders masks filled r k rows signs shared visits →
+        PartScannable T members rows signs orders masks i r forwards backwards stayed (limits .heads) late (limits .since) cuts table shared visits filled
     partable m p f =
         record {
           searchable = record {
@@ -139,11 +158,12 @@ module _ (k : ℕ) (T : Trip) (orders masks members start : List ℕ) (from : �
           back = m .back;
           patterns = own-rows k T orders masks members start from route₀ A ok cuts i e c r now;
           known = index-below k T orders masks members start from route₀ A ok cuts i e c r now;
-          held = rw own f;
+          held = rw own (f .rows-from);
+          closing = rw own (f .lent);
         }
 
     -- The rows are then those from the index on.
-    pub filled-there : {rows : List ℕ} → RowsFrom (length cuts) orders masks i rows → RowsFrom k orders masks i rows
+    pub filled-there : {rows signs shared visits : List ℕ} → PartLeft (problem T) members orders masks i r (length cuts) rows signs shared visits → PartLeft (problem T) members orders masks i r k rows signs shared visits
     filled-there f = rw own at f
 
     -- ---- behind a stretch

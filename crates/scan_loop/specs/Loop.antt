@@ -11,6 +11,7 @@ use Rattle.theory.specs.Tables.{Timed, PatternRows, pattern-rows, Trip}
 use Rattle.slices.specs.Places.{Place, IsPlace}
 use Rattle.slices.specs.Slices.{slice}
 use Rattle.precedence.specs.Words.{PairsLent}
+use Rattle.scan_step.specs.Stepping.{ClosingKept}
 use Rattle.scan_loop.specs.declared.Scanned.{Scanned}
 
 -- The place that the first k of five numbers and an index hold.
@@ -26,6 +27,11 @@ pub record Scannable (k : ℕ) (T : Trip) (orders masks members start : List ℕ
   pub lent : PairsLent (pairs-of (T .pairs)) members
   pub places : length start ≡ 5
   pub place : IsPlace (pattern-rows k orders masks) k (length route) (place-held k start from)
+
+-- With what closed rows are found by, where there are pairs.
+pub record ScanAsked (k : ℕ) (T : Trip) (orders masks members start : List ℕ) (from : ℕ) (route signs visits : List ℕ) : Type 0 where
+  pub scannable : Scannable k T orders masks members start from route
+  pub closing : ClosingKept (pairs-of (T .pairs)) members route signs visits
 
 -- "Round and reply are those of document 01's scan", from the place on, with the place where it was spent; and whether the round keeps every deadline.
 pub record Scans (P : Problem) (ps : List Pattern) (k allowance : ℕ) (start : List ℕ) (from : ℕ) (route : List ℕ) (answer : Scanned) (route′ : List ℕ) : Type 0 where

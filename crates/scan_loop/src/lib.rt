@@ -6,7 +6,7 @@ use theory::CUT_PLACES;
 use theory::STOPS;
 ghost use mathlib.Core.Path.{_≡_};
 ghost use Rattle.theory.specs.Tables.{problem, pattern-rows, trip};
-ghost use Rattle.scan_loop.specs.Loop.{Spendable, spent-at, Scannable, Scans};
+ghost use Rattle.scan_loop.specs.Loop.{Spendable, spent-at, ScanAsked, Scans};
 
 // What the scan counted when it ended, and whether the route then keeps every deadline; and the place of the next candidate, or the first place where it has finished.
 pub struct Scanned {
@@ -44,7 +44,8 @@ fn spent(
     }
 }
 
-// The scan from a place on: the first improving candidate of a stretch is taken and the scan begins again, or the stretch is passed.
+// The scan from a place on: the first improving candidate of a stretch is taken and the scan begins again, or the stretch is passed. Where there are pairs, places are lent for
+// what closed rows are found by.
 pub fn scan_cut_sets(
     k: usize,
     allowance: u64,
@@ -61,13 +62,16 @@ pub fn scan_cut_sets(
     start: [usize; 5],
     from: usize,
     route: &mut [u32],
+    signs: &mut [u16],
+    visits: &mut [u64],
 ) -> Scanned
-    requires { ⌜ Scannable k (trip locations (now legs) (now latest) (now service) depot end (now pairs)) (now orders) (now masks) (now members) start from (now route) ⌝ }
+    requires { ⌜ ScanAsked k (trip locations (now legs) (now latest) (now service) depot end (now pairs)) (now orders) (now masks) (now members) start from (now route) (now signs) (now visits) ⌝ }
     ensures { λ r. ⌜ Scans (problem (trip locations (now (legs .entry)) (now (latest .entry)) (now (service .entry)) depot end (now (pairs .entry)))) (pattern-rows k (now (orders .entry)) (now (masks .entry))) k allowance start from (now (route .entry)) r (now (route .exit)) ⌝ }
 {
     let mut forward = [0u64; STOPS];
     let mut backward = [0u64; STOPS];
     let mut joint = [0u64; CELLS];
+    let mut shared = [0u64; CELLS];
     let mut stayed = [0u64; CUT_PLACES];
     let mut lateness = [0u64; CUT_PLACES];
     let mut limits = scan_taking::measure(
@@ -103,6 +107,7 @@ pub fn scan_cut_sets(
             orders,
             masks,
             &mut rows,
+            signs,
             index,
             &route[..],
             &forward,
@@ -113,6 +118,8 @@ pub fn scan_cut_sets(
             limits.since,
             &mut cut[..k],
             &mut joint,
+            &mut shared,
+            visits,
             filled,
             allowance - examined,
         );
@@ -133,6 +140,7 @@ pub fn scan_cut_sets(
                 &mut stayed,
                 &mut lateness,
             );
+            precedence_visits::forget_visits(visits);
             let heads = route.len() + 1;
             limits = Limits { heads, since: 0 };
             cut = [0, 1, 2, 3, 4];

@@ -6,7 +6,7 @@ use lib.ListN.{length}
 use Rattle.theory.specs.Tables.{PatternRows, pattern-rows}
 use Rattle.theory.proofs.Rows.{length-rows, listed-for-k}
 use Rattle.scan_joints.specs.States.{StateRows}
-use Rattle.scan_stretch.specs.Stretch.{Listed}
+use Rattle.scan_step.specs.Stepping.{Listed}
 
 pub listed-rows : (k : ℕ) (orders masks rows : List ℕ) → PatternRows k orders masks → StateRows k orders masks (length masks) rows → Listed k (length masks) rows (pattern-rows k orders masks)
 listed-rows k orders masks rows p s =

@@ -1,6 +1,7 @@
 -- A part of the scan, over plain lists: the rows that it is scanned with, and what its end gives. Assumes nothing.
 use mathlib.Core.Path.{_≡_, refl, sym, ap, _∙_}
 use mathlib.Core.Bool.{Bool, true, false, true≢false}
+use mathlib.Core.Logic.{inl, inr}
 use mathlib.Core.List.{List, [], _∷_, _++_}
 use Prim.Native.Nat.{ℕ, zero, suc, min, _+_, _-_, _*_, _≤_, _<_}
 use native.Mathlib.Omega.{arith}
@@ -8,6 +9,7 @@ use native.Mathlib.Nat.{suc-mul, mul-le-mul-right}
 use lib.ListN.{length, getD, set, take, drop, length-drop}
 use borrow.Rule.Slice.PartAt.{part-to-end}
 use Rattle.theory.specs.Moves.{Pattern}
+use Rattle.theory.specs.Pairs.{pairs-of}
 use Rattle.theory.specs.Scan.{improves}
 use Rattle.theory.specs.Polish.{search-of, move-at}
 use Rattle.theory.specs.Tables.{problem, PatternRows, pattern-rows, Trip}
@@ -18,17 +20,19 @@ use Rattle.costs.proofs.Segments.{cut-below, cuts-parted}
 use Rattle.scan_joints.specs.States.{StateRows}
 use Rattle.scan_rows.specs.Rows.{RowsFillable}
 use Rattle.scan_shared.proofs.Preparing.{first-of-cuts}
-use Rattle.scan_stretch.specs.declared.Stretch.{Stretch}
-use Rattle.scan_stretch.specs.Stretch.{Stretchable, Stretched, Ended, improves-at}
-use Rattle.scan_stretch.proofs.Stretching.{last-stored}
-use Rattle.scan_rest.specs.Rest.{RowsFrom, RowsKeepable, PartAllowed, RestEnded, PartScannable, PartScanned}
+use Rattle.precedence_closing.specs.Closing.{SignsFillable}
+use Rattle.scan_step.specs.declared.Stretch.{Stretch}
+use Rattle.scan_step.specs.Stepping.{ClosingKept, Ended, improves-at}
+use Rattle.scan_step.proofs.Steps.{last-stored}
+use Rattle.scan_stretch.specs.Stretch.{Stretchable, Stretched}
+use Rattle.scan_rest.specs.Rest.{RowsFrom, RowsKeepable, RowsKept, SignsFit, SignsKeepable, PartLeft, PartAllowed, RestEnded, PartScannable, PartScanned}
 use Rattle.scan_rest.proofs.Listing.{listed-rows}
 
 -- ---- the rows
 
 module _ {k : ℕ} {orders masks : List ℕ} {filled index : ℕ} {rows : List ℕ} (given : RowsKeepable k orders masks filled index rows) where
-  pub kept : filled ≡ index → RowsFrom k orders masks index rows
-  kept e = rw (← e) (given .held)
+  pub kept : filled ≡ index → RowsKept k orders masks filled index rows rows
+  kept e = record { from = rw (← e) (given .held); same = λ _. refl }
 
   few : index ≤ 383
   few = omega (arith, given .known, given .patterns .few)
@@ -59,16 +63,19 @@ module _ {k : ℕ} {orders masks : List ℕ} {filled index : ℕ} {rows : List �
   pub fillable : {orders′ masks′ : List ℕ} → Rest orders′ masks′ → RowsFillable k orders′ masks′ rows
   fillable w = record { least = given .least; most = given .most; patterns = rw (w .orders-are, w .masks-are, one-more) own-rows; places = given .held .places }
 
-  pub filled-so : {orders′ masks′ rows′ : List ℕ} → Rest orders′ masks′ → StateRows k orders′ masks′ (length masks′) rows′ → RowsFrom k orders masks index rows′
-  filled-so {rows′ = rows′} w s =
+  pub filled-so : {orders′ masks′ rows′ : List ℕ} → (filled ≡ index → ⊥) → Rest orders′ masks′ → StateRows k orders′ masks′ (length masks′) rows′ → RowsKept k orders masks filled index rows rows′
+  filled-so {rows′ = rows′} n w s =
       let t = rw (w .orders-are, w .masks-are, one-more) at s in
       let l = listed-rows k (drop (index * suc k) orders) (drop index masks) rows′ own-rows t in
-      record { places = s .places; listed = λ _. rw (rows-from k index orders masks, length-drop index masks) at l }
+      record { from = record { places = s .places; listed = λ _. rw (rows-from k index orders masks, length-drop index masks) at l }; same = λ e. absurd (n e) }
+
+pub signs-fillable : {rows : List ℕ} {patterns filled index : ℕ} {signs : List ℕ} → SignsKeepable rows patterns filled index signs → 0 < length signs → SignsFillable rows patterns signs
+signs-fillable w h = record { row-places = w .places; few = w .few; small = w .small; places = w .sign-places h }
 
 -- ---- before a part
 
-module _ {T : Trip} {members rows orders masks : List ℕ} {index : ℕ} {r forwards backwards stayed : List ℕ} {heads : ℕ} {late : List ℕ} {since : ℕ} {cuts table : List ℕ} {filled : ℕ}
-    (given : PartScannable T members rows orders masks index r forwards backwards stayed heads late since cuts table filled) where
+module _ {T : Trip} {members rows signs orders masks : List ℕ} {index : ℕ} {r forwards backwards stayed : List ℕ} {heads : ℕ} {late : List ℕ} {since : ℕ} {cuts table shared visits : List ℕ} {filled : ℕ}
+    (given : PartScannable T members rows signs orders masks index r forwards backwards stayed heads late since cuts table shared visits filled) where
   abbrev ps : List Pattern
   ps = pattern-rows (length cuts) orders masks
 
@@ -87,18 +94,45 @@ module _ {T : Trip} {members rows orders masks : List ℕ} {index : ℕ} {r forw
   pub small-index : index ≤ 383
   small-index = omega (arith, given .known, given .patterns .few)
 
-  pub stretchable : {rows′ : List ℕ} → RowsFrom (length cuts) orders masks index rows′ → Stretchable T members rows′ (length masks - index) r forwards backwards stayed heads late since cuts table
-  stretchable f =
-      record {
-        searchable = given .searchable;
-        list = drop index ps;
-        listed = f .listed (given .known);
-        padded = given .padded;
-        head = given .head;
-        latenesses = given .latenesses;
-        lent = given .lent;
-        back = given .back;
-      }
+  sized : ClosingKept (pairs-of (T .pairs)) members r signs visits → 0 < length signs → length signs ≡ 383
+  sized (inl e) h = absurd (omega (arith, e, h))
+  sized (inr m) h = m .0
+
+  module _ {rows′ : List ℕ} (f : RowsKept (length cuts) orders masks filled index rows rows′) where
+    pub signs-keepable : SignsKeepable rows′ (length masks - index) filled index signs
+    signs-keepable =
+        let l = f .from .listed (given .known) in
+        record {
+          places = f .from .places;
+          few = omega (arith, given .patterns .few);
+          small = rw (l .many) at (l .patterned .small);
+          sign-places = sized (given .closing .kept);
+          held = λ e. rw (f .same e, ← e) (given .closing .signed (omega (arith, e, given .known)));
+        }
+
+    module _ {signs′ : List ℕ} (many-signs : length signs′ ≡ length signs) (g : SignsFit rows′ (length masks - index) signs′) where
+      -- The visits are lent as before: they do not read the signs.
+      still : ClosingKept (pairs-of (T .pairs)) members r signs visits → ClosingKept (pairs-of (T .pairs)) members r signs′ visits
+      still (inl e) = inl (many-signs ∙ e)
+      still (inr m) = inr (many-signs ∙ m .0, m .1, m .2, m .3)
+
+      pub stretchable : Stretchable T members rows′ (length masks - index) signs′ r forwards backwards stayed heads late since cuts table shared visits
+      stretchable =
+          record {
+            searchable = given .searchable;
+            list = drop index ps;
+            listed = f .from .listed (given .known);
+            padded = given .padded;
+            head = given .head;
+            latenesses = given .latenesses;
+            lent = given .lent;
+            back = given .back;
+            closing = record { blank = given .closing .blank; signed = g; kept = still (given .closing .kept) };
+          }
+
+      pub left-so : {allowed : ℕ} {stretch : Stretch} {cuts′ table′ shared′ visits′ : List ℕ} → Stretched (problem T) members (length masks - index) rows′ signs′ r cuts allowed stretch cuts′ table′ shared′ visits′ →
+          PartLeft (problem T) members orders masks index r (length cuts) rows′ signs′ shared′ visits′
+      left-so s = record { rows-from = f .from; lent = record { blank = s .blank; signed = λ _. g; kept = s .kept } }
 
   parted : first-cuts cuts ++ (last-cut cuts ∷ []) ≡ cuts
   parted = sym (cuts-parted cuts (omega (arith, some-cuts)))
@@ -108,8 +142,8 @@ module _ {T : Trip} {members rows orders masks : List ℕ} {index : ℕ} {r forw
 
   -- ---- behind it
 
-  module _ {rows′ : List ℕ} (f : RowsFrom (length cuts) orders masks index rows′) {allowed left : ℕ} (a : PartAllowed index (length masks - index) left allowed) {stretch : Stretch} {cuts′ table′ : List ℕ}
-      (s : Stretched (problem T) (length masks - index) rows′ r cuts allowed stretch cuts′ table′) where
+  module _ {rows′ signs′ : List ℕ} (f : RowsFrom (length cuts) orders masks index rows′) {allowed left : ℕ} (a : PartAllowed index (length masks - index) left allowed) {stretch : Stretch} {cuts′ table′ shared′ visits′ : List ℕ}
+      (s : Stretched (problem T) members (length masks - index) rows′ signs′ r cuts allowed stretch cuts′ table′ shared′ visits′) where
     end : Ended (problem T) (drop index ps) r cuts allowed stretch cuts′
     end = s .ended (drop index ps) (f .listed (given .known))
 

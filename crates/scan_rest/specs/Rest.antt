@@ -3,18 +3,21 @@ use mathlib.Core.Path.{_≡_}
 use mathlib.Core.Bool.{true, false}
 use mathlib.Core.List.{List, [], _∷_, _++_}
 use Prim.Native.Nat.{ℕ, suc, min, _+_, _-_, _*_, _≤_, _<_}
-use lib.ListN.{length, drop}
+use lib.ListN.{length, getD, drop}
 use Rattle.theory.specs.Moves.{Pattern}
 use Rattle.theory.specs.Pairs.{pairs-of}
 use Rattle.theory.specs.Route.{Problem}
-use Rattle.theory.specs.Tables.{clock-by, PatternRows, pattern-rows, Trip}
+use Rattle.theory.specs.Tables.{problem, clock-by, PatternRows, pattern-rows, Trip}
 use Rattle.deadlines.specs.Lateness.{Latenesses}
 use Rattle.costs.specs.RouteCosts.{first-cuts, last-cut}
 use Rattle.precedence.specs.Words.{PairsLent, BackSince}
 use Rattle.scan_joints.specs.JointTable.{Padded}
 use Rattle.scan_cut_set.specs.Gain.{Searchable}
-use Rattle.scan_stretch.specs.declared.Stretch.{Stretch}
-use Rattle.scan_stretch.specs.Stretch.{Listed, HeadsKept, GainAt, improves-at, candidate-number, candidate-count}
+use Rattle.scan_shared.specs.Filling.{Blank}
+use Rattle.precedence_closing.specs.Closing.{Signed}
+use Rattle.scan_step.specs.declared.Stretch.{Stretch}
+use Rattle.scan_step.specs.Stepping.{Listed, GainAt, ClosingKept, improves-at, candidate-number, candidate-count}
+use Rattle.scan_stretch.specs.Stretch.{HeadsKept}
 
 -- Through all patterns up to a last cut, with so many candidates counted.
 pub record OverAt (ps : List Pattern) (route cuts : List ℕ) (reached : ℕ) (cuts′ : List ℕ) : Type 0 where
@@ -47,6 +50,33 @@ pub record RowsKeepable (k : ℕ) (orders masks : List ℕ) (filled index : ℕ)
   pub known : index < length masks
   pub held : RowsFrom k orders masks filled rows
 
+-- Where they were filled from there, they stay.
+pub record RowsKept (k : ℕ) (orders masks : List ℕ) (filled index : ℕ) (rows rows′ : List ℕ) : Type 0 where
+  pub from : RowsFrom k orders masks index rows′
+  pub same : filled ≡ index → rows′ ≡ rows
+
+-- Signs of the rows, or none.
+abbrev pub SignsFit : List ℕ → ℕ → List ℕ → Type 0
+SignsFit rows patterns signs = 0 < length signs → Signed rows patterns signs
+
+-- Rows, and places for their signs, which hold them already where the rows were filled before.
+pub record SignsKeepable (rows : List ℕ) (patterns filled index : ℕ) (signs : List ℕ) : Type 0 where
+  pub places : length rows ≡ 1532
+  pub few : patterns ≤ 383
+  pub small : (c : ℕ) → c < 4 * patterns → getD rows c 0 ≤ 8
+  pub sign-places : 0 < length signs → length signs ≡ 383
+  pub held : filled ≡ index → SignsFit rows patterns signs
+
+-- What is lent to a part beside the rows, so that it can be lent again: the signs of the rows, where these are filled; the shared table; and what closed rows are found by.
+pub record PartLent (P : Problem) (members masks : List ℕ) (filled : ℕ) (route : List ℕ) (k : ℕ) (rows signs shared visits : List ℕ) : Type 0 where
+  pub blank : Blank (2 * (k - 2)) shared
+  pub signed : filled < length masks → SignsFit rows (length masks - filled) signs
+  pub kept : ClosingKept (P .pairs) members route signs visits
+
+pub record PartLeft (P : Problem) (members orders masks : List ℕ) (index : ℕ) (route : List ℕ) (k : ℕ) (rows signs shared visits : List ℕ) : Type 0 where
+  pub rows-from : RowsFrom k orders masks index rows
+  pub lent : PartLent P members masks index route k rows signs shared visits
+
 -- ---- its candidates
 
 -- A stretch may take what is left, a rest no more than it has.
@@ -63,7 +93,7 @@ pub record RestEnded (index patterns : ℕ) (stretch answer : Stretch) : Type 0 
   pub pattern : answer .gains ≡ true → answer .pattern ≡ index + stretch .pattern
 
 -- What a part is scanned from: what a stretch is, with the list of patterns, the index of one, and rows that were filled from another.
-pub record PartScannable (T : Trip) (members rows orders masks : List ℕ) (index : ℕ) (route forward-sums backward-sums stayed : List ℕ) (heads : ℕ) (late : List ℕ) (since : ℕ) (cuts table : List ℕ) (filled : ℕ) : Type 0 where
+pub record PartScannable (T : Trip) (members rows signs orders masks : List ℕ) (index : ℕ) (route forward-sums backward-sums stayed : List ℕ) (heads : ℕ) (late : List ℕ) (since : ℕ) (cuts table shared visits : List ℕ) (filled : ℕ) : Type 0 where
   pub searchable : Searchable T route forward-sums backward-sums stayed cuts
   pub padded : Padded table
   pub head : HeadsKept T route heads
@@ -73,3 +103,4 @@ pub record PartScannable (T : Trip) (members rows orders masks : List ℕ) (inde
   pub patterns : PatternRows (length cuts) orders masks
   pub known : index < length masks
   pub held : RowsFrom (length cuts) orders masks filled rows
+  pub closing : PartLent (problem T) members masks filled route (length cuts) rows signs shared visits

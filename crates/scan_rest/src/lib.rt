@@ -1,7 +1,7 @@
 // A part of the scan: a stretch, or the rest of a cut set, whose patterns from an index on are a list of their own. No entry: crate scan_loop calls it.
 use scan_joints::CELLS;
 use scan_joints::ROW_BYTES;
-use scan_stretch::Stretch;
+use scan_step::Stretch;
 use theory::CUT_PLACES;
 use theory::STOPS;
 ghost use mathlib.Core.Path.{_≡_};
@@ -9,7 +9,7 @@ ghost use mathlib.Core.Bool.{true};
 ghost use Prim.Native.Nat.{_≤_};
 ghost use lib.ListN.{length};
 ghost use Rattle.theory.specs.Tables.{problem, pattern-rows, trip};
-ghost use Rattle.scan_rest.specs.Rest.{RowsFrom, RowsKeepable, PartAllowed, RestEnded, PartScannable, PartScanned};
+ghost use Rattle.scan_rest.specs.Rest.{RowsFrom, RowsKeepable, RowsKept, SignsKeepable, SignsFit, PartAllowed, RestEnded, PartScannable, PartScanned, PartLeft};
 
 // The rows of the patterns from an index on, unless they were filled from there.
 fn keep_rows(
@@ -21,13 +21,33 @@ fn keep_rows(
     rows: &mut [u8; ROW_BYTES],
 )
     requires { ⌜ RowsKeepable k (now orders) (now masks) filled index (now rows) ⌝ }
-    ensures { λ _. ⌜ RowsFrom k (now (orders .entry)) (now (masks .entry)) index (now (rows .exit)) ⌝ }
+    ensures { λ _. ⌜ RowsKept k (now (orders .entry)) (now (masks .entry)) filled index (now (rows .entry)) (now (rows .exit)) ⌝ }
 {
     if filled == index {
         return;
     }
     let from = index * (k + 1);
     scan_rows::fill_rows(k, &orders[from..], &masks[index..], rows);
+}
+
+// Their signs, where places are lent for them, unless they were filled with these rows.
+fn keep_signs(
+    rows: &[u8; ROW_BYTES],
+    patterns: usize,
+    filled: usize,
+    index: usize,
+    signs: &mut [u16],
+)
+    requires { ⌜ SignsKeepable (now rows) patterns filled index (now signs) ⌝ }
+    ensures { λ _. ⌜ SignsFit (now (rows .entry)) patterns (now (signs .exit)) ⌝ }
+{
+    if filled == index {
+        return;
+    }
+    if signs.len() == 0 {
+        return;
+    }
+    precedence_closing::fill_signs(rows, patterns, signs);
 }
 
 // The candidates that a part may take of those left: a rest no more than it has, so that it ends with its cut set.
@@ -37,7 +57,7 @@ fn part_allowed(index: usize, patterns: usize, left: u64) -> u64
     if index == 0 {
         return left;
     }
-    scan_stretch::still_allowed(patterns, left) as u64
+    scan_step::still_allowed(patterns, left) as u64
 }
 
 // How a rest ended, by how it did as a stretch of its own.
@@ -74,6 +94,7 @@ pub fn scan_part(
     orders: &[u8],
     masks: &[u8],
     rows: &mut [u8; ROW_BYTES],
+    signs: &mut [u16],
     index: usize,
     route: &[u32],
     forward: &[u64; STOPS],
@@ -84,14 +105,17 @@ pub fn scan_part(
     since: usize,
     cuts: &mut [usize],
     joint: &mut [u64; CELLS],
+    shared: &mut [u64; CELLS],
+    visits: &mut [u64],
     filled: usize,
     left: u64,
 ) -> Stretch
-    requires { ⌜ PartScannable (trip locations (now legs) (now latest) (now service) depot end (now pairs)) (now members) (now rows) (now orders) (now masks) index (now route) (now forward) (now backward) (now stayed) heads (now lateness) since (now cuts) (now joint) filled ⌝ }
-    ensures { λ r. ⌜ PartScanned (problem (trip locations (now (legs .entry)) (now (latest .entry)) (now (service .entry)) depot end (now (pairs .entry)))) (pattern-rows (length (now (cuts .entry))) (now (orders .entry)) (now (masks .entry))) (now (route .entry)) (now (cuts .entry)) index left r (now (cuts .exit)) (now (joint .exit)) × RowsFrom (length (now (cuts .entry))) (now (orders .entry)) (now (masks .entry)) index (now (rows .exit)) ⌝ }
+    requires { ⌜ PartScannable (trip locations (now legs) (now latest) (now service) depot end (now pairs)) (now members) (now rows) (now signs) (now orders) (now masks) index (now route) (now forward) (now backward) (now stayed) heads (now lateness) since (now cuts) (now joint) (now shared) (now visits) filled ⌝ }
+    ensures { λ r. ⌜ PartScanned (problem (trip locations (now (legs .entry)) (now (latest .entry)) (now (service .entry)) depot end (now (pairs .entry)))) (pattern-rows (length (now (cuts .entry))) (now (orders .entry)) (now (masks .entry))) (now (route .entry)) (now (cuts .entry)) index left r (now (cuts .exit)) (now (joint .exit)) × PartLeft (problem (trip locations (now (legs .entry)) (now (latest .entry)) (now (service .entry)) depot end (now (pairs .entry)))) (now (members .entry)) (now (orders .entry)) (now (masks .entry)) index (now (route .entry)) (length (now (cuts .entry))) (now (rows .exit)) (now (signs .exit)) (now (shared .exit)) (now (visits .exit)) ⌝ }
 {
     keep_rows(cuts.len(), orders, masks, filled, index, rows);
     let patterns = masks.len() - index;
+    keep_signs(rows, patterns, filled, index, signs);
     let allowed = part_allowed(index, patterns, left);
     let last = cuts.len() - 1;
     let here = cuts[last];
@@ -106,6 +130,7 @@ pub fn scan_part(
         members,
         rows,
         patterns,
+        &signs[..],
         route,
         forward,
         backward,
@@ -115,6 +140,8 @@ pub fn scan_part(
         since,
         cuts,
         joint,
+        shared,
+        visits,
         allowed,
     );
     if index == 0 {

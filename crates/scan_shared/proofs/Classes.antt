@@ -1,19 +1,21 @@
 -- The class of a row, state by state, and the least cost of each class, row by row. Assumes nothing.
-use mathlib.Core.Path.{_≡_, sym, _∙_}
+use mathlib.Core.Path.{_≡_, refl, sym, _∙_}
+use mathlib.Core.Bool.{Bool, true, false, true≢false}
 use mathlib.Core.Logic.{_≢_}
 use mathlib.Core.List.{List, [], _∷_}
 use Prim.Native.Nat.{ℕ, suc, _+_, _*_, _^_, _≤_, _<_}
 use native.Mathlib.Omega.{arith}
 use borrow.Author.Tests.{eq-eqb, ne-eqb}
 use borrow.Author.Count.{below-more}
+use lib.Bits.{bitAnd}
 use lib.ListN.{length, getD, set, length-set, List·getD-eq-default}
 use lib.Seq.{getD-set-same, getD-set-other}
 use native.Mathlib.Decide.{ℕ-discrete, decLt}
 use Rattle.scan_joints.specs.States.{row}
 use Rattle.scan_joints.specs.JointTable.{chain, Chainable}
-use Rattle.scan_joints.proofs.Rows.{row-read}
+use Rattle.scan_joints.proofs.Rows.{row-read, set-small}
 use Rattle.scan_shared.specs.Bound.{next-state, class}
-use Rattle.scan_shared.specs.Filling.{Lowered, Classable, ClassIs, RowClassable, LowFillable, LowOf}
+use Rattle.scan_shared.specs.Filling.{all-open, open-by, Lowered, Classable, ClassIs, RowClassable, LowFillable, LowOf, RowOpen, RowLowered, OpenFillable, OpenLow, Lowerable, Relowered}
 
 class-hit : (p a b : ℕ) (bs : List ℕ) → b ≡ p → class p a (b ∷ bs) ≡ next-state bs
 unfolding class
@@ -95,8 +97,8 @@ stored-low {low} {c} {cost} n l h =
     by x here (yes e) = rw e (omega arith)
     by x here (no m) = rw (getD-set-other low c x cost 0 m) (omega arith)
 
-pub no-rows-low : {rows : List ℕ} {count p : ℕ} {table low : List ℕ} → LowFillable rows count p table low → LowOf rows 0 p table low
-no-rows-low g = record { places = g .low-places; small = g .low-small; known = λ i h. absurd (omega arith); below = λ i h. absurd (omega arith) }
+pub no-rows-low : {is-open : ℕ → Bool} {rows : List ℕ} {p : ℕ} {table low : List ℕ} → length low ≡ 21 → ((c : ℕ) → getD low c 0 ≤ 2 ^ 40) → LowOf is-open rows 0 p table low
+no-rows-low n s = record { places = n; small = s; known = λ i h. absurd (omega arith); below = λ i h. absurd (omega arith) }
 
 pub row-at : {rows : List ℕ} {count p : ℕ} {table low : List ℕ} → LowFillable rows count p table low → (i : ℕ) → i < count → RowClassable rows i p
 row-at g i h =
@@ -106,12 +108,77 @@ pub chainable : {rows : List ℕ} {count p : ℕ} {table low : List ℕ} → Low
 chainable g i h =
     record { padded = g .padded; places = g .rows-fit .places; within = omega (arith, g .rows-fit .few); known = λ c l m. g .rows-fit .known c (omega arith) }
 
-pub more-low : {rows : List ℕ} {p : ℕ} {table low low′ : List ℕ} {i k v : ℕ} → LowOf rows i p table low → ClassIs p (row rows i) k → v ≡ chain table 9 (row rows i) → Lowered low k v low′ → LowOf rows (i + 1) p table low′
-more-low {rows} {p} {table} {low} {low′} {i} {k} {v} w k-is v-is l =
+pub more-low : {is-open : ℕ → Bool} {rows : List ℕ} {p : ℕ} {table low low′ : List ℕ} {i k v : ℕ} → LowOf is-open rows i p table low → ClassIs p (row rows i) k → v ≡ chain table 9 (row rows i) → Lowered low k v low′ →
+    LowOf is-open rows (i + 1) p table low′
+more-low {is-open} {rows} {p} {table} {low} {low′} {i} {k} {v} w k-is v-is l =
     record {
       places = l .places;
       small = λ c. omega (arith, l .rest c, w .small c);
-      known = below-more (λ x. class p 9 (row rows x) < 20) i (w .known) (omega (arith, k-is .is, k-is .small));
-      below = below-more (λ x. getD low′ (class p 9 (row rows x)) 0 ≤ chain table 9 (row rows x)) i (λ x h. omega (arith, l .rest (class p 9 (row rows x)), w .below x h))
-          (rw (← (k-is .is), ← v-is) (l .at));
+      known = below-more (λ x. is-open x ≡ true → class p 9 (row rows x) < 20) i (w .known) (λ _. omega (arith, k-is .is, k-is .small));
+      below = below-more (λ x. is-open x ≡ true → getD low′ (class p 9 (row rows x)) 0 ≤ chain table 9 (row rows x)) i (λ x h o. omega (arith, l .rest (class p 9 (row rows x)), w .below x h o))
+          (λ _. rw (← (k-is .is), ← v-is) (l .at));
     }
+
+-- ---- of the rows that are open
+
+-- A closed row lowers nothing.
+closed-more : {is-open : ℕ → Bool} {rows : List ℕ} {p : ℕ} {table low : List ℕ} {i : ℕ} → is-open i ≡ false → LowOf is-open rows i p table low → LowOf is-open rows (i + 1) p table low
+closed-more {is-open} {rows} {p} {table} {low} {i} n w =
+    record {
+      places = w .places;
+      small = w .small;
+      known = below-more (λ x. is-open x ≡ true → class p 9 (row rows x) < 20) i (w .known) (λ e. absurd (true≢false (sym e ∙ n)));
+      below = below-more (λ x. is-open x ≡ true → getD low (class p 9 (row rows x)) 0 ≤ chain table 9 (row rows x)) i (w .below) (λ e. absurd (true≢false (sym e ∙ n)));
+    }
+
+module _ {rows : List ℕ} {i p : ℕ} {table signs low : List ℕ} (given : RowOpen rows i p table signs low) where
+  pub open-class : RowClassable rows i p
+  open-class = record { last = given .last; places = given .places; within = given .within; known = given .known }
+
+  pub open-chain : Chainable table rows i
+  open-chain = record { padded = given .padded; places = given .places; within = given .within; known = given .known }
+
+  pub row-closed : {blocked : ℕ} (some : Bool) → bitAnd (getD signs i 0) blocked ≢ 0 → RowLowered rows i p table signs blocked some low low some
+  row-closed {blocked} some n =
+      let e : open-by signs blocked i ≡ false = ne-eqb (bitAnd (getD signs i 0) blocked) 0 n in
+      record { more = closed-more e; places = given .low-places; none = λ q. (q, e) }
+
+  pub row-lowered : {blocked : ℕ} (some : Bool) {low′ : List ℕ} {k v : ℕ} → ClassIs p (row rows i) k → v ≡ chain table 9 (row rows i) → Lowered low k v low′ → RowLowered rows i p table signs blocked some low low′ true
+  row-lowered some k-is v-is l = record { more = λ w. more-low w k-is v-is l; places = l .places; none = λ q. absurd (true≢false q) }
+
+pub row-opened : {rows : List ℕ} {count p : ℕ} {table signs : List ℕ} {blocked : ℕ} {low₀ low : List ℕ} → OpenFillable rows count p table signs blocked low₀ → 0 < blocked → length low ≡ 21 → (i : ℕ) → i < count → RowOpen rows i p table signs low
+row-opened g b n i h =
+    record {
+      last = g .last;
+      places = g .rows-fit .places;
+      within = omega (arith, g .rows-fit .few);
+      known = λ c l m. g .rows-fit .known c (omega arith);
+      padded = g .padded;
+      sign-places = g .signed b;
+      low-places = n;
+    }
+
+-- All rows, where nothing is blocked.
+pub all-lowered : {signs : List ℕ} {blocked : ℕ} {rows : List ℕ} {count p : ℕ} {table low : List ℕ} → LowOf all-open rows count p table low → OpenLow signs blocked rows count p table low true
+all-lowered w =
+    record {
+      low-of = record { places = w .places; small = w .small; known = λ i h o. w .known i h refl; below = λ i h o. w .below i h refl };
+      none = λ q. absurd (true≢false q);
+    }
+
+-- ---- the least costs anew, beside the standing cost
+
+module _ {rows : List ℕ} {count p : ℕ} {table signs : List ℕ} {blocked : ℕ} {low : List ℕ} (given : Lowerable rows count p table signs blocked low) where
+  pub cleared : {low′ : List ℕ} → (length low′ ≡ 21) × ((c : ℕ) → getD low′ c 0 ≤ 2 ^ 40) → OpenFillable rows count p table signs blocked low′
+  cleared w = record { last = given .last; rows-fit = given .rows-fit; padded = given .padded; signed = given .signed; low-places = w .0; low-small = w .1 }
+
+  pub relowered : {low′ : List ℕ} {some : Bool} (v : ℕ) → v ≡ getD low 20 0 → OpenLow signs blocked rows count p table low′ some → Relowered signs blocked rows count p table low (set low′ 20 v) some
+  relowered {low′} {some} v e w =
+      let o = w .low-of in
+      record {
+        places = length-set low′ 20 v ∙ o .places;
+        small = λ c. set-small low′ 20 v c (2 ^ 43) (omega (arith, e, given .low-small 20)) (λ n. omega (arith, o .small c));
+        standing = getD-set-same low′ 20 v 0 (omega (arith, o .places)) ∙ e;
+        below = λ i h q. rw (getD-set-other low′ 20 (class p 9 (row rows i)) v 0 (λ z. omega (arith, o .known i h q, z))) (o .below i h q);
+        none = w .none;
+      }

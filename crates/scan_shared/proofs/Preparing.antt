@@ -1,6 +1,6 @@
 -- What is kept of the first cuts, from the filled table and the least costs. Assumes nothing.
 use mathlib.Core.Path.{_≡_, refl, sym, ap, _∙_}
-use mathlib.Core.Bool.{cond}
+use mathlib.Core.Bool.{Bool, true, cond}
 use mathlib.Core.Logic.{_⊎_, inl, inr}
 use mathlib.Core.List.{List, [], _∷_, _++_, map, List·Memᴰ, List·Memᴰ·head, List·Memᴰ·tail, Memᴰ·of-map}
 use Prim.Native.Nat.{ℕ, zero, suc, _+_, _-_, _*_, _^_, _≤_, _<_}
@@ -23,9 +23,9 @@ use Rattle.scan_joints.proofs.States.{state-below}
 use Rattle.scan_joints.proofs.Rows.{set-small, row-read}
 use Rattle.scan_joints.proofs.Ends.{inside-is, inside-small, entry-known, exit-known, head-below}
 use Rattle.scan_joints.proofs.Chain as Chain
-use Rattle.scan_shared.specs.Bound.{chain-by, class, exit-of, fixed-by, opened}
-use Rattle.scan_shared.specs.Prepared.{Prepared, Opened}
-use Rattle.scan_shared.specs.Filling.{fixed-cell, Fixable, FixedTable, LowOf, Preparable, PreparedNow}
+use Rattle.scan_shared.specs.Bound.{chain-by, class, exit-of, fixed-by, opened, last-state}
+use Rattle.scan_shared.specs.Prepared.{shared, RowsFit, Prepared, Opened}
+use Rattle.scan_shared.specs.Filling.{fixed-cell, open-by, Blank, Fixable, FixedTable, OpenLow, Relowered, Preparable, PreparedNow, Tabled, Sharing}
 use Rattle.scan_shared.proofs.Padding as Padding
 
 -- ---- the first cuts and the last
@@ -59,6 +59,9 @@ zero-at (suc n) (suc c) = zero-at n c
 pub no-cells : Padded (replicate 160 0)
 no-cells = record { places = refl; padding = refl; small = λ c. rw (zero-at 160 c) (omega arith) }
 
+pub no-table : (p : ℕ) → Blank p (replicate 160 0)
+no-table p = record { padded = no-cells; moved = λ a b l h o. zero-at 160 (16 * a + b); unused = λ a b l m h. zero-at 160 (16 * a + b) }
+
 -- ---- chains
 
 module _ (J : List ℕ) (T : ℕ → ℕ → ℕ) where
@@ -80,8 +83,8 @@ chain-small J a (b ∷ bs) h = omega (arith, h (16 * a + b), chain-small J b bs 
 
 -- ---- what is kept
 
-module _ {locations : ℕ} {legs : List ℕ} {depot : ℕ} {r forwards backwards cuts rows : List ℕ} {count : ℕ} {entries₀ exits₀ inside₀ low₀ : List ℕ}
-    (given : Preparable locations legs depot r forwards backwards cuts rows count entries₀ exits₀ inside₀ low₀) where
+module _ {locations : ℕ} {legs : List ℕ} {depot : ℕ} {r forwards backwards cuts rows : List ℕ} {count : ℕ} {signs : List ℕ} {blocked : ℕ} {entries₀ exits₀ inside₀ low₀ table₀ : List ℕ}
+    (given : Preparable locations legs depot r forwards backwards cuts rows count signs blocked entries₀ exits₀ inside₀ low₀ table₀) where
   pub joinable : Joinable locations legs depot depot r forwards backwards cuts (replicate 160 0)
   joinable =
       record { measurable = given .cut .measurable; forwards = given .cut .forwards; backwards = given .cut .backwards; cut-set = given .cut .cut-set; padded = no-cells }
@@ -94,7 +97,7 @@ module _ {locations : ℕ} {legs : List ℕ} {depot : ℕ} {r forwards backwards
 
   module _ {entries exits inside : List ℕ} (e : StateEnds r forwards backwards cuts (state-count (length cuts)) entries exits inside) (head : ℕ)
       (head-is : head ≡ last-of depot (getD (segments 0 cuts r) 0 [])) where
-    pub fixable : Fixable locations legs (2 * (length cuts - 2)) entries exits inside (replicate 160 0) × (head < locations)
+    pub fixable : Fixable locations legs (2 * (length cuts - 2)) entries exits inside table₀ × (head < locations)
     fixable = (
       record {
         last = omega (arith, few .1);
@@ -103,8 +106,7 @@ module _ {locations : ℕ} {legs : List ℕ} {depot : ℕ} {r forwards backwards
         entries-known = λ s h. let l : s < state-count (length cuts) = omega (arith, few .0) in rw (e .entry s l) (entry-known joinable s l);
         exits-known = λ s h. let l : s < state-count (length cuts) = omega (arith, few .0) in rw (e .exit s l) (exit-known joinable s l);
         inside-small = λ s h. let l : s < state-count (length cuts) = omega (arith, few .0) in rw (e .legs s l) (inside-small joinable s l);
-        padded = no-cells;
-        blank = zero-at 160;
+        blank = given .blank;
       },
       rw head-is (head-below joinable),
     )
@@ -125,7 +127,7 @@ module _ {locations : ℕ} {legs : List ℕ} {depot : ℕ} {r forwards backwards
             let m : b < state-count (length cuts) = omega (arith, few .0) in
             rw (same-exit a w, e .entry b m, e .legs b m, inside-is joinable b m)
 
-    module _ {table low : List ℕ} (t : FixedTable locations legs head p entries exits inside table) (w : LowOf rows count p table low) (v : ℕ)
+    module _ {table low : List ℕ} {some : Bool} (t : FixedTable locations legs head p entries exits inside table) (w : OpenLow signs blocked rows count p table low some) (v : ℕ)
         (v-is : v ≡ chain table 9 (standing-row (length cuts))) where
       cell-is : (a b : ℕ) → (a < suc (suc p)) ⊎ (a ≡ 9) → b < 10 → cell table a b ≡ T a b
       cell-is a b k h = t .filled a b k (omega arith) ∙ same-cell a b k
@@ -136,7 +138,7 @@ module _ {locations : ℕ} {legs : List ℕ} {depot : ℕ} {r forwards backwards
           by : Dec (a < suc (suc p)) → Dec (a ≡ 9) → cell table a b ≤ T a b
           by (yes k) y = omega (arith, cell-is a b (inl k) h)
           by (no k) (yes y) = omega (arith, cell-is a b (inr y) h)
-          by (no k) (no y) = omega (arith, t .blank a b (omega arith) (omega (arith, y)) (omega arith))
+          by (no k) (no y) = omega (arith, t .blank .unused a b (omega arith) (omega (arith, y)) (omega arith))
 
       blank : T 8 8 ≡ 0
       blank = rw (lt-ltb p 8 (omega (arith, few .1)))
@@ -145,9 +147,9 @@ module _ {locations : ℕ} {legs : List ℕ} {depot : ℕ} {r forwards backwards
       unfolding standing-row
       standing-is =
           let bs : List ℕ = map (state-of 0) (upfrom 1 (length cuts - 1)) in
-          getD-set-same low 20 v 0 (omega (arith, w .places))
+          getD-set-same low 20 v 0 (omega (arith, w .low-of .places))
           ∙ v-is
-          ∙ Chain.chain-padded table 9 (5 - length cuts) bs (t .padded .padding)
+          ∙ Chain.chain-padded table 9 (5 - length cuts) bs (t .blank .padded .padding)
           ∙ chain-same table T (suc (suc p)) 9 bs cell-is (omega (arith, few .1)) (inr refl) below
           ∙ sym (Padding.chain-padded T blank 9 (5 - length cuts) bs)
         where
@@ -160,39 +162,92 @@ module _ {locations : ℕ} {legs : List ℕ} {depot : ℕ} {r forwards backwards
       row-known : (i x : ℕ) → i < count → x < 4 → getD rows (4 * i + x) 0 ≤ 8
       row-known i x h l = given .rows-fit .known (4 * i + x) (omega arith)
 
-      least-is : (i : ℕ) → i < count → getD (set low 20 v) (class p 9 (row rows i)) 0 ≤ chain-by T 9 (row rows i)
-      least-is i h =
-          let n = w .known i h in
+      row-most : (i : ℕ) → i < count → chain table 9 (row rows i) ≤ chain-by T 9 (row rows i)
+      row-most i h =
           let read = row-read rows (4 * i) (omega (arith, given .rows-fit .places, given .rows-fit .few)) in
-          let most : chain table 9 (row rows i) ≤ chain-by T 9 (row rows i) =
-          rw read (chain-most table T _ _ _ _ cell-most (given .rows-fit .known (4 * i) (omega arith)) (row-known i 1 h (omega arith)) (row-known i 2 h (omega arith)) (row-known i 3 h (omega arith))) in
-          rw (getD-set-other low 20 (class p 9 (row rows i)) v 0 (λ q. omega (arith, n, q))) (omega (arith, w .below i h, most))
+          rw read (chain-most table T _ _ _ _ cell-most (given .rows-fit .known (4 * i) (omega arith)) (row-known i 1 h (omega arith)) (row-known i 2 h (omega arith)) (row-known i 3 h (omega arith)))
+
+      least-is : (i : ℕ) → i < count → open-by signs blocked i ≡ true → getD (set low 20 v) (class p 9 (row rows i)) 0 ≤ chain-by T 9 (row rows i)
+      least-is i h o =
+          let n = w .low-of .known i h o in
+          rw (getD-set-other low 20 (class p 9 (row rows i)) v 0 (λ q. omega (arith, n, q))) (omega (arith, w .low-of .below i h o, row-most i h))
 
       four : length (standing-row (length cuts)) ≡ 4
       unfolding standing-row
       four = simp (length-append, length-map, length-upfrom, length-replicate) (omega (arith, few .0, few .1))
 
       v-small : v ≤ 2 ^ 43
-      v-small = omega (arith, v-is, chain-small table 9 (standing-row (length cuts)) (t .padded .small), four)
+      v-small = omega (arith, v-is, chain-small table 9 (standing-row (length cuts)) (t .blank .padded .small), four)
 
-      kept-at : (pre : List ℕ) → opened pre ≡ cuts → suc (length pre) ≡ length cuts → Prepared locations legs depot r pre rows count entries exits inside (set low 20 v)
-      kept-at pre o n =
-          let pe : 2 * (length pre - 1) ≡ 2 * (length cuts - 2) = omega arith in
-          record {
-            entry = λ s h. rw o (e .entry s (omega arith));
-            exit = λ s h. rw o (e .exit s (omega arith));
-            within = λ s h. let l : s < state-count (length cuts) = omega arith in rw o (e .legs s l ∙ inside-is joinable s l);
-            standing = rw (o, pe, n) standing-is;
-            least = λ i h. rw (o, pe) (least-is i h);
-          }
+      module _ (pre : List ℕ) (o : opened pre ≡ cuts) (n : suc (length pre) ≡ length cuts) where
+        same : 2 * (length pre - 1) ≡ 2 * (length cuts - 2)
+        same = omega arith
 
-      pub keeps : PreparedNow locations legs depot r cuts rows count entries exits inside (set low 20 v)
+        kept-at : Prepared locations legs depot r pre [] 0 entries exits inside (set low 20 v)
+        kept-at =
+            record {
+              entry = λ s h. rw o (e .entry s (omega arith));
+              exit = λ s h. rw o (e .exit s (omega arith));
+              within = λ s h. let l : s < state-count (length cuts) = omega arith in rw o (e .legs s l ∙ inside-is joinable s l);
+              standing = rw (o, same, n) standing-is;
+              least = λ i h. absurd (omega arith);
+            }
+
+        least-at : (i : ℕ) → i < count → open-by signs blocked i ≡ true → getD (set low 20 v) (class (last-state pre) 9 (row rows i)) 0 ≤ chain-by (shared locations legs depot r pre) 9 (row rows i)
+        least-at i h q = rw (o, same) (least-is i h q)
+
+        most-at : (i : ℕ) → i < count → chain table 9 (row rows i) ≤ chain-by (shared locations legs depot r pre) 9 (row rows i)
+        most-at i h = rw (o, same) (row-most i h)
+
+      pub keeps : Sharing locations legs depot r cuts rows count signs blocked entries exits inside (set low 20 v) table some
       keeps =
+          let o = sym (cuts-opened cuts (few .0) (given .first)) in
+          let n : suc (length (first-cuts cuts)) ≡ length cuts = omega (arith, first-many cuts, few .0) in
           record {
-            places = record {
-              ends = e .places;
-              low-places = length-set low 20 v ∙ w .places;
-              low-small = λ c. set-small low 20 v c (2 ^ 43) v-small (λ n. omega (arith, w .small c));
+            prepared = record {
+              places = record {
+                ends = e .places;
+                low-places = length-set low 20 v ∙ w .low-of .places;
+                low-small = λ c. set-small low 20 v c (2 ^ 43) v-small (λ n. omega (arith, w .low-of .small c));
+              };
+              prepared = kept-at (first-cuts cuts) o n;
+              least = least-at (first-cuts cuts) o n;
             };
-            prepared = kept-at (first-cuts cuts) (sym (cuts-opened cuts (few .0) (given .first))) (omega (arith, first-many cuts, few .0));
+            tabled = record { blank = t .blank; most = most-at (first-cuts cuts) o n };
+            none = w .none;
           }
+
+-- ---- the least costs anew
+
+module _ {locations : ℕ} {legs : List ℕ} {depot : ℕ} {r cuts rows : List ℕ} {count : ℕ} {is-open : ℕ → Bool} {entries exits inside low table signs : List ℕ} {blocked : ℕ} {low′ : List ℕ} {some : Bool}
+    (before : PreparedNow locations legs depot r cuts rows count is-open entries exits inside low) (tabled : Tabled locations legs depot r cuts rows count table) (two : 2 ≤ length cuts)
+    (w : Relowered signs blocked rows count (2 * (length cuts - 2)) table low low′ some) where
+  pub prepared-anew : PreparedNow locations legs depot r cuts rows count (open-by signs blocked) entries exits inside low′
+  prepared-anew =
+      let k = before .prepared in
+      let same : last-state (first-cuts cuts) ≡ 2 * (length cuts - 2) = omega (arith, first-many cuts) in
+      record {
+        places = record { ends = before .places .ends; low-places = w .places; low-small = w .small };
+        prepared = record { entry = k .entry; exit = k .exit; within = k .within; standing = w .standing ∙ k .standing; least = λ i h. absurd (omega arith) };
+        least = λ i h o. omega (arith, ap (λ q. getD low′ (class q 9 (row rows i)) 0) same, w .below i h o, tabled .most i h);
+      }
+
+-- ---- one open row alone
+
+row-again : (rows : List ℕ) (i : ℕ) → 4 * i + 4 ≤ length rows → row (row rows i) 0 ≡ row rows i
+row-again rows i h = rw (row-read rows (4 * i) h)
+
+pub row-prepared : {locations : ℕ} {legs : List ℕ} {depot : ℕ} {r cuts rows : List ℕ} {count : ℕ} {is-open : ℕ → Bool} {entries exits inside low : List ℕ} →
+    PreparedNow locations legs depot r cuts rows count is-open entries exits inside low → RowsFit rows count → (i : ℕ) → i < count → is-open i ≡ true →
+    Prepared locations legs depot r (first-cuts cuts) (row rows i) 1 entries exits inside low
+row-prepared {locations} {legs} {depot} {r} {cuts} {rows} {count} {is-open} {entries} {exits} {inside} {low} w fit i h o =
+    let k = w .prepared in
+    let again : row (row rows i) 0 ≡ row rows i = row-again rows i (omega (arith, fit .places, fit .few)) in
+    record { entry = k .entry; exit = k .exit; within = k .within; standing = k .standing; least = λ x l. one x (omega arith) again }
+  where
+    one : (x : ℕ) → x ≡ 0 → row (row rows i) 0 ≡ row rows i →
+        getD low (class (last-state (first-cuts cuts)) 9 (row (row rows i) x)) 0 ≤ chain-by (shared locations legs depot r (first-cuts cuts)) 9 (row (row rows i) x)
+    one x e again = rw (e, again) (w .least i h o)
+
+pub row-alone : {rows : List ℕ} {count : ℕ} → RowsFit rows count → (i : ℕ) → i < count → row (row rows i) 0 ≡ row rows i
+row-alone {rows} fit i h = row-again rows i (omega (arith, fit .places, fit .few))

@@ -12,7 +12,7 @@ ghost use mathlib.Core.List.{[], _∷_};
 ghost use Prim.Native.Nat.{ℕ, _+_, _^_, _<_, _≤_};
 ghost use lib.ListN.{length, getD};
 ghost use Rattle.scan_joints.specs.States.{row};
-ghost use Rattle.scan_shared.specs.Filling.{Lowered, Classable, ClassIs, RowClassable, LowFillable, LowOf, Fixable, FixedRows, FixedTable, Preparable, PreparedNow};
+ghost use Rattle.scan_shared.specs.Filling.{all-open, Lowered, Classable, ClassIs, RowClassable, LowFillable, LowOf, RowOpen, RowLowered, OpenFillable, OpenLow, Lowerable, Relowered, Fixable, FixedRows, FixedTable, Preparable, Sharing};
 
 // The least costs by class: at a state or the tail where that follows P as it stands, at REVERSED and a state or the head where P reversed follows that. Behind them is
 // the standing cost.
@@ -98,7 +98,7 @@ fn fill_low(
     low: &mut [u64; LOW_PLACES],
 )
     requires { ⌜ LowFillable (now rows) count p (now table) (now low) ⌝ }
-    ensures { λ _. ⌜ LowOf (now (rows .entry)) count p (now (table .entry)) (now (low .exit)) ⌝ }
+    ensures { λ _. ⌜ LowOf all-open (now (rows .entry)) count p (now (table .entry)) (now (low .exit)) ⌝ }
 {
     let mut i = 0;
     while i < count {
@@ -106,6 +106,90 @@ fn fill_low(
         lower(low, class, scan_joints::chain4(table, rows, i));
         i += 1;
     }
+}
+
+// Row i, if it is open; `some` tells of those before it.
+fn lower_row(
+    rows: &[u8; ROW_BYTES],
+    i: usize,
+    p: usize,
+    table: &[u64; CELLS],
+    signs: &[u16],
+    blocked: u16,
+    some: bool,
+    low: &mut [u64; LOW_PLACES],
+) -> bool
+    requires { ⌜ RowOpen (now rows) i p (now table) (now signs) (now low) ⌝ }
+    ensures { λ r. ⌜ RowLowered (now (rows .entry)) i p (now (table .entry)) (now (signs .entry)) blocked some (now (low .entry)) (now (low .exit)) r ⌝ }
+{
+    if signs[i] & blocked != 0 {
+        return some;
+    }
+    let class = row_class(rows, i, p);
+    lower(low, class, scan_joints::chain4(table, rows, i));
+    true
+}
+
+// The least cost of each class over the open rows, and whether there are any.
+fn fill_open(
+    rows: &[u8; ROW_BYTES],
+    count: usize,
+    p: usize,
+    table: &[u64; CELLS],
+    signs: &[u16],
+    blocked: u16,
+    low: &mut [u64; LOW_PLACES],
+) -> bool
+    requires { ⌜ OpenFillable (now rows) count p (now table) (now signs) blocked (now low) × (0 < blocked) ⌝ }
+    ensures { λ r. ⌜ OpenLow (now (signs .entry)) blocked (now (rows .entry)) count p (now (table .entry)) (now (low .exit)) r ⌝ }
+{
+    let mut some = false;
+    let mut i = 0;
+    while i < count {
+        some = lower_row(rows, i, p, table, signs, blocked, some, low);
+        i += 1;
+    }
+    some
+}
+
+// The same, where nothing may be closed.
+fn fill_classes(
+    rows: &[u8; ROW_BYTES],
+    count: usize,
+    p: usize,
+    table: &[u64; CELLS],
+    signs: &[u16],
+    blocked: u16,
+    low: &mut [u64; LOW_PLACES],
+) -> bool
+    requires { ⌜ OpenFillable (now rows) count p (now table) (now signs) blocked (now low) ⌝ }
+    ensures { λ r. ⌜ OpenLow (now (signs .entry)) blocked (now (rows .entry)) count p (now (table .entry)) (now (low .exit)) r ⌝ }
+{
+    if blocked == 0 {
+        fill_low(rows, count, p, table, low);
+        return true;
+    }
+    fill_open(rows, count, p, table, signs, blocked, low)
+}
+
+// The least costs anew, over the rows that are open now; the standing cost stays.
+pub fn lower_again(
+    rows: &[u8; ROW_BYTES],
+    count: usize,
+    p: usize,
+    table: &[u64; CELLS],
+    signs: &[u16],
+    blocked: u16,
+    low: &mut [u64; LOW_PLACES],
+) -> bool
+    requires { ⌜ Lowerable (now rows) count p (now table) (now signs) blocked (now low) ⌝ }
+    ensures { λ r. ⌜ Relowered (now (signs .entry)) blocked (now (rows .entry)) count p (now (table .entry)) (now (low .entry)) (now (low .exit)) r ⌝ }
+{
+    let standing = low[STANDING];
+    clear_low(low);
+    let some = fill_classes(rows, count, p, table, signs, blocked, low);
+    low[STANDING] = standing;
+    some
 }
 
 // The rows of the states before P.
@@ -157,7 +241,8 @@ fn fill_fixed(
     scan_joints::fill_row(locations, legs, head, back, entries, inside, HEAD, table);
 }
 
-// What the cut sets with these first cuts share: the ends of the states before P, the least cost of each class, and the standing cost.
+// What the cut sets with these first cuts share: the ends of the states before P, the least cost of each class over the open rows, and the standing cost. The table may hold
+// what it held of other first cuts: what the last cut moves is never filled, and stays empty.
 pub fn prepare(
     locations: usize,
     legs: &[u32],
@@ -168,20 +253,23 @@ pub fn prepare(
     cuts: &[usize],
     rows: &[u8; ROW_BYTES],
     count: usize,
+    signs: &[u16],
+    blocked: u16,
     entries: &mut [u32; STATES],
     exits: &mut [u32; STATES],
     inside: &mut [u64; STATES],
     low: &mut [u64; LOW_PLACES],
-)
-    requires { ⌜ Preparable locations (now legs) depot (now route) (now forward) (now backward) (now cuts) (now rows) count (now entries) (now exits) (now inside) (now low) ⌝ }
-    ensures { λ _. ⌜ PreparedNow locations (now (legs .entry)) depot (now (route .entry)) (now (cuts .entry)) (now (rows .entry)) count (now (entries .exit)) (now (exits .exit)) (now (inside .exit)) (now (low .exit)) ⌝ }
+    table: &mut [u64; CELLS],
+) -> bool
+    requires { ⌜ Preparable locations (now legs) depot (now route) (now forward) (now backward) (now cuts) (now rows) count (now signs) blocked (now entries) (now exits) (now inside) (now low) (now table) ⌝ }
+    ensures { λ r. ⌜ Sharing locations (now (legs .entry)) depot (now (route .entry)) (now (cuts .entry)) (now (rows .entry)) count (now (signs .entry)) blocked (now (entries .exit)) (now (exits .exit)) (now (inside .exit)) (now (low .exit)) (now (table .exit)) r ⌝ }
 {
-    let mut table = [0u64; CELLS];
     let p = 2 * (cuts.len() - 2);
     scan_joints::fill_ends(route, forward, backward, cuts, entries, exits, inside);
     let head = costs::head_end(depot, route, cuts);
-    fill_fixed(locations, legs, head, p, entries, exits, inside, &mut table);
+    fill_fixed(locations, legs, head, p, entries, exits, inside, table);
     clear_low(low);
-    fill_low(rows, count, p, &table, low);
-    low[STANDING] = scan_joints::standing_cost(&table, cuts.len());
+    let some = fill_classes(rows, count, p, table, signs, blocked, low);
+    low[STANDING] = scan_joints::standing_cost(table, cuts.len());
+    some
 }

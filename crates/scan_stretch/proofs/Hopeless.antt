@@ -23,10 +23,11 @@ use Rattle.costs.proofs.Segments.{cut-below}
 use Rattle.deadline_dues.proofs.Judged.{candidate-too-late}
 use Rattle.precedence_contradictions.specs.Contrary.{Heads}
 use Rattle.scan_cut_set.proofs.Kept.{candidate-kept}
-use Rattle.scan_stretch.specs.declared.Stretch.{Stretch}
-use Rattle.scan_stretch.specs.Stretch.{Listed, Hopeful, Passable, Passed, Stretchable, Stretched, idle-end, improves-at}
-use Rattle.scan_stretch.proofs.LastCut.{not-empty, first-below, long, at-cut}
-use Rattle.scan_stretch.proofs.Stretching.{last-stored}
+use Rattle.scan_step.specs.declared.Stretch.{Stretch}
+use Rattle.scan_step.specs.Stepping.{Listed, idle-end, improves-at}
+use Rattle.scan_step.proofs.LastCut.{not-empty, first-below, long, at-cut}
+use Rattle.scan_step.proofs.Steps.{last-stored}
+use Rattle.scan_stretch.specs.Stretch.{Passable, Passed, Scannable, Stretchable, Stretched}
 
 pub passed-through : (stops patterns : ℕ) (cuts : List ℕ) (left over : ℕ) → 1 ≤ length cuts → over ≡ (stops + 1 - last-cut cuts) * patterns → over ≤ left →
     Passed stops patterns cuts left (idle-end over true) (set cuts (length cuts - 1) stops)
@@ -37,8 +38,8 @@ pub passed-spent : (stops patterns : ℕ) (cuts : List ℕ) (left over : ℕ) �
     Passed stops patterns cuts left (idle-end left false) cuts
 passed-spent stops patterns cuts left over e h = record { no-gain = refl; over = λ b. absurd (true≢false (sym b)); spent = λ _. (refl, omega (arith, e), refl) }
 
-module _ {T : Trip} {members rows : List ℕ} {patterns : ℕ} {r forwards backwards stayed : List ℕ} {heads : ℕ} {late : List ℕ} {since : ℕ} {cuts table : List ℕ}
-    (given : Stretchable T members rows patterns r forwards backwards stayed heads late since cuts table) where
+module _ {T : Trip} {members rows : List ℕ} {patterns : ℕ} {signs r forwards backwards stayed : List ℕ} {heads : ℕ} {late : List ℕ} {since : ℕ} {cuts table shared visits : List ℕ}
+    (given : Stretchable T members rows patterns signs r forwards backwards stayed heads late since cuts table shared visits) where
   abbrev own : CutSet (length cuts) (length r) cuts
   own = given .searchable .cut-set
 
@@ -50,19 +51,22 @@ module _ {T : Trip} {members rows : List ℕ} {patterns : ℕ} {r forwards backw
   within-longest (inl e) h = omega (arith, e, h)
   within-longest (inr e) h = absurd (omega (arith, e .0, h))
 
-  pub scannable : getD cuts 0 0 < heads → Hopeful T members rows patterns r forwards backwards stayed late since cuts table
+  pub scannable : getD cuts 0 0 < heads → Scannable T members rows patterns signs r forwards backwards stayed late since cuts table shared visits
   scannable l =
       let h = within-longest (given .head .left) l in
       record {
-        searchable = given .searchable;
-        list = given .list;
-        listed = given .listed;
-        padded = given .padded;
-        early = head-on-time (clock-by (T .tables)) (T .depot) r (given .head .punctual) (given .head .timed) (getD cuts 0 0) (omega (arith, h));
-        latenesses = given .latenesses;
-        lent = given .lent;
-        front = given .head .front .is (getD cuts 0 0) (cut-below cuts r own 0 (omega (arith, own .least))) ∙ le-leb (getD cuts 0 0) (given .head .reach) (omega (arith, h));
-        back = given .back;
+        lent = given .closing;
+        hopeful = record {
+          searchable = given .searchable;
+          list = given .list;
+          listed = given .listed;
+          padded = given .padded;
+          early = head-on-time (clock-by (T .tables)) (T .depot) r (given .head .punctual) (given .head .timed) (getD cuts 0 0) (omega (arith, h));
+          latenesses = given .latenesses;
+          lent = given .lent;
+          front = given .head .front .is (getD cuts 0 0) (cut-below cuts r own 0 (omega (arith, own .least))) ∙ le-leb (getD cuts 0 0) (given .head .reach) (omega (arith, h));
+          back = given .back;
+        };
       }
 
   module _ (l : heads ≤ getD cuts 0 0) where
@@ -116,7 +120,7 @@ module _ {T : Trip} {members rows : List ℕ} {patterns : ℕ} {r forwards backw
         by (inl e) (no n) = ap (λ b. (b && on-time) && shorter) (broken-there (omega (arith, e)))
 
     pub passed-over : {left : ℕ} {answer : Stretch} {cuts′ : List ℕ} → Passed (length r) patterns cuts left answer cuts′ →
-        Stretched (problem T) patterns rows r cuts left answer cuts′ table
+        Stretched (problem T) members patterns rows signs r cuts left answer cuts′ table shared visits
     passed-over {left} {answer} {cuts′} w =
         record {
           ended = λ ps u.
@@ -128,6 +132,8 @@ module _ {T : Trip} {members rows : List ℕ} {patterns : ℕ} {r forwards backw
                 spent = λ _ e. (w .spent e .0, rw (u .many) (w .spent e .1), ap first-cuts (w .spent e .2));
               };
           padded = given .padded;
+          blank = given .closing .blank;
+          kept = given .closing .kept;
         }
       where
         within : (b : Bool) → answer .through ≡ b → answer .examined ≤ left

@@ -1,5 +1,3 @@
-pub mod Counting
-mod LastCut
-pub mod Stretching
 mod Opening
+mod Stretching
 pub mod Hopeless

@@ -1,382 +1,172 @@
--- A stretch, over plain lists: what holds at each step, and what each end of a step gives. Assumes nothing.
+-- A stretch, last cut by last cut: what its loop begins with, and what it goes on with. Assumes nothing.
 use mathlib.Core.Path.{_≡_, refl, sym, ap, _∙_}
-use mathlib.Core.Bool.{Bool, true, false, true≢false, _&&_, and-false}
-use mathlib.Core.Logic.{inl, inr}
-use mathlib.Core.List.{List, [], _∷_, _++_}
-use Prim.Native.Nat.{ℕ, suc, min, _+_, _-_, _*_, _≤_, _<_}
+use mathlib.Core.Bool.{Bool, false}
+use mathlib.Core.Logic.{_⊎_, inl, inr}
+use mathlib.Core.List.{List}
+use Prim.Native.Nat.{ℕ, _+_, _-_, _*_, _≤_, _<_}
 use native.Mathlib.Omega.{arith}
-use native.Mathlib.Nat.{zero-mul}
-use native.Mathlib.Decide.{decLt}
-use lib.ListN.{length, getD, set, replicate}
-use lib.Seq.{set-at, getD-take}
+use lib.ListN.{length, getD, replicate}
 use Rattle.theory.specs.Moves.{Pattern}
 use Rattle.theory.specs.Pairs.{pairs-of}
-use Rattle.theory.specs.Route.{reconnected, feasible, tour-length}
-use Rattle.theory.specs.Scan.{improves}
-use Rattle.theory.specs.Polish.{search-of, move-at}
-use Rattle.theory.specs.Tables.{problem, clock-by, ForK, Trip}
+use Rattle.theory.specs.Tables.{problem, Trip}
 use Rattle.theory.proofs.Judged.{followed, to-end}
-use Rattle.costs.proofs.Segments.{head-at, cuts-parted, first-many}
-use Rattle.scan_joints.specs.JointTable.{Padded}
-use Rattle.scan_joints.specs.States.{row, states, no-pattern}
 use Rattle.costs.specs.RouteCosts.{first-cuts, last-cut}
-use Rattle.scan_shared.specs.Prepared.{Cut}
-use Rattle.scan_shared.specs.Filling.{PreparedNow}
-use Rattle.scan_shared.proofs.Preparing.{first-of-cuts, last-of-cuts, zero-at}
-use Rattle.scan_bound.specs.Tests.{Nextable, NextPromising}
-use Rattle.deadline_dues.specs.Dues.{DuesHeld}
-use Rattle.precedence.specs.Words.{PairsLent}
-use Rattle.precedence_marks.specs.Held.{MarksKept}
-use Rattle.scan_cut_set.specs.Gain.{FirstGain, Findable, Found}
-use Rattle.scan_stretch.specs.declared.Step.{Step}
-use Rattle.scan_stretch.specs.declared.Step.the-variants.{Done, On}
-use Rattle.scan_stretch.specs.Stretch.{Listed, Hopeful, Ended, GainAt, Going, StepTo, Triable, Steppable, Openable, idle-end, improves-at}
-use Rattle.scan_stretch.proofs.LastCut.{first-below, long, at-cut}
-use Rattle.scan_stretch.proofs.Counting.{count-to, count-next, count-least, up-to}
+use Rattle.scan_shared.specs.Prepared.{RowsFit}
+use Rattle.scan_shared.specs.Filling.{open-by, PreparedNow, Tabled, Lowerable, Relowered, Sharing}
+use Rattle.scan_shared.proofs.Preparing.{zero-at, prepared-anew}
+use Rattle.precedence.specs.Words.{Readable}
+use Rattle.precedence_closing.specs.Closing.{Signed}
+use Rattle.scan_step.specs.declared.Stretch.{Stretch}
+use Rattle.scan_step.specs.declared.Step.the-variants.{Done, On, Closed}
+use Rattle.scan_step.specs.Stepping.{Listed, Hopeful, Going, ClosingKept, Shutting, BlockAsked, BlockedAt, Steppable, Stepped}
+use Rattle.scan_step.proofs.Steps.{few-patterns, last-most, triable-on, prepared-on, shut-on, starts-bare}
+use Rattle.scan_stretch.specs.Stretch.{Openable, Scannable, Stretched}
 
--- ---- the last cut as the array has it
+module _ {T : Trip} {members rows : List ℕ} {patterns : ℕ} {signs r forwards backwards stayed late : List ℕ} {since : ℕ} {cuts table shared visits : List ℕ}
+    (given : Scannable T members rows patterns signs r forwards backwards stayed late since cuts table shared visits) where
+  words-read : ClosingKept (pairs-of (T .pairs)) members r signs visits → 0 < length signs → Readable members r × (length visits ≡ 1027) × (getD visits 1026 0 ≤ length r)
+  words-read (inl n) h = absurd (omega (arith, n, h))
+  words-read (inr m) h =
+      let w = given .hopeful .searchable .timed .measurable in
+      (record { places = m .1; short = w .stops .short; known = λ i k. omega (arith, w .stops .known i k, w .table .few) }, m .3 .places, m .3 .reach)
 
-pub last-stored : (l : List ℕ) (v : ℕ) → 1 ≤ length l → set l (length l - 1) v ≡ first-cuts l ++ (v ∷ [])
-last-stored l v h = ap (λ z. set z (length l - 1) v) (cuts-parted l h) ∙ set-at (first-cuts l) (last-cut l) [] v (length l - 1) (first-many l)
+  pub block-asked : BlockAsked members r cuts signs visits
+  block-asked =
+      let k = given .lent .kept in
+      record { cut-set = given .hopeful .searchable .cut-set; readable = λ h. words-read k h .0; visit-places = λ h. words-read k h .1; reach = λ h. words-read k h .2 }
 
--- ---- what is known of the cut set at hand
+  pub rows-fit : RowsFit rows patterns
+  rows-fit =
+      let w = given .hopeful .listed in
+      record { places = w .patterned .places; few = few-patterns (given .hopeful); known = rw (w .many) at (w .patterned .small) }
 
-module _ {T : Trip} {ps : List Pattern} {members r first : List ℕ} {left : ℕ} {cuts table dues words : List ℕ} {examined : ℕ} (going : Going T ps members r first left cuts table dues words examined) where
-  stored : (v : ℕ) → set cuts (length cuts - 1) v ≡ first-cuts first ++ (v ∷ [])
-  stored v = last-stored cuts v (omega (arith, going .cut-set .least)) ∙ ap (λ l. l ++ (v ∷ [])) (going .same)
+  module _ {visits′ : List ℕ} {blocked : ℕ} (now : BlockedAt members r since cuts signs visits visits′ blocked) where
+    pub kept-first : ClosingKept (pairs-of (T .pairs)) members r signs visits′
+    kept-first = now .is (pairs-of (T .pairs)) (given .lent .kept) (given .hopeful .back) .1
 
-  cuts-are : cuts ≡ first-cuts first ++ (last-cut cuts ∷ [])
-  cuts-are = cuts-parted cuts (omega (arith, going .cut-set .least)) ∙ ap (λ l. l ++ (last-cut cuts ∷ [])) (going .same)
+    pub shut-first : Shutting T rows patterns r cuts signs blocked
+    shut-first =
+        record { small = now .small; signed = λ b. given .lent .signed (now .by-signs b); shut = now .is (pairs-of (T .pairs)) (given .lent .kept) (given .hopeful .back) .0 }
 
-  pub last-most : last-cut cuts ≤ length r
-  last-most = first-below r cuts (going .cut-set) .1
-
-  first-same : getD cuts 0 0 ≡ getD first 0 0
-  first-same =
-      sym (getD-take (length cuts - 1) cuts 0 0 (omega (arith, going .cut-set .least)))
-      ∙ ap (λ l. getD l 0 0) (going .same)
-      ∙ getD-take (length first - 1) first 0 0 (omega (arith, going .begin .least))
-
-  answered : {e x : ℕ} {g w : Bool} {cuts′ table′ : List ℕ} → Padded table′ →
-      ((t y : ℕ) → last-cut first ≤ t → y < length ps → (t - last-cut first) * length ps + y < e → improves-at (problem T) ps r first t y ≡ false) → e ≤ left →
-      (g ≡ true → (e < left) × GainAt (problem T) ps r first e x cuts′) →
-      (w ≡ true → (e ≡ (length r + 1 - last-cut first) * length ps) × (cuts′ ≡ first-cuts first ++ (length r ∷ []))) →
-      (g ≡ false → w ≡ false → (e ≡ left) × (left < (length r + 1 - last-cut first) * length ps) × (first-cuts cuts′ ≡ first-cuts first)) →
-      Ended (problem T) ps r first left (record { examined = e; gains = g; through = w; pattern = x }) cuts′ × Padded table′
-  answered p idle allowed gain over spent = (record { idle = λ t y h l i n. idle t y h i n; allowed = allowed; gain = gain; over = over; spent = spent }, p)
-
-  -- The next cut set is behind the same head.
-  module _ {rows : List ℕ} {patterns : ℕ} {forwards backwards stayed late : List ℕ} {since : ℕ} {table₀ : List ℕ} (given : Hopeful T members rows patterns r forwards backwards stayed late since first table₀) where
-    pub hopeful-on : Hopeful T members rows patterns r forwards backwards stayed late since cuts table
-    hopeful-on =
-        let g = given .searchable in
+    pub openable : Openable (T .tables .locations) (T .tables .legs) (T .depot) r forwards backwards cuts rows patterns signs blocked (replicate 8 0) (replicate 8 0) (replicate 8 0) (replicate 21 0) shared
+    openable =
+        let g = given .hopeful .searchable in
         record {
-          searchable = record { timed = g .timed; forwards = g .forwards; backwards = g .backwards; stays = g .stays; cut-set = going .cut-set };
-          list = given .list;
-          listed = rw (going .many) (given .listed);
-          padded = going .padded;
-          early = rw first-same (given .early);
-          latenesses = given .latenesses;
-          lent = given .lent;
-          front = rw first-same (given .front);
-          back = given .back;
+          cut = record {
+            measurable = to-end (followed (g .timed .measurable)) (g .timed .measurable .depot-known);
+            forwards = g .forwards;
+            backwards = g .backwards;
+            cut-set = g .cut-set;
+          };
+          rows-fit = rows-fit;
+          signed = λ b. given .lent .signed (now .by-signs b) .places;
+          places = record { ends = record { entry-places = refl; exit-places = refl; inside-places = refl }; low-places = refl; low-small = λ c. rw (zero-at 21 c) (omega arith) };
+          blank = given .lent .blank;
         }
 
-    pub triable-on : Triable T members rows patterns r forwards backwards stayed late since cuts table dues words examined left
-    triable-on =
-        record { hopeful = hopeful-on; held = rw (going .same) (going .held); behind = going .behind; marks = rw (going .same) (going .marks); marks-behind = going .marks-behind; within = going .within }
+-- ---- what the loop holds
 
-    pub prepared-on : {entries exits inside low : List ℕ} → PreparedNow (T .tables .locations) (T .tables .legs) (T .depot) r first rows patterns entries exits inside low →
-        PreparedNow (T .tables .locations) (T .tables .legs) (T .depot) r cuts rows patterns entries exits inside low
-    prepared-on k = record { places = k .places; prepared = rw (going .same) (k .prepared) }
+-- Whatever patterns the rows are of, the candidates before the last cut at hand are examined; what is prepared, of the rows that are open there.
+pub record Turning (T : Trip) (members rows : List ℕ) (patterns : ℕ) (signs route cuts₀ entries exits inside : List ℕ) (left blocked : ℕ) (some : Bool) (cuts low table dues words visits : List ℕ) (examined : ℕ) : Type 0 where
+  pub going : (ps : List Pattern) → Listed (length cuts₀) patterns rows ps → Going T ps members route cuts₀ left cuts table dues words examined
+  pub prepared : PreparedNow (T .tables .locations) (T .tables .legs) (T .depot) route cuts₀ rows patterns (open-by signs blocked) entries exits inside low
+  pub none : some ≡ false → (i : ℕ) → i < patterns → open-by signs blocked i ≡ false
+  pub shutting : Shutting T rows patterns route cuts signs blocked
+  pub kept : ClosingKept (pairs-of (T .pairs)) members route signs visits
 
--- ---- the start
+-- And what no turn changes.
+pub record Begun (T : Trip) (members rows : List ℕ) (patterns : ℕ) (signs route forward-sums backward-sums stayed late : List ℕ) (since : ℕ) (cuts table shared : List ℕ) : Type 0 where
+  pub hopeful : Hopeful T members rows patterns route forward-sums backward-sums stayed late since cuts table
+  pub signed : 0 < length signs → Signed rows patterns signs
+  pub tabled : Tabled (T .tables .locations) (T .tables .legs) (T .depot) route cuts rows patterns shared
 
-module _ {T : Trip} {members rows : List ℕ} {patterns : ℕ} {r forwards backwards stayed late : List ℕ} {since : ℕ} {cuts table : List ℕ} (given : Hopeful T members rows patterns r forwards backwards stayed late since cuts table) where
-  cut : Cut (T .tables .locations) (T .tables .legs) (T .depot) (T .end) r forwards backwards cuts
-  cut = let g = given .searchable in record { measurable = g .timed .measurable; forwards = g .forwards; backwards = g .backwards; cut-set = g .cut-set }
+module _ {T : Trip} {members rows : List ℕ} {patterns : ℕ} {signs r forwards backwards stayed late : List ℕ} {since : ℕ} {cuts table shared visits : List ℕ}
+    (given : Scannable T members rows patterns signs r forwards backwards stayed late since cuts table shared visits)
+    {visits′ : List ℕ} {blocked : ℕ} (now : BlockedAt members r since cuts signs visits visits′ blocked) {cuts′ entries exits inside low shared′ : List ℕ} {some : Bool} (same : cuts′ ≡ cuts)
+    (share : Sharing (T .tables .locations) (T .tables .legs) (T .depot) r cuts rows patterns signs blocked entries exits inside low shared′ some) where
+  pub begun : Begun T members rows patterns signs r forwards backwards stayed late since cuts′ table shared′
+  begun = rw same (record { hopeful = given .hopeful; signed = given .lent .signed; tabled = share .tabled })
 
-  pub few-patterns : patterns ≤ 383
-  few-patterns = omega (arith, given .listed .patterned .few, given .listed .many)
+  pub first-turn : (left : ℕ) → Turning T members rows patterns signs r cuts′ entries exits inside left blocked some cuts′ low table (replicate 9 0) (replicate 17 0) visits′ 0
+  first-turn left =
+      rw same (record { going = λ ps w. starts-bare (given .hopeful) ps left; prepared = share .prepared; none = share .none; shutting = shut-first given now; kept = kept-first given now })
 
-  pub openable : Openable (T .tables .locations) (T .tables .legs) (T .depot) r forwards backwards cuts rows patterns (replicate 8 0) (replicate 8 0) (replicate 8 0) (replicate 21 0)
-  openable =
-      let w = given .listed .patterned in
+-- ---- a turn
+
+module _ {T : Trip} {members rows : List ℕ} {patterns : ℕ} {signs r forwards backwards stayed late : List ℕ} {since : ℕ} {cuts₀ table₀ shared : List ℕ}
+    (b : Begun T members rows patterns signs r forwards backwards stayed late since cuts₀ table₀ shared) {entries exits inside : List ℕ} {left blocked : ℕ} {some : Bool} {cuts low table dues words visits : List ℕ} {examined : ℕ}
+    (t : Turning T members rows patterns signs r cuts₀ entries exits inside left blocked some cuts low table dues words visits examined) where
+  g : Going T (b .hopeful .list) members r cuts₀ left cuts table dues words examined
+  g = t .going (b .hopeful .list) (b .hopeful .listed)
+
+  pub many : length cuts ≡ length cuts₀
+  many = g .many
+
+  pub last-within : last-cut cuts ≤ length r
+  last-within = last-most g
+
+  pub steppable : Steppable T members rows patterns signs blocked some r forwards backwards stayed late since cuts entries exits inside low (replicate 21 0) table dues words visits examined left
+  steppable =
       record {
-        cut = let g = given .searchable in
-            record {
-              measurable = to-end (followed (g .timed .measurable)) (g .timed .measurable .depot-known);
-              forwards = g .forwards;
-              backwards = g .backwards;
-              cut-set = g .cut-set;
-            };
-        rows-fit = record { places = w .places; few = few-patterns; known = rw (given .listed .many) at (w .small) };
-        places = record { ends = record { entry-places = refl; exit-places = refl; inside-places = refl }; low-places = refl; low-small = λ c. rw (zero-at 21 c) (omega arith) };
+        triable = triable-on g (b .hopeful);
+        prepared = prepared-on g (b .hopeful) (t .prepared);
+        none = t .none;
+        shutting = t .shutting;
+        signed = b .signed;
+        kept = t .kept;
+        zero-places = refl;
+        zero-is = zero-at 21;
       }
 
-  pub starts : (ps : List Pattern) (left : ℕ) {dues words : List ℕ} → DuesHeld (clock-by (T .tables)) r (first-cuts cuts) dues → getD dues 8 0 ≤ last-cut cuts →
-      MarksKept (pairs-of (T .pairs)) members r (first-cuts cuts) words → getD words 16 0 ≤ last-cut cuts → Going T ps members r cuts left cuts table dues words 0
-  starts ps left held behind marks marks-behind =
-      let z : last-cut cuts - last-cut cuts ≡ 0 = omega arith in
-      record {
-        begin = given .searchable .cut-set;
-        cut-set = given .searchable .cut-set;
-        many = refl;
-        same = refl;
-        from = omega arith;
-        count = sym (ap (λ n. n * length ps) z ∙ zero-mul (length ps));
-        within = omega arith;
-        idle = λ t x h l i. absurd (omega arith);
-        padded = given .padded;
-        held = held;
-        behind = behind;
-        marks = marks;
-        marks-behind = marks-behind;
-      }
+  module _ {answer : Stretch} {cuts′ table′ dues′ words′ visits′ : List ℕ} (s : Stepped T members rows patterns signs blocked r cuts table dues words examined left (Done answer) cuts′ table′ dues′ words′ visits′) where
+    pub done : {cuts₁ : List ℕ} → cuts₀ ≡ cuts₁ → Stretched (problem T) members patterns rows signs r cuts₁ left answer cuts′ table′ shared visits′
+    done e =
+        rw (← e)
+        (record {
+          ended = λ ps w. s .carried cuts₀ ps w (t .going ps w) .0;
+          padded = s .carried cuts₀ (b .hopeful .list) (b .hopeful .listed) g .1;
+          blank = b .tabled .blank;
+          kept = s .kept;
+        })
 
-  -- Nothing is held of the dues and the words.
-  pub starts-bare : (ps : List Pattern) (left : ℕ) → Going T ps members r cuts left cuts table (replicate 9 0) (replicate 17 0) 0
-  starts-bare ps left = starts ps left (record { places = refl; held = inl refl }) (rw (zero-at 9 8) (omega arith)) (bare (given .lent)) (rw (zero-at 17 16) (omega arith))
-    where
-      bare : PairsLent (pairs-of (T .pairs)) members → MarksKept (pairs-of (T .pairs)) members r (first-cuts cuts) (replicate 17 0)
-      bare (inl e) = inl (e .1, refl, zero-at 17)
-      bare (inr m) = inr (omega (arith, m .0), record { places = refl; held = inl refl })
+  module _ {reached : ℕ} {cuts′ table′ dues′ words′ visits′ : List ℕ} (s : Stepped T members rows patterns signs blocked r cuts table dues words examined left (On reached) cuts′ table′ dues′ words′ visits′) where
+    pub later : last-cut cuts < last-cut cuts′
+    later = s .carried cuts₀ (b .hopeful .list) (b .hopeful .listed) g .1
 
--- ---- up to the first last cut that is promising
+    pub on-turn : Turning T members rows patterns signs r cuts₀ entries exits inside left blocked some cuts′ low table′ dues′ words′ visits′ reached
+    on-turn =
+        let g′ = s .carried cuts₀ (b .hopeful .list) (b .hopeful .listed) g .0 in
+        record {
+          going = λ ps w. s .carried cuts₀ ps w (t .going ps w) .0;
+          prepared = t .prepared;
+          none = t .none;
+          shutting = shut-on cuts′ (g′ .many ∙ sym (g .many)) (g′ .same ∙ sym (g .same)) (omega (arith, later)) (t .shutting);
+          kept = s .kept;
+        }
 
-module _ {T : Trip} {members rows : List ℕ} {patterns : ℕ} {r forwards backwards stayed late : List ℕ} {since : ℕ} {cuts entries exits inside low zero table dues words : List ℕ} {examined left : ℕ}
-    (given : Steppable T members rows patterns r forwards backwards stayed late since cuts entries exits inside low zero table dues words examined left) where
-  pub nextable : Nextable (T .tables .locations) (T .tables .legs) (T .depot) (T .end) r forwards backwards cuts entries exits inside low zero
-  nextable =
-      let k = given .prepared .prepared in
-      record {
-        cut = cut (given .triable .hopeful);
-        places = given .prepared .places;
-        prepared = record { entry = k .entry; exit = k .exit; within = k .within; standing = k .standing; least = λ i h. absurd (omega arith) };
-        zero-places = given .zero-places;
-        zero-is = given .zero-is;
-      }
+  module _ {reached closed : ℕ} {cuts′ table′ dues′ words′ visits′ : List ℕ} (s : Stepped T members rows patterns signs blocked r cuts table dues words examined left (Closed reached closed) cuts′ table′ dues′ words′ visits′) where
+    pub not-earlier : last-cut cuts ≤ last-cut cuts′
+    not-earlier = s .carried cuts₀ (b .hopeful .list) (b .hopeful .listed) g .1
 
-  module _ {hit : ℕ} (next : NextPromising (T .tables .locations) (T .tables .legs) (T .depot) (T .end) r cuts entries exits inside low hit) where
-    pub few-sets : (hit - last-cut cuts ≤ 513) × (patterns ≤ 383)
-    few-sets = (omega (arith, next .most, given .triable .hopeful .searchable .cut-set .short), few-patterns (given .triable .hopeful))
+    pub lowerable : Lowerable rows patterns (2 * (length cuts₀ - 2)) shared signs closed low
+    lowerable =
+        let w = b .hopeful .listed in
+        record {
+          last = omega (arith, b .hopeful .searchable .cut-set .most);
+          rows-fit = record { places = w .patterned .places; few = few-patterns (b .hopeful); known = rw (w .many) at (w .patterned .small) };
+          padded = b .tabled .blank .padded;
+          signed = λ h. s .shut .1 .signed h .places;
+          low-places = t .prepared .places .low-places;
+          low-small = t .prepared .places .low-small;
+        }
 
-    module _ {first : List ℕ} {ps : List Pattern} (list : Listed (length first) patterns rows ps) (going : Going T ps members r first left cuts table dues words examined) where
-      behind-hit : last-cut first ≤ hit
-      behind-hit = omega (arith, going .from, next .least)
-
-      no-gain : (t x : ℕ) → last-cut cuts ≤ t → t < hit → x < length ps → improves-at (problem T) ps r first t x ≡ false
-      unfolding tour-length
-      no-gain t x h l i =
-          let p = getD ps x no-pattern in
-          let n : suc (length (first-cuts first)) ≡ length first = omega (arith, first-many first, going .begin .least) in
-          let f : ForK (suc (length (first-cuts first))) (p .order) (p .mask) = rw n (list .patterned .for-k x i) in
-          let w : row rows x ≡ states (suc (length (first-cuts first))) (p .order) (p .mask) = rw n (list .patterned .each x i) in
-          let q = rw (going .same) at (next .idle t h l) in
-          ap (λ b. feasible (problem T) (reconnected (move-at ps (first-cuts first ++ (t ∷ [])) x) r) && b)
-          (q rows patterns (rw (going .same) at (given .prepared .prepared)) (p .order) (p .mask) x (omega (arith, i, list .many)) f w)
-          ∙ and-false (feasible (problem T) (reconnected (move-at ps (first-cuts first ++ (t ∷ [])) x) r))
-
-      passed : (t x : ℕ) → last-cut first ≤ t → t < hit → x < length ps → improves-at (problem T) ps r first t x ≡ false
-      passed t x h l i = by (decLt t (last-cut cuts))
-        where
-          by : Dec (t < last-cut cuts) → improves-at (problem T) ps r first t x ≡ false
-          by (yes p) = going .idle t x h p i
-          by (no p) = no-gain t x (omega arith) l i
-
-      module _ {over : ℕ} (over-by : over ≡ (hit - last-cut cuts) * patterns) where
-        over-is : over ≡ (hit - last-cut cuts) * length ps
-        over-is = over-by ∙ ap (λ n. (hit - last-cut cuts) * n) (sym (list .many))
-
-        reaches : examined + over ≡ (hit - last-cut first) * length ps
-        reaches = ap (λ n. examined + n) over-is ∙ ap (λ n. n + (hit - last-cut cuts) * length ps) (going .count) ∙ count-to (last-cut first) (last-cut cuts) hit (length ps) (going .from) (next .least)
-
-        idle-below : (t x : ℕ) → last-cut first ≤ t → x < length ps → (t - last-cut first) * length ps + x < examined + over →
-            improves-at (problem T) ps r first t x ≡ false
-        idle-below t x h i n =
-            up-to (last-cut first) hit (length ps) 0 behind-hit (omega arith) (improves-at (problem T) ps r first) passed
-            (λ y l. absurd (omega arith)) t x h i (omega (arith, n, reaches))
-
-        -- The allowance ends among them.
-        pub spent-over : left - examined < over → StepTo T ps members r first left (last-cut cuts) (Done (idle-end left false)) cuts table dues words
-        spent-over b =
-            answered going (going .padded)
-            (λ t x h i n. idle-below t x h i (omega (arith, n, b, going .within)))
-            (omega arith)
-            (λ e. absurd (true≢false (sym e)))
-            (λ e. absurd (true≢false (sym e)))
-            (λ _ _. (refl, omega (arith, b, reaches, count-least (last-cut first) hit (length r + 1) (length ps) (next .most)), going .same))
-
-        module _ (room : over ≤ left - examined) where
-          -- No last cut is left.
-          pub through-over : length r < hit → StepTo T ps members r first left (last-cut cuts) (Done (idle-end (examined + over) true)) (set cuts (length cuts - 1) (length r)) table dues words
-          through-over b =
-              let e : hit ≡ length r + 1 = omega (arith, next .most) in
-              answered going (going .padded)
-              (λ t x h i n. idle-below t x h i n)
-              (omega (arith, room, going .within))
-              (λ e. absurd (true≢false (sym e)))
-              (λ _. (reaches ∙ ap (λ n. (n - last-cut first) * length ps) e, stored going (length r)))
-              (λ _ e. absurd (true≢false e))
-
-          -- At a last cut that is promising.
-          pub at-hit : hit ≤ length r → Going T ps members r first left (set cuts (length cuts - 1) hit) table dues words (examined + over)
-          at-hit l =
-              let f = first-of-cuts (first-cuts first) hit in
-              let e = last-of-cuts (first-cuts first) hit in
-              rw (stored going hit)
-              (record {
-                begin = going .begin;
-                cut-set = at-cut r first (going .begin) hit behind-hit l;
-                many = long r first (going .begin) hit;
-                same = f;
-                from = rw e behind-hit;
-                count = reaches ∙ ap (λ c. (c - last-cut first) * length ps) (sym e);
-                within = omega (arith, room, going .within);
-                idle = λ t x h b i. passed t x h (rw e at b) i;
-                padded = going .padded;
-                held = going .held;
-                behind = rw e (omega (arith, going .behind, next .least));
-                marks = going .marks;
-                marks-behind = rw e (omega (arith, going .marks-behind, next .least));
-              })
-
-          -- What is then tried leads on from here.
-          pub from-hit : (answer : Step) (cuts′ table′ dues′ words′ : List ℕ) →
-              StepTo T ps members r first left (last-cut (set cuts (length cuts - 1) hit)) answer cuts′ table′ dues′ words′ → StepTo T ps members r first left (last-cut cuts) answer cuts′ table′ dues′ words′
-          from-hit (Done answer) cuts′ table′ dues′ words′ w = w
-          from-hit (On reached) cuts′ table′ dues′ words′ w =
-              let e : last-cut (set cuts (length cuts - 1) hit) ≡ hit = ap last-cut (stored going hit) ∙ last-of-cuts (first-cuts first) hit in
-              (w .0, omega (arith, w .1, e, next .least))
-
-pub hit-triable : {T : Trip} {members rows : List ℕ} {patterns : ℕ} {r forwards backwards stayed late : List ℕ} {since : ℕ} {cuts entries exits inside low zero table dues words : List ℕ} {examined left : ℕ} →
-    Steppable T members rows patterns r forwards backwards stayed late since cuts entries exits inside low zero table dues words examined left →
-    {hit : ℕ} → NextPromising (T .tables .locations) (T .tables .legs) (T .depot) (T .end) r cuts entries exits inside low hit → {over : ℕ} → over ≡ (hit - last-cut cuts) * patterns → over ≤ left - examined → hit ≤ length r →
-    Triable T members rows patterns r forwards backwards stayed late since (set cuts (length cuts - 1) hit) table dues words (examined + over) left
-hit-triable {T} {members} {rows} {patterns} {r} {forwards} {backwards} {stayed} {late} {since} {cuts} {entries} {exits} {inside} {low} {zero} {table} {dues} {words} given next {over} e room l =
-    let w = given .triable in
-    let h = w .hopeful in
-    let alone : Steppable T members rows patterns r forwards backwards stayed late since cuts entries exits inside low zero table dues words 0 over =
-    record { triable = record { hopeful = h; held = w .held; behind = w .behind; marks = w .marks; marks-behind = w .marks-behind; within = omega arith }; prepared = given .prepared; zero-places = given .zero-places; zero-is = given .zero-is } in
-    let t = triable-on (at-hit alone next (h .listed) (starts h (h .list) over (w .held) (w .behind) (w .marks) (w .marks-behind)) e (omega arith) l) h in
-    record { hopeful = t .hopeful; held = t .held; behind = t .behind; marks = t .marks; marks-behind = t .marks-behind; within = omega (arith, room, w .within) }
-
--- ---- at a last cut that is promising
-
-module _ {T : Trip} {members rows : List ℕ} {patterns : ℕ} {r forwards backwards stayed late : List ℕ} {since : ℕ} {cuts table dues words : List ℕ} {examined left : ℕ}
-    (given : Triable T members rows patterns r forwards backwards stayed late since cuts table dues words examined left) {limit : ℕ} (limit-is : limit ≡ min patterns (left - examined)) where
-  pub findable : Findable T members r forwards backwards stayed cuts rows late since table dues words limit
-  findable =
-      let h = given .hopeful in
-      record {
-        searchable = h .searchable;
-        patterns = h .list;
-        patterned = h .listed .patterned;
-        allowed = omega (arith, h .listed .many);
-        early = rw (head-at cuts r (omega (arith, h .searchable .cut-set .least))) (h .early);
-        latenesses = h .latenesses;
-        held = given .held;
-        behind = given .behind;
-        lent = h .lent;
-        front = h .front;
-        back = h .back;
-        marks = given .marks;
-        marks-behind = given .marks-behind;
-        padded = h .padded;
-      }
-
-  module _ {i : ℕ} {table′ dues′ words′ : List ℕ} (found : Found T members r cuts rows limit i table′ dues′ words′) where
-    pub room-left : examined + i ≤ left
-    room-left = omega (arith, found .within, given .within)
-
-    module _ {first : List ℕ} {ps : List Pattern} (list : Listed (length first) patterns rows ps) (going : Going T ps members r first left cuts table dues words examined) where
-      gain : FirstGain (problem T) ps (length cuts) r cuts limit i
-      gain = found .first ps (rw (going .many) (list .patterned)) (omega (arith, list .many))
-
-      same-there : (x : ℕ) → improves-at (problem T) ps r first (last-cut cuts) x ≡ improves (search-of (problem T) ps (length cuts) (length r)) r (move-at ps cuts x)
-      same-there x =
-          ap (λ cs. improves (search-of (problem T) ps (length first) (length r)) r (move-at ps cs x)) (sym (cuts-are going))
-          ∙ ap (λ n. improves (search-of (problem T) ps n (length r)) r (move-at ps cuts x)) (sym (going .many))
-
-      here : (x : ℕ) → x < i → improves-at (problem T) ps r first (last-cut cuts) x ≡ false
-      here x h = same-there x ∙ gain .passed x h
-
-      idle-now : (t x : ℕ) → last-cut first ≤ t → x < length ps → (t - last-cut first) * length ps + x < examined + i →
-          improves-at (problem T) ps r first t x ≡ false
-      idle-now t x h l n =
-          up-to (last-cut first) (last-cut cuts) (length ps) i (going .from) (omega (arith, gain .within, list .many)) (improves-at (problem T) ps r first)
-          (going .idle) here t x h l (omega (arith, n, going .count))
-
-      pub gains : i < limit → StepTo T ps members r first left (last-cut cuts) (Done (record { examined = examined + i; gains = true; through = false; pattern = i })) cuts table′ dues′ words′
-      gains h =
-          answered going (found .padded) idle-now room-left
-          (λ _. (
-            omega (arith, going .within),
-            record {
-              last = last-cut cuts;
-              least = going .from;
-              most = last-most going;
-              cuts-are = cuts-are going;
-              listed = omega (arith, list .many);
-              is = ap (λ n. n + i) (going .count);
-              improves = same-there i ∙ gain .gains h;
-            },
-          ))
-          (λ e. absurd (true≢false (sym e)))
-          (λ e. absurd (true≢false e))
-
-      module _ (all : limit ≤ i) where
-        reached : i ≡ limit
-        reached = omega (arith, gain .within)
-
-        -- The allowance ends on this cut set.
-        pub spent-here : limit < patterns → StepTo T ps members r first left (last-cut cuts) (Done (idle-end (examined + i) false)) cuts table′ dues′ words′
-        spent-here h =
-            answered going (found .padded) idle-now room-left
-            (λ e. absurd (true≢false (sym e)))
-            (λ e. absurd (true≢false (sym e)))
-            (λ _ _. (
-              omega (arith, reached, going .within),
-              omega (arith, going .within, going .count, list .many, count-next (last-cut first) (last-cut cuts) (length ps) (going .from), count-least (last-cut first) (last-cut cuts + 1) (length r + 1) (length ps) (omega (arith, last-most going))),
-              going .same,
-            ))
-
-        module _ (whole : patterns ≤ limit) where
-          counted : examined + i ≡ (last-cut cuts + 1 - last-cut first) * length ps
-          counted = omega (arith, reached, list .many, going .count, count-next (last-cut first) (last-cut cuts) (length ps) (going .from))
-
-          -- It was the last one.
-          pub ends : last-cut cuts ≡ length r → StepTo T ps members r first left (last-cut cuts) (Done (idle-end (examined + i) true)) cuts table′ dues′ words′
-          ends e =
-              answered going (found .padded) idle-now room-left
-              (λ e. absurd (true≢false (sym e)))
-              (λ _. (counted ∙ ap (λ c. (c + 1 - last-cut first) * length ps) e, cuts-are going ∙ ap (λ c. first-cuts first ++ (c ∷ [])) e))
-              (λ _ e. absurd (true≢false e))
-
-          pub goes-on : (last-cut cuts ≡ length r → ⊥) → StepTo T ps members r first left (last-cut cuts) (On (examined + i)) (set cuts (length cuts - 1) (last-cut cuts + 1)) table′ dues′ words′
-          goes-on n =
-              let f = first-of-cuts (first-cuts first) (last-cut cuts + 1) in
-              let e = last-of-cuts (first-cuts first) (last-cut cuts + 1) in
-              rw (stored going (last-cut cuts + 1)) (
-                record {
-                  begin = going .begin;
-                  cut-set = at-cut r first (going .begin) (last-cut cuts + 1) (omega (arith, going .from)) (omega (arith, last-most going, n));
-                  many = long r first (going .begin) (last-cut cuts + 1);
-                  same = f;
-                  from = rw e (omega (arith, going .from));
-                  count = counted ∙ ap (λ c. (c - last-cut first) * length ps) (sym e);
-                  within = room-left;
-                  idle = λ t x h b i. by t x h (rw e at b) i (decLt t (last-cut cuts));
-                  padded = found .padded;
-                  held = rw (going .same) at (found .held);
-                  behind = rw e (omega (arith, found .behind));
-                  marks = rw (going .same) at (found .marks);
-                  marks-behind = rw e (omega (arith, found .marks-behind));
-                },
-                rw e (omega arith),
-              )
-            where
-              by : (t x : ℕ) → last-cut first ≤ t → t < last-cut cuts + 1 → x < length ps → Dec (t < last-cut cuts) →
-                  improves-at (problem T) ps r first t x ≡ false
-              by t x h b y (yes l) = going .idle t x h l y
-              by t x h b y (no l) = let q : t ≡ last-cut cuts = omega arith in rw q (here x (omega (arith, reached, list .many)))
+    pub closed-turn : {low′ : List ℕ} {some′ : Bool} → Relowered signs closed rows patterns (2 * (length cuts₀ - 2)) shared low low′ some′ →
+        Turning T members rows patterns signs r cuts₀ entries exits inside left closed some′ cuts′ low′ table′ dues′ words′ visits′ reached
+    closed-turn w =
+        record {
+          going = λ ps u. s .carried cuts₀ ps u (t .going ps u) .0;
+          prepared = prepared-anew (t .prepared) (b .tabled) (b .hopeful .searchable .cut-set .least) w;
+          none = w .none;
+          shutting = s .shut .1;
+          kept = s .kept;
+        }

@@ -36,7 +36,7 @@ fill-rows-requires : tie.Need-fill-rows-requires
 fill-rows-requires c κs = let g = c .before .before .before .before .before .before .pre in fillable g (lent-rest g)
 
 returns-2 : tie.Need-returns-2
-returns-2 c = let g = c .before .before .before .before .before .before .before .pre in filled-so g (lent-rest g) (c .fill-rows .ensures)
+returns-2 c = let g = c .before .before .before .before .before .before .before .pre in filled-so g (c .before .before .before .before .if1 .left) (lent-rest g) (c .fill-rows .ensures)
 
 pub keep-rows-spec : {M : Type 1} → statement M
 keep-rows-spec =

@@ -21,7 +21,7 @@ element-copy-out-fill-row c = search needs
 fill-row-requires : tie.Need-fill-row-requires
 fill-row-requires c κs =
     let s = c .before .before .before .before .before in
-    row-fits (s .pre .0) _ _ (s .pre .0 .exits-known _ (omega arith)) (omega (arith, s .pre .0 .last)) (λ q. omega (arith, s .pre .0 .last)) (c .before .before .fill-fixed-rows .ensures .padded)
+    row-fits (s .pre .0) _ _ (s .pre .0 .exits-known _ (omega arith)) (omega (arith, s .pre .0 .last)) (λ q. omega (arith, s .pre .0 .last)) (c .before .before .fill-fixed-rows .ensures .blank .padded)
 
 fill-row-requires-2 : tie.Need-fill-row-requires-2
 fill-row-requires-2 c κs =

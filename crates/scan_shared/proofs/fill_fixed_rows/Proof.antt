@@ -31,7 +31,7 @@ fill-row-requires c κs =
     let s = c .before .before .before .before .before in
     let l = c .before .before .before .loop in
     let h = c .before .before .loop-test .taken in
-    row-fits (s .pre) _ (l .a) (s .pre .exits-known (l .a) (omega (arith, h))) (omega (arith, h, s .pre .last)) (λ q. omega (arith, h, s .pre .last)) (l .inv .1 .padded)
+    row-fits (s .pre) _ (l .a) (s .pre .exits-known (l .a) (omega (arith, h))) (omega (arith, h, s .pre .last)) (λ q. omega (arith, h, s .pre .last)) (l .inv .1 .blank .padded)
 
 add-a : tie.Need-add-a Inv-loop μ-loop
 add-a c = search needs

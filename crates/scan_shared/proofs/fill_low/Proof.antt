@@ -1,7 +1,7 @@
 -- `scan_shared::fill_low` meets its contract. The invariant: the same of the rows below i. Assumes nothing.
 use mathlib.Core.Path.{_≡_}
 use Prim.Native.Nat.{_-_, _≤_}
-use Rattle.scan_shared.specs.Filling.{LowOf}
+use Rattle.scan_shared.specs.Filling.{all-open, LowOf}
 use Rattle.scan_shared.proofs.Classes.{no-rows-low, row-at, chainable, more-low}
 use native.Mathlib.Omega.{arith}
 use borrow.Author.Needs.{needs}
@@ -9,13 +9,13 @@ use Rattle.scan_shared.proofs.fill_low.Statement.{statement}
 use Rattle.scan_shared.proofs.fill_low.Tie as tie
 
 abbrev Inv-loop : tie.InvT-loop
-Inv-loop rows count p table low₀ i₀ low i = (i ≤ count) × LowOf rows i p table low
+Inv-loop rows count p table low₀ i₀ low i = (i ≤ count) × LowOf all-open rows i p table low
 
 abbrev μ-loop : tie.MeasureT-loop
 μ-loop rows count p table low₀ i₀ low i = count - i
 
 loop-holds : tie.Need-loop-holds Inv-loop μ-loop
-loop-holds c = (omega arith, no-rows-low (c .pre))
+loop-holds c = (omega arith, no-rows-low (c .pre .low-places) (c .pre .low-small))
 
 row-class-requires : tie.Need-row-class-requires Inv-loop μ-loop
 row-class-requires c κs = row-at (c .before .before .pre) _ (c .loop-test .taken)

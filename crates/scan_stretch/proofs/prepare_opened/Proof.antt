@@ -25,7 +25,7 @@ slice-read-cuts : tie.Need-slice-read-cuts
 slice-read-cuts c = search needs
 
 add-cuts : tie.Need-add-cuts
-add-cuts c = record { fits = omega (arith, one-more (c .before .before .before .before .before .pre)) }
+add-cuts c = record { fits = omega (arith, one-more (c .before .before .before .before .before .before .pre)) }
 
 mul-cuts-2 : tie.Need-mul-cuts-2
 mul-cuts-2 c = search needs
@@ -34,20 +34,20 @@ slice-write-cuts : tie.Need-slice-write-cuts
 slice-write-cuts c = search needs
 
 prepare-requires : tie.Need-prepare-requires
-prepare-requires c κs = preparable (c .before .before .before .before .before .before .before .before .before .before .pre)
+prepare-requires c κs = preparable (c .before .before .before .before .before .before .before .before .before .before .before .before .pre)
 
 mul-cuts-3 : tie.Need-mul-cuts-3
 mul-cuts-3 c = search needs
 
 slice-write-cuts-2 : tie.Need-slice-write-cuts-2
-slice-write-cuts-2 c = simp length-set (omega (arith, c .before .before .before .before .before .before .before .before .before .before .before .pre .cut .cut-set .least))
+slice-write-cuts-2 c = simp length-set (omega (arith, c .before .before .before .before .before .before .before .before .before .before .before .before .before .pre .cut .cut-set .least))
 
 same-length : tie.Need-same-length
 same-length c = search needs
 
 returns : tie.Need-returns
 returns c =
-    let s = c .before .before .before .before .before .before .before .before .before .before .before in
+    let s = c .before .before .before .before .before .before .before .before .before .before .before .before .before in
     (put-back (s .pre), shared (s .pre) (c .prepare .ensures))
 
 pub prepare-opened-spec : {M : Type 1} → statement M

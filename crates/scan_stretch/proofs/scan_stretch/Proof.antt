@@ -9,19 +9,22 @@ slice-read-if1 : tie.Need-slice-read-if1
 slice-read-if1 c = search needs
 
 pass-stretch-requires : tie.Need-pass-stretch-requires
-pass-stretch-requires c κs = passable (c .before .before .before .before .before .before .before .before .before .before .pre)
+pass-stretch-requires c κs = passable (c .before .before .before .before .before .before .before .before .before .before .before .before .pre)
 
 same-length : tie.Need-same-length
 same-length c = search needs
 
 returns : tie.Need-returns
-returns c = passed-over (c .before .before .before .before .before .before .before .before .before .before .before .before .before .pre) (c .before .before .before .before .if1 .taken) (c .before .before .pass-stretch .ensures)
+returns c = passed-over (c .before .before .before .before .before .before .before .before .before .before .before .before .before .before .before .pre) (c .before .before .before .before .if1 .taken) (c .before .before .pass-stretch .ensures)
 
 scan-last-cuts-requires : tie.Need-scan-last-cuts-requires
-scan-last-cuts-requires c κs = scannable (c .before .before .before .before .before .before .before .before .before .before .before .pre) (c .before .before .if1 .left)
+scan-last-cuts-requires c κs = scannable (c .before .before .before .before .before .before .before .before .before .before .before .before .before .before .before .pre) (c .before .before .before .before .if1 .left)
 
 same-length-2 : tie.Need-same-length-2
 same-length-2 c = search needs
+
+same-length-3 : tie.Need-same-length-3
+same-length-3 c = search needs
 
 returns-2 : tie.Need-returns-2
 returns-2 c = search needs
@@ -36,4 +39,5 @@ scan-stretch-spec =
     returns
     scan-last-cuts-requires
     same-length-2
+    same-length-3
     returns-2)

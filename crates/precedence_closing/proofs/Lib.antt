@@ -1,0 +1,4 @@
+pub mod Signs
+pub mod Broken
+pub mod Further
+pub mod Closed

@@ -1,0 +1,4 @@
+pub mod Counting
+pub mod LastCut
+mod Closing
+pub mod Steps
