@@ -23,6 +23,10 @@ use Rattle.deadlines.specs.Lateness.{lateness}
 use Rattle.scan_joints.specs.States.{row, standing-row, Patterned}
 use Rattle.scan_joints.specs.JointTable.{chain, JointOf}
 use Rattle.scan_joints.proofs.Chain.{chain-delta}
+use Rattle.scan_reach.specs.Reach.{JointAsked}
+use Rattle.scan_chains.specs.Chains.{Chained}
+use Rattle.scan_chains.specs.Chains as Adding
+use Rattle.scan_chains.proofs.Chains.{chained-known, cost-is}
 use Rattle.deadline_dues.specs.Due.{DuesRead}
 use Rattle.deadline_dues.specs.Parts.{head, middle, HeadTimed, HeadClock}
 use Rattle.deadline_dues.specs.Dues.{in-time, StaysOf, DuesOf}
@@ -47,8 +51,8 @@ and-assoc : (a b c : Bool) → ((a && b) && c) ≡ (a && (b && c))
 and-assoc true b c = refl
 and-assoc false b c = refl
 
-module _ {T : Trip} {r cs rows J : List ℕ} {ps : List Pattern} {limit : ℕ}
-    (given : Tabled T r cs ps rows J limit) where
+module _ {T : Trip} {r cs rows chains J : List ℕ} {ps : List Pattern} {limit : ℕ}
+    (given : Tabled T r cs ps rows chains J limit) where
   abbrev P : Problem
   P = problem T
 
@@ -74,15 +78,22 @@ module _ {T : Trip} {r cs rows J : List ℕ} {ps : List Pattern} {limit : ℕ}
   abbrev middle-on-time : ℕ → Bool
   middle-on-time i = on-time C (last-of (T .depot) (head r cs)) now (middle r cs (pattern i .order) (pattern i .mask))
 
-  pub chains : (from : ℕ) → from ≤ limit → Chains J rows from limit
-  chains from h =
+  few : limit ≤ 383
+  few = omega (arith, given .allowed, given .patterned .few)
+
+  pub adding : (from : ℕ) → from ≤ limit → Chains J chains from limit
+  adding from h =
       record {
         padded = given .joined .padded;
-        places = given .patterned .places;
-        few = omega (arith, given .allowed, given .patterned .few);
+        places = given .chained .places;
+        few = few;
         within = h;
-        known = λ c l. given .patterned .small c (omega (arith, given .allowed));
+        known = chained-known (given .chained) (λ c l. given .patterned .small c (omega (arith, given .allowed)));
       }
+
+  -- The cells added up are the chain.
+  cost-of : (i : ℕ) → i < limit → Adding.cost J chains i ≡ cost i
+  cost-of i h = cost-is J (given .chained .each i h) (given .patterned .places) (omega (arith, few))
 
   abbrev middle-kept : ℕ → Bool
   middle-kept i = pairs-kept (P .pairs) (middle r cs (pattern i .order) (pattern i .mask))
@@ -131,19 +142,19 @@ module _ {T : Trip} {r cs rows J : List ℕ} {ps : List Pattern} {limit : ℕ}
             ∙ sym (ap (λ b. (middle-kept i && middle-on-time i) && b) (le-ltb (cost i) (below standing late) (omega arith)) ∙ and-false (middle-kept i && middle-on-time i))
 
     -- Where no pattern costs so little, none improves.
-    pub none-below : (limit′ b : ℕ) → limit′ ≡ limit → b ≡ below standing late → NextShorter J rows b 0 limit limit′ → FirstGain P ps (length cs) r cs limit limit
+    pub none-below : (limit′ b : ℕ) → limit′ ≡ limit → b ≡ below standing late → NextShorter J chains b 0 limit limit′ → FirstGain P ps (length cs) r cs limit limit
     none-below limit′ b e is next =
         record {
           within = omega arith;
           passed = λ x h.
               gain-is x (omega (arith, given .allowed))
-              ∙ ap (λ t. (middle-kept x && middle-on-time x) && t) (le-ltb (cost x) (below standing late) (omega (arith, is, next .passed x (omega arith) (omega arith))))
+              ∙ ap (λ t. (middle-kept x && middle-on-time x) && t) (le-ltb (cost x) (below standing late) (omega (arith, is, cost-of x h, next .passed x (omega arith) (omega arith))))
               ∙ and-false (middle-kept x && middle-on-time x);
           gains = λ m. absurd (omega arith);
         }
 
     -- With the words of the states alone: where no pattern costs so little and keeps its pairs, none improves.
-    pub none-ordered : (H : List ℕ) → SegmentsMarked (P .pairs) cs r (length cs - 1) H → (i b : ℕ) → i ≡ limit → b ≡ below standing late → FirstOrdered J rows H (length cs - 1) b limit i → FirstGain P ps (length cs) r cs limit limit
+    pub none-ordered : (H : List ℕ) → SegmentsMarked (P .pairs) cs r (length cs - 1) H → (i b : ℕ) → i ≡ limit → b ≡ below standing late → FirstOrdered J rows chains H (length cs - 1) b limit i → FirstGain P ps (length cs) r cs limit limit
     none-ordered H words i b e is first =
         record {
           within = omega arith;
@@ -152,14 +163,15 @@ module _ {T : Trip} {r cs rows J : List ℕ} {ps : List Pattern} {limit : ℕ}
               gain-is x k
               ∙ between (middle-kept x) (middle-on-time x) (short x) (
               ap (λ t. t && short x) (sym (row-in-order (P .pairs) cs r (given .cut-set) H words (pattern x .order) rows (pattern x .mask) x (given .patterned .for-k x k) (given .patterned .each x k)))
-              ∙ ap (λ n. in-order H 0 (slice (4 * x) (4 * x + (length cs - 1)) rows) && ltb (cost x) n) (sym is)
+              ∙ ap (λ n. in-order H 0 (slice (4 * x) (4 * x + (length cs - 1)) rows) && ltb n (below standing late)) (sym (cost-of x h))
+              ∙ ap (λ n. in-order H 0 (slice (4 * x) (4 * x + (length cs - 1)) rows) && ltb (Adding.cost J chains x) n) (sym is)
               ∙ first .passed x (omega (arith, e)));
           gains = λ m. absurd (omega arith);
         }
 
     -- With the dues and the words of the states.
     module _ (S D H : List ℕ) (stays : StaysOf (T .tables .service) cs r S) (dues : DuesOf C cs r D) (words : SegmentsMarked (P .pairs) cs r (length cs - 1) H) where
-      gain-due : (i : ℕ) → i < limit → gain i ≡ due-gain J rows S D H (length cs - 1) now (below standing late) i
+      gain-due : (i : ℕ) → i < limit → gain i ≡ due-gain J rows chains S D H (length cs - 1) now (below standing late) i
       gain-due i h =
           let k : i < length ps = omega (arith, given .allowed) in
           let f = given .patterned .for-k i k in
@@ -168,10 +180,11 @@ module _ {T : Trip} {r cs rows J : List ℕ} {ps : List Pattern} {limit : ℕ}
           ∙ ap (λ b. (b && middle-on-time i) && short i) (sym (row-in-order (P .pairs) cs r (given .cut-set) H words (pattern i .order) rows (pattern i .mask) i f w))
           ∙ ap (λ b. (in-order H 0 (slice (4 * i) (4 * i + (length cs - 1)) rows) && b) && short i)
           (sym (row-kept (T .tables) cs r J S D (given .cut-set) (given .joined) stays dues (pattern i .order) rows (pattern i .mask) i now f w))
+          ∙ ap (λ n. (in-order H 0 (slice (4 * i) (4 * i + (length cs - 1)) rows) && in-time J S D 9 now (slice (4 * i) (4 * i + (length cs - 1)) rows)) && ltb n (below standing late)) (sym (cost-of i h))
 
-      pub first-due-gain : (b i : ℕ) → b ≡ below standing late → FirstDue J rows S D H (length cs - 1) now b limit i → FirstGain P ps (length cs) r cs limit i
+      pub first-due-gain : (b i : ℕ) → b ≡ below standing late → FirstDue J rows chains S D H (length cs - 1) now b limit i → FirstGain P ps (length cs) r cs limit i
       first-due-gain b i e f =
-          let d : FirstDue J rows S D H (length cs - 1) now (below standing late) limit i = rw e at f in
+          let d : FirstDue J rows chains S D H (length cs - 1) now (below standing late) limit i = rw e at f in
           record {
             within = d .within;
             passed = λ x h. gain-due x (omega (arith, d .within)) ∙ d .passed x h;
@@ -184,14 +197,15 @@ module _ {T : Trip} {r cs rows J : List ℕ} {ps : List Pattern} {limit : ℕ}
       row-known (length cs) (pattern i .order) rows (pattern i .mask) i (given .cut-set .least) (given .cut-set .most) (given .patterned .for-k i k) (given .patterned .each i k) c l m
 
   -- The rows can be judged by the words, and by all.
-  pub order-rows : (H : List ℕ) → length H ≡ 17 → (b shorter : ℕ) → NextShorter J rows b 0 limit shorter → OrderRows J rows H (length cs - 1) b shorter limit
+  pub order-rows : (H : List ℕ) → length H ≡ 17 → (b shorter : ℕ) → NextShorter J chains b 0 limit shorter → OrderRows J rows chains H (length cs - 1) b shorter limit
   order-rows H word-places b shorter next =
-      record { chains = chains 0 (omega arith); most = omega (arith, given .cut-set .most); word-places = word-places; states = states-known; first = next }
+      record { places = given .patterned .places; adding = adding 0 (omega arith); most = omega (arith, given .cut-set .most); word-places = word-places; states = states-known; first = next }
 
-  pub due-rows : (S D H : List ℕ) → StaysOf (T .tables .service) cs r S → length D ≡ 9 → length H ≡ 17 → (b start : ℕ) → now ≤ 2 ^ 40 → FirstOrdered J rows H (length cs - 1) b limit start → DueRows J rows S D H (length cs - 1) now b start limit
+  pub due-rows : (S D H : List ℕ) → StaysOf (T .tables .service) cs r S → length D ≡ 9 → length H ≡ 17 → (b start : ℕ) → now ≤ 2 ^ 40 → FirstOrdered J rows chains H (length cs - 1) b limit start → DueRows J rows chains S D H (length cs - 1) now b start limit
   due-rows S D H stays places word-places b start e next =
       record {
-        chains = chains 0 (omega arith);
+        places = given .patterned .places;
+        adding = adding 0 (omega arith);
         most = omega (arith, given .cut-set .most);
         due-places = places;
         stay-places = stays .places;
@@ -226,14 +240,27 @@ module _ {T : Trip} {r forwards backwards stayed cs : List ℕ} (given : Searcha
   clock-told h = head-left (T .tables) (given .stays) (given .cut-set) h
 
 -- Once the joint table is filled.
-pub tabled : {T : Trip} {r forwards backwards stayed cs rows J : List ℕ} {ps : List Pattern} {limit : ℕ} →
-    Searchable T r forwards backwards stayed cs → Patterned (length cs) ps rows → limit ≤ length ps → JointOf (T .tables .locations) (T .tables .legs) (T .depot) (T .end) r cs J → Tabled T r cs ps rows J limit
-tabled s w l j = record { timed = s .timed; cut-set = s .cut-set; patterned = w; allowed = l; joined = j }
+pub tabled : {T : Trip} {r forwards backwards stayed cs rows chains J : List ℕ} {ps : List Pattern} {limit : ℕ} →
+    Searchable T r forwards backwards stayed cs → Patterned (length cs) ps rows → limit ≤ length ps → Chained rows limit chains → JointOf (T .tables .locations) (T .tables .legs) (T .depot) (T .end) r cs J → Tabled T r cs ps rows chains J limit
+tabled s w l a j = record { timed = s .timed; cut-set = s .cut-set; patterned = w; allowed = l; chained = a; joined = j }
 
-module _ {T : Trip} {members r forwards backwards stayed cs rows late : List ℕ} {since : ℕ} {J D H : List ℕ} {limit : ℕ}
-    (given : Findable T members r forwards backwards stayed cs rows late since J D H limit) where
+module _ {T : Trip} {members r forwards backwards stayed cs rows chains late : List ℕ} {since : ℕ} {entries exits inside J D H : List ℕ} {limit : ℕ}
+    (given : Findable T members r forwards backwards stayed cs rows chains late since entries exits inside J D H limit) where
   abbrev own : CutSet (length cs) (length r) cs
   own = given .searchable .cut-set
+
+  pub joint-asked : JointAsked (T .tables .locations) (T .tables .legs) (T .depot) (T .end) r forwards backwards cs entries exits inside J
+  joint-asked =
+      let g = given .searchable in
+      let e = given .ends in
+      record {
+        joinable = record { measurable = g .timed .measurable; forwards = g .forwards; backwards = g .backwards; cut-set = g .cut-set; padded = given .padded };
+        ends = e .places;
+        entry = e .entry;
+        exit = e .exit;
+        within = e .within;
+        held = given .joint-held;
+      }
 
   -- What is read of the lateness is that of the tail.
   pub told-late : {v : ℕ} → v ≡ getD late (getD cs (length cs - 1) 0) 0 → v ≡ lateness (clock-by (T .tables)) (T .depot) r (getD cs (length cs - 1) 0)

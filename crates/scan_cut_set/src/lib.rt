@@ -3,8 +3,10 @@ use deadline_dues::DUE_PLACES;
 use deadline_dues::Timing;
 use deadline_dues::time_states;
 use precedence_marks::MARK_PLACES;
+use scan_chains::CHAIN_BYTES;
 use scan_joints::CELLS;
 use scan_joints::ROW_BYTES;
+use scan_joints::STATES;
 use theory::CUT_PLACES;
 use theory::STOPS;
 ghost use mathlib.Core.Path.{_≡_};
@@ -20,17 +22,17 @@ ghost use Rattle.scan_cut_set.specs.Gain.{below, LateBehind, Findable, F
 // The first pattern from `from` on that costs less than `standing`, or `limit`.
 fn next_shorter(
     joint: &[u64; CELLS],
-    rows: &[u8; ROW_BYTES],
+    chains: &[u8; CHAIN_BYTES],
     standing: u64,
     from: usize,
     limit: usize,
 ) -> usize
-    requires { ⌜ Chains (now joint) (now rows) from limit ⌝ }
-    ensures { λ r. ⌜ NextShorter (now (joint .entry)) (now (rows .entry)) standing from limit r ⌝ }
+    requires { ⌜ Chains (now joint) (now chains) from limit ⌝ }
+    ensures { λ r. ⌜ NextShorter (now (joint .entry)) (now (chains .entry)) standing from limit r ⌝ }
 {
     let mut i = from;
     while i < limit {
-        if scan_joints::chain4(joint, rows, i) < standing {
+        if scan_chains::chain_cost(joint, chains, i) < standing {
             return i;
         }
         i += 1;
@@ -63,6 +65,7 @@ fn row_kept(
 fn first_due(
     joint: &[u64; CELLS],
     rows: &[u8; ROW_BYTES],
+    chains: &[u8; CHAIN_BYTES],
     stays: &[u64; DUE_PLACES],
     dues: &[u64; DUE_PLACES],
     held: &[u64; MARK_PLACES],
@@ -72,15 +75,15 @@ fn first_due(
     start: usize,
     limit: usize,
 ) -> usize
-    requires { ⌜ DueRows (now joint) (now rows) (now stays) (now dues) (now held) m clock below start limit ⌝ }
-    ensures { λ r. ⌜ FirstDue (now (joint .entry)) (now (rows .entry)) (now (stays .entry)) (now (dues .entry)) (now (held .entry)) m clock below limit r ⌝ }
+    requires { ⌜ DueRows (now joint) (now rows) (now chains) (now stays) (now dues) (now held) m clock below start limit ⌝ }
+    ensures { λ r. ⌜ FirstDue (now (joint .entry)) (now (rows .entry)) (now (chains .entry)) (now (stays .entry)) (now (dues .entry)) (now (held .entry)) m clock below limit r ⌝ }
 {
     let mut i = start;
     while i < limit {
         if row_kept(joint, rows, stays, dues, held, i, m, clock) {
             return i;
         }
-        i = next_shorter(joint, rows, below, i + 1, limit);
+        i = next_shorter(joint, chains, below, i + 1, limit);
     }
     i
 }
@@ -89,6 +92,7 @@ fn first_due(
 fn first_ordered(
     joint: &[u64; CELLS],
     rows: &[u8; ROW_BYTES],
+    chains: &[u8; CHAIN_BYTES],
     held: &[u64; MARK_PLACES],
     paired: bool,
     m: usize,
@@ -96,8 +100,8 @@ fn first_ordered(
     shorter: usize,
     limit: usize,
 ) -> usize
-    requires { ⌜ OrderRows (now joint) (now rows) (now held) m below shorter limit ⌝ }
-    ensures { λ r. ⌜ FirstOrdered (now (joint .entry)) (now (rows .entry)) (now (held .entry)) m below limit r ⌝ }
+    requires { ⌜ OrderRows (now joint) (now rows) (now chains) (now held) m below shorter limit ⌝ }
+    ensures { λ r. ⌜ FirstOrdered (now (joint .entry)) (now (rows .entry)) (now (chains .entry)) (now (held .entry)) m below limit r ⌝ }
 {
     if !paired {
         return shorter;
@@ -107,7 +111,7 @@ fn first_ordered(
         if precedence_marks::row_in_order(rows, held, i, m) {
             return i;
         }
-        i = next_shorter(joint, rows, below, i + 1, limit);
+        i = next_shorter(joint, chains, below, i + 1, limit);
     }
     i
 }
@@ -152,20 +156,24 @@ pub fn first_gain(
     stayed: &[u64; CUT_PLACES],
     cuts: &[usize],
     rows: &[u8; ROW_BYTES],
+    chains: &[u8; CHAIN_BYTES],
     lateness: &[u64; CUT_PLACES],
     since: usize,
+    entries: &[u32; STATES],
+    exits: &[u32; STATES],
+    inside: &[u64; STATES],
     joint: &mut [u64; CELLS],
     dues: &mut [u64; DUE_PLACES],
     held: &mut [u64; MARK_PLACES],
     limit: usize,
 ) -> usize
-    requires { ⌜ Findable (trip locations (now legs) (now latest) (now service) depot end (now pairs)) (now members) (now route) (now forward) (now backward) (now stayed) (now cuts) (now rows) (now lateness) since (now joint) (now dues) (now held) limit ⌝ }
+    requires { ⌜ Findable (trip locations (now legs) (now latest) (now service) depot end (now pairs)) (now members) (now route) (now forward) (now backward) (now stayed) (now cuts) (now rows) (now chains) (now lateness) since (now entries) (now exits) (now inside) (now joint) (now dues) (now held) limit ⌝ }
     ensures { λ r. ⌜ Found (trip locations (now (legs .entry)) (now (latest .entry)) (now (service .entry)) depot end (now (pairs .entry))) (now (members .entry)) (now (route .entry)) (now (cuts .entry)) (now (rows .entry)) limit r (now (joint .exit)) (now (dues .exit)) (now (held .exit)) ⌝ }
 {
     if cuts[cuts.len() - 1] < since {
         return limit;
     }
-    scan_joints::fill_joint(
+    scan_reach::reach_joint(
         locations,
         legs,
         depot,
@@ -174,11 +182,14 @@ pub fn first_gain(
         forward,
         backward,
         cuts,
+        entries,
+        exits,
+        inside,
         joint,
     );
     let standing = scan_joints::standing_cost(joint, cuts.len());
     let below = threshold(standing, late_behind(lateness, cuts));
-    let shorter = next_shorter(joint, rows, below, 0, limit);
+    let shorter = next_shorter(joint, chains, below, 0, limit);
     if shorter == limit {
         return limit;
     }
@@ -187,6 +198,7 @@ pub fn first_gain(
     let ordered = first_ordered(
         joint,
         rows,
+        chains,
         held,
         members.len() != 0,
         m,
@@ -214,6 +226,7 @@ pub fn first_gain(
     first_due(
         joint,
         rows,
+        chains,
         &stays,
         dues,
         held,

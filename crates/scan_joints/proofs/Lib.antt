@@ -3,4 +3,3 @@ pub mod Chain
 pub mod Rows
 mod Cells
 pub mod Ends
-pub mod Filling

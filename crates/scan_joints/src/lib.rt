@@ -7,8 +7,7 @@ ghost use mathlib.Core.List.{[], _∷_};
 ghost use Prim.Native.Nat.{_+_, _<_};
 ghost use lib.ListN.{length, set};
 ghost use Rattle.scan_joints.specs.States.{state-count, standing-row, row};
-ghost use Rattle.scan_joints.specs.JointTable.{chain, Chainable, EndsPuttable, EndsPut, EndsFillable, StateEnds, Standing, FourStates, CellAt, Cell, RowFillable, RowFilled, JointOf, Joinable};
-ghost use Rattle.scan_joints.specs.Filling.{CellsFillable, CellsFilled, StatesFillable, StatesFilled};
+ghost use Rattle.scan_joints.specs.JointTable.{chain, Chainable, EndsPuttable, EndsPut, EndsFillable, StateEnds, Standing, FourStates, CellAt, Cell, RowFillable, RowFilled};
 
 // The states in which a segment is placed: the head as it stands, the tail too, a middle segment, at most four, as it stands or reversed.
 //
@@ -164,109 +163,4 @@ pub fn standing_cost(joint: &[u64; CELLS], k: usize) -> u64
         4 => add_cells(joint, 0, 2, 4, TAIL),
         _ => add_cells(joint, 0, 2, 4, 6),
     }
-}
-
-// ---- the joint table of a cut set, filled from the ends of its states
-
-// Row a of the table, for a state that is left at the stop `from`.
-fn fill_cells(
-    locations: usize,
-    legs: &[u32],
-    from: u32,
-    tail: u32,
-    count: usize,
-    entries: &[u32; STATES],
-    inside: &[u64; STATES],
-    a: usize,
-    joint: &mut [u64; CELLS],
-)
-    requires { ⌜ CellsFillable locations (now legs) from tail count (now entries) (now inside) a (now joint) ⌝ }
-    ensures { λ _. ⌜ CellsFilled locations (now (legs .entry)) from tail count (now (entries .entry)) (now (inside .entry)) a (now (joint .entry)) (now (joint .exit)) ⌝ }
-{
-    fill_row(locations, legs, from, count, entries, inside, a, joint);
-    joint[WIDTH * a + TAIL] = costs::route_distance(locations, legs, from, tail);
-}
-
-// The rows of the middle segments' states.
-fn fill_states(
-    locations: usize,
-    legs: &[u32],
-    tail: u32,
-    count: usize,
-    entries: &[u32; STATES],
-    exits: &[u32; STATES],
-    inside: &[u64; STATES],
-    joint: &mut [u64; CELLS],
-)
-    requires { ⌜ StatesFillable locations (now legs) tail count (now entries) (now exits) (now inside) (now joint) ⌝ }
-    ensures { λ _. ⌜ StatesFilled locations (now (legs .entry)) tail count (now (entries .entry)) (now (exits .entry)) (now (inside .entry)) (now (joint .exit)) ⌝ }
-{
-    let mut a = 0;
-    while a < count {
-        fill_cells(
-            locations,
-            legs,
-            exits[a],
-            tail,
-            count,
-            entries,
-            inside,
-            a,
-            joint,
-        );
-        a += 1;
-    }
-}
-
-// The joint table of a cut set.
-pub fn fill_joint(
-    locations: usize,
-    legs: &[u32],
-    depot: u32,
-    end: u32,
-    route: &[u32],
-    forward: &[u64; STOPS],
-    backward: &[u64; STOPS],
-    cuts: &[usize],
-    joint: &mut [u64; CELLS],
-)
-    requires { ⌜ Joinable locations (now legs) depot end (now route) (now forward) (now backward) (now cuts) (now joint) ⌝ }
-    ensures { λ _. ⌜ JointOf locations (now (legs .entry)) depot end (now (route .entry)) (now (cuts .entry)) (now (joint .exit)) ⌝ }
-{
-    let mut entries = [0u32; STATES];
-    let mut exits = [0u32; STATES];
-    let mut inside = [0u64; STATES];
-    fill_ends(
-        route,
-        forward,
-        backward,
-        cuts,
-        &mut entries,
-        &mut exits,
-        &mut inside,
-    );
-    let count = 2 * (cuts.len() - 1);
-    let head = costs::head_end(depot, route, cuts);
-    let tail = costs::tail_start(end, route, cuts);
-    fill_states(
-        locations,
-        legs,
-        tail,
-        count,
-        &entries,
-        &exits,
-        &inside,
-        joint,
-    );
-    fill_cells(
-        locations,
-        legs,
-        head,
-        tail,
-        count,
-        &entries,
-        &inside,
-        HEAD,
-        joint,
-    );
 }

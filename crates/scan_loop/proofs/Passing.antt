@@ -55,18 +55,25 @@ at-most-none (suc x) = lt-leb (suc x) 0 (omega arith) ∙ sym (ne-eqb (suc x) 0 
 
 -- No rows are filled before the first turn.
 pub none-filled : (k : ℕ) (T : Trip) (orders masks : List ℕ) {members r signs visits : List ℕ} → ClosingKept (pairs-of (T .pairs)) members r signs visits →
-    PartLeft (problem T) members orders masks (length masks) r k (replicate 1532 0) signs (replicate 160 0) visits
+    PartLeft (problem T) members orders masks (length masks) r k (replicate 1532 0) (replicate 1915 0) signs (replicate 160 0) (replicate 1532 0) (replicate 1915 0) visits
 none-filled k T orders masks closing =
     record {
       rows-from = record { places = refl; listed = λ h. absurd (omega (arith, h)) };
-      lent = record { blank = no-table (2 * (k - 2)); signed = λ h. absurd (omega (arith, h)); kept = closing };
+      lent = record {
+        blank = no-table (2 * (k - 2));
+        room = refl;
+        chained = λ h. absurd (omega (arith, h));
+        hand-lent = record { hand-places = refl; chain-places = refl };
+        signed = λ h. absurd (omega (arith, h));
+        kept = closing;
+      };
     }
 
 -- Of another route no visit is found yet.
-pub lent-anew : (T : Trip) {members orders masks : List ℕ} {i : ℕ} {r : List ℕ} {k : ℕ} {rows signs shared visits visits′ : List ℕ} (r′ : List ℕ) → VisitsForgotten visits visits′ →
-    PartLeft (problem T) members orders masks i r k rows signs shared visits → PartLeft (problem T) members orders masks i r′ k rows signs shared visits′
+pub lent-anew : (T : Trip) {members orders masks : List ℕ} {i : ℕ} {r : List ℕ} {k : ℕ} {rows chains signs shared hand hand-chains visits visits′ : List ℕ} (r′ : List ℕ) → VisitsForgotten visits visits′ →
+    PartLeft (problem T) members orders masks i r k rows chains signs shared hand hand-chains visits → PartLeft (problem T) members orders masks i r′ k rows chains signs shared hand hand-chains visits′
 lent-anew T {members} {r = r} {signs = signs} {visits = visits} {visits′ = visits′} r′ f w =
-    record { rows-from = w .rows-from; lent = record { blank = w .lent .blank; signed = w .lent .signed; kept = anew (w .lent .kept) } }
+    record { rows-from = w .rows-from; lent = record { blank = w .lent .blank; room = w .lent .room; chained = w .lent .chained; hand-lent = w .lent .hand-lent; signed = w .lent .signed; kept = anew (w .lent .kept) } }
   where
     anew : ClosingKept (pairs-of (T .pairs)) members r signs visits → ClosingKept (pairs-of (T .pairs)) members r′ signs visits′
     anew (inl e) = inl e
@@ -139,9 +146,9 @@ module _ (k : ℕ) (T : Trip) (orders masks members start : List ℕ) (from : �
 
     -- ---- before a stretch
 
-    pub partable : {forwards backwards stayed table late rows signs shared visits : List ℕ} {limits : Limits} {filled : ℕ} → Known T r forwards backwards stayed limits late → Padded table →
-        PartLeft (problem T) members orders masks filled r k rows signs shared visits →
-        PartScannable T members rows signs orders masks i r forwards backwards stayed (limits .heads) late (limits .since) cuts table shared visits filled
+    pub partable : {forwards backwards stayed table late rows chains signs shared hand hand-chains visits : List ℕ} {limits : Limits} {filled : ℕ} → Known T r forwards backwards stayed limits late → Padded table →
+        PartLeft (problem T) members orders masks filled r k rows chains signs shared hand hand-chains visits →
+        PartScannable T members rows chains signs orders masks i r forwards backwards stayed (limits .heads) late (limits .since) cuts table shared hand hand-chains visits filled
     partable m p f =
         record {
           searchable = record {
@@ -163,7 +170,7 @@ module _ (k : ℕ) (T : Trip) (orders masks members start : List ℕ) (from : �
         }
 
     -- The rows are then those from the index on.
-    pub filled-there : {rows signs shared visits : List ℕ} → PartLeft (problem T) members orders masks i r (length cuts) rows signs shared visits → PartLeft (problem T) members orders masks i r k rows signs shared visits
+    pub filled-there : {rows chains signs shared hand hand-chains visits : List ℕ} → PartLeft (problem T) members orders masks i r (length cuts) rows chains signs shared hand hand-chains visits → PartLeft (problem T) members orders masks i r k rows chains signs shared hand hand-chains visits
     filled-there f = rw own at f
 
     -- ---- behind a stretch

@@ -1,4 +1,5 @@
 // The scan of document 01 from a place on, stretch by stretch: the cut sets with the same first cuts are one. No entry: crate polishing calls it.
+use scan_chains::CHAIN_BYTES;
 use scan_joints::CELLS;
 use scan_joints::ROW_BYTES;
 use scan_taking::Limits;
@@ -90,6 +91,9 @@ pub fn scan_cut_sets(
     let mut cut = start;
     let mut index = from;
     let mut rows = [0u8; ROW_BYTES];
+    let mut chains = [0u8; CHAIN_BYTES];
+    let mut hand = [0u8; ROW_BYTES];
+    let mut hand_chains = [0u8; CHAIN_BYTES];
     let mut filled = masks.len();
     let mut examined = 0u64;
     let mut accepted = 0u64;
@@ -107,6 +111,7 @@ pub fn scan_cut_sets(
             orders,
             masks,
             &mut rows,
+            &mut chains,
             signs,
             index,
             &route[..],
@@ -119,6 +124,8 @@ pub fn scan_cut_sets(
             &mut cut[..k],
             &mut joint,
             &mut shared,
+            &mut hand,
+            &mut hand_chains,
             visits,
             filled,
             allowance - examined,

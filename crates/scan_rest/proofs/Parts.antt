@@ -24,8 +24,9 @@ use Rattle.precedence_closing.specs.Closing.{SignsFillable}
 use Rattle.scan_step.specs.declared.Stretch.{Stretch}
 use Rattle.scan_step.specs.Stepping.{ClosingKept, Ended, improves-at}
 use Rattle.scan_step.proofs.Steps.{last-stored}
+use Rattle.scan_chains.specs.Chains.{Chained, ChainsFillable}
 use Rattle.scan_stretch.specs.Stretch.{Stretchable, Stretched}
-use Rattle.scan_rest.specs.Rest.{RowsFrom, RowsKeepable, RowsKept, SignsFit, SignsKeepable, PartLeft, PartAllowed, RestEnded, PartScannable, PartScanned}
+use Rattle.scan_rest.specs.Rest.{RowsFrom, RowsKeepable, RowsKept, SignsFit, SignsKeepable, ChainsKeepable, PartLeft, PartAllowed, RestEnded, PartScannable, PartScanned}
 use Rattle.scan_rest.proofs.Listing.{listed-rows}
 
 -- ---- the rows
@@ -72,10 +73,13 @@ module _ {k : ℕ} {orders masks : List ℕ} {filled index : ℕ} {rows : List �
 pub signs-fillable : {rows : List ℕ} {patterns filled index : ℕ} {signs : List ℕ} → SignsKeepable rows patterns filled index signs → 0 < length signs → SignsFillable rows patterns signs
 signs-fillable w h = record { row-places = w .places; few = w .few; small = w .small; places = w .sign-places h }
 
+pub chains-fillable : {rows : List ℕ} {patterns filled index : ℕ} {chains : List ℕ} → ChainsKeepable rows patterns filled index chains → ChainsFillable rows patterns chains
+chains-fillable w = record { places = w .places; room = w .room; few = w .few; known = w .small }
+
 -- ---- before a part
 
-module _ {T : Trip} {members rows signs orders masks : List ℕ} {index : ℕ} {r forwards backwards stayed : List ℕ} {heads : ℕ} {late : List ℕ} {since : ℕ} {cuts table shared visits : List ℕ} {filled : ℕ}
-    (given : PartScannable T members rows signs orders masks index r forwards backwards stayed heads late since cuts table shared visits filled) where
+module _ {T : Trip} {members rows chains signs orders masks : List ℕ} {index : ℕ} {r forwards backwards stayed : List ℕ} {heads : ℕ} {late : List ℕ} {since : ℕ} {cuts table shared hand hand-chains visits : List ℕ} {filled : ℕ}
+    (given : PartScannable T members rows chains signs orders masks index r forwards backwards stayed heads late since cuts table shared hand hand-chains visits filled) where
   abbrev ps : List Pattern
   ps = pattern-rows (length cuts) orders masks
 
@@ -110,13 +114,24 @@ module _ {T : Trip} {members rows signs orders masks : List ℕ} {index : ℕ} {
           held = λ e. rw (f .same e, ← e) (given .closing .signed (omega (arith, e, given .known)));
         }
 
-    module _ {signs′ : List ℕ} (many-signs : length signs′ ≡ length signs) (g : SignsFit rows′ (length masks - index) signs′) where
+    pub chains-keepable : ChainsKeepable rows′ (length masks - index) filled index chains
+    chains-keepable =
+        let l = f .from .listed (given .known) in
+        record {
+          places = f .from .places;
+          room = given .closing .room;
+          few = omega (arith, given .patterns .few);
+          small = rw (l .many) at (l .patterned .small);
+          held = λ e. rw (f .same e, ← e) (given .closing .chained (omega (arith, e, given .known)));
+        }
+
+    module _ {signs′ chains′ : List ℕ} (many-signs : length signs′ ≡ length signs) (g : SignsFit rows′ (length masks - index) signs′) (a : Chained rows′ (length masks - index) chains′) where
       -- The visits are lent as before: they do not read the signs.
       still : ClosingKept (pairs-of (T .pairs)) members r signs visits → ClosingKept (pairs-of (T .pairs)) members r signs′ visits
       still (inl e) = inl (many-signs ∙ e)
       still (inr m) = inr (many-signs ∙ m .0, m .1, m .2, m .3)
 
-      pub stretchable : Stretchable T members rows′ (length masks - index) signs′ r forwards backwards stayed heads late since cuts table shared visits
+      pub stretchable : Stretchable T members rows′ chains′ (length masks - index) signs′ r forwards backwards stayed heads late since cuts table shared hand hand-chains visits
       stretchable =
           record {
             searchable = given .searchable;
@@ -127,12 +142,12 @@ module _ {T : Trip} {members rows signs orders masks : List ℕ} {index : ℕ} {
             latenesses = given .latenesses;
             lent = given .lent;
             back = given .back;
-            closing = record { blank = given .closing .blank; signed = g; kept = still (given .closing .kept) };
+            closing = record { chained = a; blank = given .closing .blank; hand-lent = given .closing .hand-lent; signed = g; kept = still (given .closing .kept) };
           }
 
-      pub left-so : {allowed : ℕ} {stretch : Stretch} {cuts′ table′ shared′ visits′ : List ℕ} → Stretched (problem T) members (length masks - index) rows′ signs′ r cuts allowed stretch cuts′ table′ shared′ visits′ →
-          PartLeft (problem T) members orders masks index r (length cuts) rows′ signs′ shared′ visits′
-      left-so s = record { rows-from = f .from; lent = record { blank = s .blank; signed = λ _. g; kept = s .kept } }
+      pub left-so : {allowed : ℕ} {stretch : Stretch} {cuts′ table′ shared′ hand′ hand-chains′ visits′ : List ℕ} → Stretched (problem T) members (length masks - index) rows′ signs′ r cuts allowed stretch cuts′ table′ shared′ hand′ hand-chains′ visits′ →
+          PartLeft (problem T) members orders masks index r (length cuts) rows′ chains′ signs′ shared′ hand′ hand-chains′ visits′
+      left-so s = record { rows-from = f .from; lent = record { blank = s .blank; room = a .places; chained = λ _. a; hand-lent = s .hand-lent; signed = λ _. g; kept = s .kept } }
 
   parted : first-cuts cuts ++ (last-cut cuts ∷ []) ≡ cuts
   parted = sym (cuts-parted cuts (omega (arith, some-cuts)))
@@ -142,8 +157,8 @@ module _ {T : Trip} {members rows signs orders masks : List ℕ} {index : ℕ} {
 
   -- ---- behind it
 
-  module _ {rows′ signs′ : List ℕ} (f : RowsFrom (length cuts) orders masks index rows′) {allowed left : ℕ} (a : PartAllowed index (length masks - index) left allowed) {stretch : Stretch} {cuts′ table′ shared′ visits′ : List ℕ}
-      (s : Stretched (problem T) members (length masks - index) rows′ signs′ r cuts allowed stretch cuts′ table′ shared′ visits′) where
+  module _ {rows′ signs′ : List ℕ} (f : RowsFrom (length cuts) orders masks index rows′) {allowed left : ℕ} (a : PartAllowed index (length masks - index) left allowed) {stretch : Stretch} {cuts′ table′ shared′ hand′ hand-chains′ visits′ : List ℕ}
+      (s : Stretched (problem T) members (length masks - index) rows′ signs′ r cuts allowed stretch cuts′ table′ shared′ hand′ hand-chains′ visits′) where
     end : Ended (problem T) (drop index ps) r cuts allowed stretch cuts′
     end = s .ended (drop index ps) (f .listed (given .known))
 

@@ -12,12 +12,13 @@ use Rattle.deadlines.specs.Lateness.{Latenesses}
 use Rattle.costs.specs.RouteCosts.{first-cuts, last-cut}
 use Rattle.precedence.specs.Words.{PairsLent, BackSince}
 use Rattle.scan_joints.specs.JointTable.{Padded}
+use Rattle.scan_chains.specs.Chains.{Chained}
 use Rattle.scan_cut_set.specs.Gain.{Searchable}
 use Rattle.scan_shared.specs.Filling.{Blank}
 use Rattle.precedence_closing.specs.Closing.{Signed}
 use Rattle.scan_step.specs.declared.Stretch.{Stretch}
 use Rattle.scan_step.specs.Stepping.{Listed, GainAt, ClosingKept, improves-at, candidate-number, candidate-count}
-use Rattle.scan_stretch.specs.Stretch.{HeadsKept}
+use Rattle.scan_stretch.specs.Stretch.{HeadsKept, HandLent}
 
 -- Through all patterns up to a last cut, with so many candidates counted.
 pub record OverAt (ps : List Pattern) (route cuts : List ℕ) (reached : ℕ) (cuts′ : List ℕ) : Type 0 where
@@ -67,15 +68,26 @@ pub record SignsKeepable (rows : List ℕ) (patterns filled index : ℕ) (signs 
   pub sign-places : 0 < length signs → length signs ≡ 383
   pub held : filled ≡ index → SignsFit rows patterns signs
 
--- What is lent to a part beside the rows, so that it can be lent again: the signs of the rows, where these are filled; the shared table; and what closed rows are found by.
-pub record PartLent (P : Problem) (members masks : List ℕ) (filled : ℕ) (route : List ℕ) (k : ℕ) (rows signs shared visits : List ℕ) : Type 0 where
+-- The same of the places that they add up.
+pub record ChainsKeepable (rows : List ℕ) (patterns filled index : ℕ) (chains : List ℕ) : Type 0 where
+  pub places : length rows ≡ 1532
+  pub room : length chains ≡ 1915
+  pub few : patterns ≤ 383
+  pub small : (c : ℕ) → c < 4 * patterns → getD rows c 0 ≤ 8
+  pub held : filled ≡ index → Chained rows patterns chains
+
+-- What is lent to a part beside the rows, so that it can be lent again: the places that the rows add up and their signs, where these are filled; the shared table; places for the rows at hand; and what closed rows are found by.
+pub record PartLent (P : Problem) (members masks : List ℕ) (filled : ℕ) (route : List ℕ) (k : ℕ) (rows chains signs shared hand hand-chains visits : List ℕ) : Type 0 where
   pub blank : Blank (2 * (k - 2)) shared
+  pub room : length chains ≡ 1915
+  pub chained : filled < length masks → Chained rows (length masks - filled) chains
+  pub hand-lent : HandLent hand hand-chains
   pub signed : filled < length masks → SignsFit rows (length masks - filled) signs
   pub kept : ClosingKept (P .pairs) members route signs visits
 
-pub record PartLeft (P : Problem) (members orders masks : List ℕ) (index : ℕ) (route : List ℕ) (k : ℕ) (rows signs shared visits : List ℕ) : Type 0 where
+pub record PartLeft (P : Problem) (members orders masks : List ℕ) (index : ℕ) (route : List ℕ) (k : ℕ) (rows chains signs shared hand hand-chains visits : List ℕ) : Type 0 where
   pub rows-from : RowsFrom k orders masks index rows
-  pub lent : PartLent P members masks index route k rows signs shared visits
+  pub lent : PartLent P members masks index route k rows chains signs shared hand hand-chains visits
 
 -- ---- its candidates
 
@@ -93,7 +105,7 @@ pub record RestEnded (index patterns : ℕ) (stretch answer : Stretch) : Type 0 
   pub pattern : answer .gains ≡ true → answer .pattern ≡ index + stretch .pattern
 
 -- What a part is scanned from: what a stretch is, with the list of patterns, the index of one, and rows that were filled from another.
-pub record PartScannable (T : Trip) (members rows signs orders masks : List ℕ) (index : ℕ) (route forward-sums backward-sums stayed : List ℕ) (heads : ℕ) (late : List ℕ) (since : ℕ) (cuts table shared visits : List ℕ) (filled : ℕ) : Type 0 where
+pub record PartScannable (T : Trip) (members rows chains signs orders masks : List ℕ) (index : ℕ) (route forward-sums backward-sums stayed : List ℕ) (heads : ℕ) (late : List ℕ) (since : ℕ) (cuts table shared hand hand-chains visits : List ℕ) (filled : ℕ) : Type 0 where
   pub searchable : Searchable T route forward-sums backward-sums stayed cuts
   pub padded : Padded table
   pub head : HeadsKept T route heads
@@ -103,4 +115,4 @@ pub record PartScannable (T : Trip) (members rows signs orders masks : List ℕ)
   pub patterns : PatternRows (length cuts) orders masks
   pub known : index < length masks
   pub held : RowsFrom (length cuts) orders masks filled rows
-  pub closing : PartLent (problem T) members masks filled route (length cuts) rows signs shared visits
+  pub closing : PartLent (problem T) members masks filled route (length cuts) rows chains signs shared hand hand-chains visits

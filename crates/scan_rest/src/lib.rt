@@ -1,4 +1,5 @@
 // A part of the scan: a stretch, or the rest of a cut set, whose patterns from an index on are a list of their own. No entry: crate scan_loop calls it.
+use scan_chains::CHAIN_BYTES;
 use scan_joints::CELLS;
 use scan_joints::ROW_BYTES;
 use scan_step::Stretch;
@@ -9,7 +10,8 @@ ghost use mathlib.Core.Bool.{true};
 ghost use Prim.Native.Nat.{_≤_};
 ghost use lib.ListN.{length};
 ghost use Rattle.theory.specs.Tables.{problem, pattern-rows, trip};
-ghost use Rattle.scan_rest.specs.Rest.{RowsFrom, RowsKeepable, RowsKept, SignsKeepable, SignsFit, PartAllowed, RestEnded, PartScannable, PartScanned, PartLeft};
+ghost use Rattle.scan_chains.specs.Chains.{Chained};
+ghost use Rattle.scan_rest.specs.Rest.{RowsFrom, RowsKeepable, RowsKept, SignsKeepable, SignsFit, ChainsKeepable, PartAllowed, RestEnded, PartScannable, PartScanned, PartLeft};
 
 // The rows of the patterns from an index on, unless they were filled from there.
 fn keep_rows(
@@ -48,6 +50,23 @@ fn keep_signs(
         return;
     }
     precedence_closing::fill_signs(rows, patterns, signs);
+}
+
+// The places that they add up, unless they were filled with these rows.
+fn keep_chains(
+    rows: &[u8; ROW_BYTES],
+    patterns: usize,
+    filled: usize,
+    index: usize,
+    chains: &mut [u8; CHAIN_BYTES],
+)
+    requires { ⌜ ChainsKeepable (now rows) patterns filled index (now chains) ⌝ }
+    ensures { λ _. ⌜ Chained (now (rows .entry)) patterns (now (chains .exit)) ⌝ }
+{
+    if filled == index {
+        return;
+    }
+    scan_chains::fill_chains(rows, patterns, chains);
 }
 
 // The candidates that a part may take of those left: a rest no more than it has, so that it ends with its cut set.
@@ -94,6 +113,7 @@ pub fn scan_part(
     orders: &[u8],
     masks: &[u8],
     rows: &mut [u8; ROW_BYTES],
+    chains: &mut [u8; CHAIN_BYTES],
     signs: &mut [u16],
     index: usize,
     route: &[u32],
@@ -106,16 +126,19 @@ pub fn scan_part(
     cuts: &mut [usize],
     joint: &mut [u64; CELLS],
     shared: &mut [u64; CELLS],
+    hand: &mut [u8; ROW_BYTES],
+    hand_chains: &mut [u8; CHAIN_BYTES],
     visits: &mut [u64],
     filled: usize,
     left: u64,
 ) -> Stretch
-    requires { ⌜ PartScannable (trip locations (now legs) (now latest) (now service) depot end (now pairs)) (now members) (now rows) (now signs) (now orders) (now masks) index (now route) (now forward) (now backward) (now stayed) heads (now lateness) since (now cuts) (now joint) (now shared) (now visits) filled ⌝ }
-    ensures { λ r. ⌜ PartScanned (problem (trip locations (now (legs .entry)) (now (latest .entry)) (now (service .entry)) depot end (now (pairs .entry)))) (pattern-rows (length (now (cuts .entry))) (now (orders .entry)) (now (masks .entry))) (now (route .entry)) (now (cuts .entry)) index left r (now (cuts .exit)) (now (joint .exit)) × PartLeft (problem (trip locations (now (legs .entry)) (now (latest .entry)) (now (service .entry)) depot end (now (pairs .entry)))) (now (members .entry)) (now (orders .entry)) (now (masks .entry)) index (now (route .entry)) (length (now (cuts .entry))) (now (rows .exit)) (now (signs .exit)) (now (shared .exit)) (now (visits .exit)) ⌝ }
+    requires { ⌜ PartScannable (trip locations (now legs) (now latest) (now service) depot end (now pairs)) (now members) (now rows) (now chains) (now signs) (now orders) (now masks) index (now route) (now forward) (now backward) (now stayed) heads (now lateness) since (now cuts) (now joint) (now shared) (now hand) (now «hand_chains») (now visits) filled ⌝ }
+    ensures { λ r. ⌜ PartScanned (problem (trip locations (now (legs .entry)) (now (latest .entry)) (now (service .entry)) depot end (now (pairs .entry)))) (pattern-rows (length (now (cuts .entry))) (now (orders .entry)) (now (masks .entry))) (now (route .entry)) (now (cuts .entry)) index left r (now (cuts .exit)) (now (joint .exit)) × PartLeft (problem (trip locations (now (legs .entry)) (now (latest .entry)) (now (service .entry)) depot end (now (pairs .entry)))) (now (members .entry)) (now (orders .entry)) (now (masks .entry)) index (now (route .entry)) (length (now (cuts .entry))) (now (rows .exit)) (now (chains .exit)) (now (signs .exit)) (now (shared .exit)) (now (hand .exit)) (now («hand_chains» .exit)) (now (visits .exit)) ⌝ }
 {
     keep_rows(cuts.len(), orders, masks, filled, index, rows);
     let patterns = masks.len() - index;
     keep_signs(rows, patterns, filled, index, signs);
+    keep_chains(rows, patterns, filled, index, chains);
     let allowed = part_allowed(index, patterns, left);
     let last = cuts.len() - 1;
     let here = cuts[last];
@@ -129,6 +152,7 @@ pub fn scan_part(
         pairs,
         members,
         rows,
+        chains,
         patterns,
         &signs[..],
         route,
@@ -141,6 +165,8 @@ pub fn scan_part(
         cuts,
         joint,
         shared,
+        hand,
+        hand_chains,
         visits,
         allowed,
     );

@@ -26,12 +26,16 @@ use Rattle.scan_bound.specs.Tests.{Nextable, NextPromising}
 use Rattle.deadline_dues.specs.Dues.{DuesHeld}
 use Rattle.precedence.specs.Words.{PairsLent, Readable}
 use Rattle.precedence_marks.specs.Held.{MarksKept}
-use Rattle.scan_cut_set.specs.Gain.{FirstGain, Findable, Found}
+use Rattle.scan_reach.specs.Reach.{JointHeld}
+use Rattle.scan_cut_set.specs.Gain.{FirstGain, Found}
+use Rattle.scan_open.specs.Open.{OpenFindable}
+use Rattle.scan_open.proofs.Open.{chained-less}
 use Rattle.scan_step.specs.declared.Step.{Step}
 use Rattle.scan_step.specs.declared.Step.the-variants.{Done, On, Closed}
-use Rattle.scan_step.specs.Stepping.{Listed, Hopeful, Ended, GainAt, Going, StepTo, NotClosed, ClosingKept, Shutting, ShutBy, BlockAsked, BlockedAt, NextHit, Triable, Steppable, idle-end, improves-at}
+use Rattle.scan_step.specs.Stepping.{Listed, Hopeful, Ended, GainAt, Going, StepTo, NotClosed, ClosingKept, Shutting, ShutBy, BlockAsked, BlockedAt, NextHit, Triable, Trying, Steppable, idle-end, improves-at}
 use Rattle.scan_step.proofs.LastCut.{first-below, long, at-cut}
 use Rattle.scan_step.proofs.Closing.{shut-idle}
+use Rattle.scan_step.proofs.Ends.{ends-told}
 use Rattle.scan_step.proofs.Counting.{count-to, count-next, count-least, up-to}
 
 decBool : (b : Bool) → (b ≡ true) ⊎ (b ≡ false)
@@ -91,7 +95,7 @@ module _ {T : Trip} {ps : List Pattern} {members r first : List ℕ} {left : ℕ
 
     pub triable-on : Triable T members rows patterns r forwards backwards stayed late since cuts table dues words examined left
     triable-on =
-        record { hopeful = hopeful-on; held = rw (going .same) (going .held); behind = going .behind; marks = rw (going .same) (going .marks); marks-behind = going .marks-behind; within = going .within }
+        record { hopeful = hopeful-on; joint-held = rw (going .same) (going .joint-held); held = rw (going .same) (going .held); behind = going .behind; marks = rw (going .same) (going .marks); marks-behind = going .marks-behind; within = going .within }
 
     pub prepared-on : {is-open : ℕ → Bool} {entries exits inside low : List ℕ} → PreparedNow (T .tables .locations) (T .tables .legs) (T .depot) r first rows patterns is-open entries exits inside low →
         PreparedNow (T .tables .locations) (T .tables .legs) (T .depot) r cuts rows patterns is-open entries exits inside low
@@ -112,9 +116,9 @@ module _ {T : Trip} {members rows : List ℕ} {patterns : ℕ} {r forwards backw
   pub few-patterns : patterns ≤ 383
   few-patterns = omega (arith, given .listed .patterned .few, given .listed .many)
 
-  pub starts : (ps : List Pattern) (left : ℕ) {dues words : List ℕ} → DuesHeld (clock-by (T .tables)) r (first-cuts cuts) dues → getD dues 8 0 ≤ last-cut cuts →
+  pub starts : (ps : List Pattern) (left : ℕ) {dues words : List ℕ} → JointHeld (T .tables .locations) (T .tables .legs) (T .depot) (T .end) r (first-cuts cuts) table → DuesHeld (clock-by (T .tables)) r (first-cuts cuts) dues → getD dues 8 0 ≤ last-cut cuts →
       MarksKept (pairs-of (T .pairs)) members r (first-cuts cuts) words → getD words 16 0 ≤ last-cut cuts → Going T ps members r cuts left cuts table dues words 0
-  starts ps left held behind marks marks-behind =
+  starts ps left joint-held held behind marks marks-behind =
       let z : last-cut cuts - last-cut cuts ≡ 0 = omega arith in
       record {
         begin = given .searchable .cut-set;
@@ -126,15 +130,16 @@ module _ {T : Trip} {members rows : List ℕ} {patterns : ℕ} {r forwards backw
         within = omega arith;
         idle = λ t x h l i. absurd (omega arith);
         padded = given .padded;
+        joint-held = joint-held;
         held = held;
         behind = behind;
         marks = marks;
         marks-behind = marks-behind;
       }
 
-  -- Nothing is held of the dues and the words.
-  pub starts-bare : (ps : List Pattern) (left : ℕ) → Going T ps members r cuts left cuts table (replicate 9 0) (replicate 17 0) 0
-  starts-bare ps left = starts ps left (record { places = refl; held = inl refl }) (rw (zero-at 9 8) (omega arith)) (bare (given .lent)) (rw (zero-at 17 16) (omega arith))
+  -- Nothing is held of the joint table, the dues and the words.
+  pub starts-bare : (ps : List Pattern) (left : ℕ) → getD table 153 0 ≡ 0 → Going T ps members r cuts left cuts table (replicate 9 0) (replicate 17 0) 0
+  starts-bare ps left none = starts ps left (inl none) (record { places = refl; held = inl refl }) (rw (zero-at 9 8) (omega arith)) (bare (given .lent)) (rw (zero-at 17 16) (omega arith))
     where
       bare : PairsLent (pairs-of (T .pairs)) members → MarksKept (pairs-of (T .pairs)) members r (first-cuts cuts) (replicate 17 0)
       bare (inl e) = inl (e .1, refl, zero-at 17)
@@ -142,8 +147,8 @@ module _ {T : Trip} {members rows : List ℕ} {patterns : ℕ} {r forwards backw
 
 -- ---- up to the first last cut that is promising
 
-module _ {T : Trip} {members rows : List ℕ} {patterns : ℕ} {signs : List ℕ} {blocked : ℕ} {some : Bool} {r forwards backwards stayed late : List ℕ} {since : ℕ} {cuts entries exits inside low zero table dues words visits : List ℕ} {examined left : ℕ}
-    (given : Steppable T members rows patterns signs blocked some r forwards backwards stayed late since cuts entries exits inside low zero table dues words visits examined left) where
+module _ {T : Trip} {members rows chains : List ℕ} {patterns : ℕ} {signs : List ℕ} {blocked : ℕ} {some : Bool} {r forwards backwards stayed late : List ℕ} {since : ℕ} {cuts entries exits inside low zero table dues words hand-rows hand-chains numbers visits : List ℕ} {examined left : ℕ}
+    (given : Steppable T members rows chains patterns signs blocked some r forwards backwards stayed late since cuts entries exits inside low zero table dues words hand-rows hand-chains numbers visits examined left) where
   pub nextable : Nextable (T .tables .locations) (T .tables .legs) (T .depot) (T .end) r forwards backwards cuts entries exits inside low zero
   nextable =
       record {
@@ -254,6 +259,7 @@ module _ {T : Trip} {members rows : List ℕ} {patterns : ℕ} {signs : List ℕ
                 within = omega (arith, room, going .within);
                 idle = λ t x h b i. passed t x h (rw e at b) i;
                 padded = going .padded;
+                joint-held = going .joint-held;
                 held = going .held;
                 behind = rw e (omega (arith, going .behind, next .least));
                 marks = going .marks;
@@ -285,9 +291,12 @@ module _ {T : Trip} {members rows : List ℕ} {patterns : ℕ} {signs : List ℕ
       here-cut : CutSet (length hand) (length r) hand
       here-cut = rw here-is (at-cut r cuts own hit (next .least) l)
 
+      here-first : first-cuts hand ≡ first-cuts cuts
+      here-first = ap first-cuts here-is ∙ first-of-cuts (first-cuts cuts) hit
+
       here-shut : Shutting T rows patterns r hand signs blocked
       here-shut =
-          shut-on hand (ap length here-is ∙ long r cuts own hit) (ap first-cuts here-is ∙ first-of-cuts (first-cuts cuts) hit) (omega (arith, hit-stored cuts (own .least) hit, next .least)) (given .shutting)
+          shut-on hand (ap length here-is ∙ long r cuts own hit) here-first (omega (arith, hit-stored cuts (own .least) hit, next .least)) (given .shutting)
 
       words-read : ClosingKept (pairs-of (T .pairs)) members r signs visits → 0 < length signs → Readable members r × (length visits ≡ 1027) × (getD visits 1026 0 ≤ length r)
       words-read (inl n) h = absurd (omega (arith, n, h))
@@ -308,26 +317,34 @@ module _ {T : Trip} {members rows : List ℕ} {patterns : ℕ} {signs : List ℕ
           record { small = now .small; signed = λ b. given .signed (now .by-signs b); shut = now .is (pairs-of (T .pairs)) (given .kept) (given .triable .hopeful .back) .0 },
         )
 
-pub hit-triable : {T : Trip} {members rows : List ℕ} {patterns : ℕ} {signs : List ℕ} {blocked : ℕ} {some : Bool} {r forwards backwards stayed late : List ℕ} {since : ℕ} {cuts entries exits inside low zero table dues words visits : List ℕ} {examined left : ℕ} →
-    Steppable T members rows patterns signs blocked some r forwards backwards stayed late since cuts entries exits inside low zero table dues words visits examined left →
+pub hit-trying : {T : Trip} {members rows chains : List ℕ} {patterns : ℕ} {signs : List ℕ} {blocked : ℕ} {some : Bool} {r forwards backwards stayed late : List ℕ} {since : ℕ} {cuts entries exits inside low zero table dues words hand-rows hand-chains numbers visits : List ℕ} {examined left : ℕ} →
+    Steppable T members rows chains patterns signs blocked some r forwards backwards stayed late since cuts entries exits inside low zero table dues words hand-rows hand-chains numbers visits examined left →
     {hit : ℕ} → NextHit (T .tables .locations) (T .tables .legs) (T .depot) (T .end) r cuts entries exits inside low some hit → {over : ℕ} → over ≡ (hit - last-cut cuts) * patterns → over ≤ left - examined → hit ≤ length r →
-    Triable T members rows patterns r forwards backwards stayed late since (set cuts (length cuts - 1) hit) table dues words (examined + over) left
-hit-triable {T} {members} {rows} {patterns} {signs} {blocked} {some} {r} {forwards} {backwards} {stayed} {late} {since} {cuts} {entries} {exits} {inside} {low} {zero} {table} {dues} {words} {visits} given next {over} e room l =
+    Trying T members rows chains patterns signs blocked r forwards backwards stayed late since (set cuts (length cuts - 1) hit) entries exits inside table dues words hand-rows hand-chains numbers (examined + over) left
+hit-trying {T} {members} {rows} {chains} {patterns} {signs} {blocked} {some} {r} {forwards} {backwards} {stayed} {late} {since} {cuts} {entries} {exits} {inside} {low} {zero} {table} {dues} {words} {hand-rows} {hand-chains} {numbers} {visits} given {hit} next {over} e room l =
     let w = given .triable in
     let h = w .hopeful in
-    let alone : Steppable T members rows patterns signs blocked some r forwards backwards stayed late since cuts entries exits inside low zero table dues words visits 0 over =
+    let alone : Steppable T members rows chains patterns signs blocked some r forwards backwards stayed late since cuts entries exits inside low zero table dues words hand-rows hand-chains numbers visits 0 over =
     record {
-      triable = record { hopeful = h; held = w .held; behind = w .behind; marks = w .marks; marks-behind = w .marks-behind; within = omega arith };
+      triable = record { hopeful = h; joint-held = w .joint-held; held = w .held; behind = w .behind; marks = w .marks; marks-behind = w .marks-behind; within = omega arith };
       prepared = given .prepared;
       none = given .none;
       shutting = given .shutting;
       signed = given .signed;
+      chained = given .chained;
+      at-hand = given .at-hand;
       kept = given .kept;
       zero-places = given .zero-places;
       zero-is = given .zero-is;
     } in
-    let t = triable-on (at-hit alone next (h .listed) (starts h (h .list) over (w .held) (w .behind) (w .marks) (w .marks-behind)) e (omega arith) l) h in
-    record { hopeful = t .hopeful; held = t .held; behind = t .behind; marks = t .marks; marks-behind = t .marks-behind; within = omega (arith, room, w .within) }
+    let t = triable-on (at-hit alone next (h .listed) (starts h (h .list) over (w .joint-held) (w .held) (w .behind) (w .marks) (w .marks-behind)) e (omega arith) l) h in
+    record {
+      triable = record { hopeful = t .hopeful; joint-held = t .joint-held; held = t .held; behind = t .behind; marks = t .marks; marks-behind = t .marks-behind; within = omega (arith, room, w .within) };
+      chained = given .chained;
+      shutting = here-shut given next l;
+      ends = ends-told {depot = T .depot} {rows = []} {count = 0} {low = low} (set cuts (length cuts - 1) hit) (here-cut given next l) (rw (here-first given next l) (given .prepared .prepared)) (given .prepared .places .ends);
+      at-hand = given .at-hand;
+    }
 
 -- A cut set that is tried tells of no closed rows.
 pub shut-tried : (T : Trip) (rows : List ℕ) (patterns : ℕ) (r signs : List ℕ) (blocked : ℕ) (answer : Step) (cuts : List ℕ) → NotClosed answer → ShutBy T rows patterns r signs blocked answer cuts
@@ -348,28 +365,49 @@ module _ {locations : ℕ} {legs : List ℕ} {depot end : ℕ} {r cuts entries e
 
 -- ---- at a last cut that is promising
 
-module _ {T : Trip} {members rows : List ℕ} {patterns : ℕ} {r forwards backwards stayed late : List ℕ} {since : ℕ} {cuts table dues words : List ℕ} {examined left : ℕ}
-    (given : Triable T members rows patterns r forwards backwards stayed late since cuts table dues words examined left) {limit : ℕ} (limit-is : limit ≡ min patterns (left - examined)) where
-  pub findable : Findable T members r forwards backwards stayed cuts rows late since table dues words limit
-  findable =
-      let h = given .hopeful in
+module _ {T : Trip} {members rows chains : List ℕ} {patterns : ℕ} {signs : List ℕ} {blocked : ℕ} {r forwards backwards stayed late : List ℕ} {since : ℕ} {cuts entries exits inside table dues words hand hand-chains numbers : List ℕ} {examined left : ℕ}
+    (given : Trying T members rows chains patterns signs blocked r forwards backwards stayed late since cuts entries exits inside table dues words hand hand-chains numbers examined left) {limit : ℕ} (limit-is : limit ≡ min patterns (left - examined)) where
+  pub open-findable : OpenFindable T members r forwards backwards stayed cuts rows chains patterns signs blocked late since entries exits inside table dues words hand hand-chains numbers limit
+  open-findable =
+      let t = given .triable in
+      let h = t .hopeful in
+      let k = h .searchable .cut-set in
       record {
-        searchable = h .searchable;
-        patterns = h .list;
-        patterned = h .listed .patterned;
-        allowed = omega (arith, h .listed .many);
-        early = rw (head-at cuts r (omega (arith, h .searchable .cut-set .least))) (h .early);
-        latenesses = h .latenesses;
-        held = given .held;
-        behind = given .behind;
-        lent = h .lent;
-        front = h .front;
-        back = h .back;
-        marks = given .marks;
-        marks-behind = given .marks-behind;
-        padded = h .padded;
+        findable = record {
+          searchable = h .searchable;
+          patterns = h .list;
+          patterned = h .listed .patterned;
+          allowed = omega (arith, h .listed .many);
+          chained = chained-less (omega arith) (given .chained);
+          early = rw (head-at cuts r (omega (arith, k .least))) (h .early);
+          latenesses = h .latenesses;
+          held = t .held;
+          behind = t .behind;
+          lent = h .lent;
+          front = h .front;
+          back = h .back;
+          marks = t .marks;
+          marks-behind = t .marks-behind;
+          ends = given .ends;
+          padded = h .padded;
+          joint-held = t .joint-held;
+        };
+        within = omega arith;
+        chained = given .chained;
+        sifting = record {
+          places = h .listed .patterned .places;
+          few = few-patterns h;
+          known = rw (h .listed .many) at (h .listed .patterned .small);
+          signed = λ b. given .shutting .signed b .places;
+          held = given .at-hand;
+        };
+        idle = λ ps w x l m e.
+            ap (λ cs. improves (search-of (problem T) ps (length cuts) (length r)) r (move-at ps cs x)) (cuts-parted cuts (omega (arith, k .least)))
+            ∙ shut-idle T (h .back) (given .shutting) k ps w x m (omega arith) e (last-cut cuts) (omega arith) (first-below r cuts k .1);
       }
 
+module _ {T : Trip} {members rows : List ℕ} {patterns : ℕ} {r forwards backwards stayed late : List ℕ} {since : ℕ} {cuts table dues words : List ℕ} {examined left : ℕ}
+    (given : Triable T members rows patterns r forwards backwards stayed late since cuts table dues words examined left) {limit : ℕ} (limit-is : limit ≡ min patterns (left - examined)) where
   module _ {i : ℕ} {table′ dues′ words′ : List ℕ} (found : Found T members r cuts rows limit i table′ dues′ words′) where
     pub room-left : examined + i ≤ left
     room-left = omega (arith, found .within, given .within)
@@ -453,6 +491,7 @@ module _ {T : Trip} {members rows : List ℕ} {patterns : ℕ} {r forwards backw
                   within = room-left;
                   idle = λ t x h b i. by t x h (rw e at b) i (decLt t (last-cut cuts));
                   padded = found .padded;
+                  joint-held = rw (going .same) at (found .joint-held);
                   held = rw (going .same) at (found .held);
                   behind = rw e (omega (arith, found .behind));
                   marks = rw (going .same) at (found .marks);

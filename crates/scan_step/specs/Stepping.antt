@@ -23,7 +23,10 @@ use Rattle.precedence.specs.Words.{Members, PairsLent, Readable, BackSince}
 use Rattle.precedence_visits.specs.Visits.{Visits}
 use Rattle.precedence_closing.specs.Closing.{Signed, Shuts}
 use Rattle.precedence_marks.specs.Held.{MarksKept}
-use Rattle.scan_cut_set.specs.Gain.{Searchable}
+use Rattle.scan_reach.specs.Reach.{JointHeld}
+use Rattle.scan_chains.specs.Chains.{Chained}
+use Rattle.scan_cut_set.specs.Gain.{Searchable, EndsTold}
+use Rattle.scan_open.specs.Open.{HandKept}
 use Rattle.scan_step.specs.declared.Stretch.{Stretch}
 use Rattle.scan_step.specs.declared.Step.{Step}
 use Rattle.scan_step.specs.declared.Step.the-variants.{Done, On, Closed}
@@ -117,6 +120,7 @@ pub record Going (T : Trip) (ps : List Pattern) (members route first : List ℕ)
   pub within : examined ≤ left
   pub idle : (t x : ℕ) → last-cut first ≤ t → t < last-cut cuts → x < length ps → improves-at (problem T) ps route first t x ≡ false
   pub padded : Padded table
+  pub joint-held : JointHeld (T .tables .locations) (T .tables .legs) (T .depot) (T .end) route (first-cuts first) table
   pub held : DuesHeld (clock-by (T .tables)) route (first-cuts first) dues
   pub behind : getD dues 8 0 ≤ last-cut cuts
   pub marks : MarksKept (pairs-of (T .pairs)) members route (first-cuts first) words
@@ -146,20 +150,35 @@ ShutBy T rows patterns route signs blocked (Done answer) cuts = blocked ≡ bloc
 ShutBy T rows patterns route signs blocked (On examined) cuts = blocked ≡ blocked
 ShutBy T rows patterns route signs blocked (Closed examined closed) cuts = (blocked < closed) × Shutting T rows patterns route cuts signs closed
 
--- With what is then lent to find closed rows.
-pub record Stepped (T : Trip) (members rows : List ℕ) (patterns : ℕ) (signs : List ℕ) (blocked : ℕ) (route cuts table dues words : List ℕ) (examined left : ℕ) (answer : Step) (cuts′ table′ dues′ words′ visits′ : List ℕ) : Type 0 where
+-- With what is then at hand, and lent to find closed rows.
+pub record Stepped (T : Trip) (members rows : List ℕ) (patterns : ℕ) (signs : List ℕ) (blocked : ℕ) (route cuts table dues words : List ℕ) (examined left : ℕ) (answer : Step) (cuts′ table′ dues′ words′ hand′ hand-chains′ numbers′ visits′ : List ℕ) : Type 0 where
   pub carried : Carried T members rows patterns route cuts table dues words examined left answer cuts′ table′ dues′ words′
   pub shut : ShutBy T rows patterns route signs blocked answer cuts′
+  pub at-hand : HandKept rows patterns signs hand′ hand-chains′ numbers′
   pub kept : ClosingKept (pairs-of (T .pairs)) members route signs visits′
 
 -- A cut set that can be tried, with what is held of the dues and of the words.
 pub record Triable (T : Trip) (members rows : List ℕ) (patterns : ℕ) (route forward-sums backward-sums stayed late : List ℕ) (since : ℕ) (cuts table dues words : List ℕ) (examined left : ℕ) : Type 0 where
   pub hopeful : Hopeful T members rows patterns route forward-sums backward-sums stayed late since cuts table
+  pub joint-held : JointHeld (T .tables .locations) (T .tables .legs) (T .depot) (T .end) route (first-cuts cuts) table
   pub held : DuesHeld (clock-by (T .tables)) route (first-cuts cuts) dues
   pub behind : getD dues 8 0 ≤ last-cut cuts
   pub marks : MarksKept (pairs-of (T .pairs)) members route (first-cuts cuts) words
   pub marks-behind : getD words 16 0 ≤ last-cut cuts
   pub within : examined ≤ left
+
+-- With the places that the rows add up, what is blocked, where the first states are entered and left, and the rows at hand.
+pub record Trying (T : Trip) (members rows chains : List ℕ) (patterns : ℕ) (signs : List ℕ) (blocked : ℕ) (route forward-sums backward-sums stayed late : List ℕ) (since : ℕ) (cuts entries exits inside table dues words hand hand-chains numbers : List ℕ) (examined left : ℕ) : Type 0 where
+  pub triable : Triable T members rows patterns route forward-sums backward-sums stayed late since cuts table dues words examined left
+  pub chained : Chained rows patterns chains
+  pub shutting : Shutting T rows patterns route cuts signs blocked
+  pub ends : EndsTold (T .tables .locations) (T .tables .legs) route cuts entries exits inside
+  pub at-hand : HandKept rows patterns signs hand hand-chains numbers
+
+pub record Tried (T : Trip) (members rows : List ℕ) (patterns : ℕ) (signs route cuts table dues words : List ℕ) (examined left : ℕ) (answer : Step) (cuts′ table′ dues′ words′ hand′ hand-chains′ numbers′ : List ℕ) : Type 0 where
+  pub carried : Carried T members rows patterns route cuts table dues words examined left answer cuts′ table′ dues′ words′
+  pub not-closed : NotClosed answer
+  pub at-hand : HandKept rows patterns signs hand′ hand-chains′ numbers′
 
 -- The first last cut that may hold a gain: of the rows, where some are open, that the least costs are of.
 pub record NextHit (locations : ℕ) (legs : List ℕ) (depot end : ℕ) (route cuts entries exits inside low : List ℕ) (some : Bool) (r : ℕ) : Type 0 where
@@ -169,12 +188,14 @@ pub record NextHit (locations : ℕ) (legs : List ℕ) (depot end : ℕ) (route 
       NoGain locations legs depot end route (first-cuts cuts) rows count c
 
 -- The same with what is kept of the first cuts, over the rows that are open. `zero` holds nothing.
-pub record Steppable (T : Trip) (members rows : List ℕ) (patterns : ℕ) (signs : List ℕ) (blocked : ℕ) (some : Bool) (route forward-sums backward-sums stayed late : List ℕ) (since : ℕ) (cuts entries exits inside low zero table dues words visits : List ℕ) (examined left : ℕ) : Type 0 where
+pub record Steppable (T : Trip) (members rows chains : List ℕ) (patterns : ℕ) (signs : List ℕ) (blocked : ℕ) (some : Bool) (route forward-sums backward-sums stayed late : List ℕ) (since : ℕ) (cuts entries exits inside low zero table dues words hand hand-chains numbers visits : List ℕ) (examined left : ℕ) : Type 0 where
   pub triable : Triable T members rows patterns route forward-sums backward-sums stayed late since cuts table dues words examined left
   pub prepared : PreparedNow (T .tables .locations) (T .tables .legs) (T .depot) route cuts rows patterns (open-by signs blocked) entries exits inside low
   pub none : some ≡ false → (i : ℕ) → i < patterns → open-by signs blocked i ≡ false
   pub shutting : Shutting T rows patterns route cuts signs blocked
   pub signed : 0 < length signs → Signed rows patterns signs
+  pub chained : Chained rows patterns chains
+  pub at-hand : HandKept rows patterns signs hand hand-chains numbers
   pub kept : ClosingKept (pairs-of (T .pairs)) members route signs visits
   pub zero-places : length zero ≡ 21
   pub zero-is : (x : ℕ) → getD zero x 0 ≡ 0

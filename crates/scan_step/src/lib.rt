@@ -1,9 +1,11 @@
 // A step of a stretch: over the cut sets that can hold no gain to one that is promising, which is tried, unless rows are found to be closed there. No entry: crate scan_stretch calls it.
 use deadline_dues::DUE_PLACES;
 use precedence_marks::MARK_PLACES;
+use scan_chains::CHAIN_BYTES;
 use scan_joints::CELLS;
 use scan_joints::ROW_BYTES;
 use scan_joints::STATES;
+use scan_open::HAND_PLACES;
 use scan_shared::LOW_PLACES;
 use theory::CUT_PLACES;
 use theory::STOPS;
@@ -11,7 +13,7 @@ ghost use mathlib.Core.Path.{_≡_};
 ghost use Prim.Native.Nat.{min, _*_, _≤_};
 ghost use Rattle.theory.specs.Tables.{trip};
 ghost use Rattle.scan_bound.specs.Tests.{Nextable};
-ghost use Rattle.scan_step.specs.Stepping.{idle-end, BlockAsked, BlockedAt, NextHit, Triable, Steppable, Carried, NotClosed, Stepped};
+ghost use Rattle.scan_step.specs.Stepping.{idle-end, BlockAsked, BlockedAt, NextHit, Trying, Tried, Steppable, Stepped};
 
 // How a stretch ended: at an improving candidate, whose pattern is told and whose cuts are at hand; or through it; or else with the candidates allowed. Those before were examined.
 pub struct Stretch {
@@ -91,7 +93,10 @@ fn try_cut_set(
     pairs: &[u32],
     members: &[u64],
     rows: &[u8; ROW_BYTES],
+    chains: &[u8; CHAIN_BYTES],
     patterns: usize,
+    signs: &[u16],
+    blocked: u16,
     route: &[u32],
     forward: &[u64; STOPS],
     backward: &[u64; STOPS],
@@ -99,17 +104,23 @@ fn try_cut_set(
     lateness: &[u64; CUT_PLACES],
     since: usize,
     cuts: &mut [usize],
+    entries: &[u32; STATES],
+    exits: &[u32; STATES],
+    inside: &[u64; STATES],
     joint: &mut [u64; CELLS],
     dues: &mut [u64; DUE_PLACES],
     held: &mut [u64; MARK_PLACES],
+    hand: &mut [u8; ROW_BYTES],
+    hand_chains: &mut [u8; CHAIN_BYTES],
+    kept: &mut [usize; HAND_PLACES],
     examined: u64,
     left: u64,
 ) -> Step
-    requires { ⌜ Triable (trip locations (now legs) (now latest) (now service) depot end (now pairs)) (now members) (now rows) patterns (now route) (now forward) (now backward) (now stayed) (now lateness) since (now cuts) (now joint) (now dues) (now held) examined left ⌝ }
-    ensures { λ r. ⌜ Carried (trip locations (now (legs .entry)) (now (latest .entry)) (now (service .entry)) depot end (now (pairs .entry))) (now (members .entry)) (now (rows .entry)) patterns (now (route .entry)) (now (cuts .entry)) (now (joint .entry)) (now (dues .entry)) (now (held .entry)) examined left r (now (cuts .exit)) (now (joint .exit)) (now (dues .exit)) (now (held .exit)) × NotClosed r ⌝ }
+    requires { ⌜ Trying (trip locations (now legs) (now latest) (now service) depot end (now pairs)) (now members) (now rows) (now chains) patterns (now signs) blocked (now route) (now forward) (now backward) (now stayed) (now lateness) since (now cuts) (now entries) (now exits) (now inside) (now joint) (now dues) (now held) (now hand) (now «hand_chains») (now kept) examined left ⌝ }
+    ensures { λ r. ⌜ Tried (trip locations (now (legs .entry)) (now (latest .entry)) (now (service .entry)) depot end (now (pairs .entry))) (now (members .entry)) (now (rows .entry)) patterns (now (signs .entry)) (now (route .entry)) (now (cuts .entry)) (now (joint .entry)) (now (dues .entry)) (now (held .entry)) examined left r (now (cuts .exit)) (now (joint .exit)) (now (dues .exit)) (now (held .exit)) (now (hand .exit)) (now («hand_chains» .exit)) (now (kept .exit)) ⌝ }
 {
     let limit = still_allowed(patterns, left - examined);
-    let found = scan_cut_set::first_gain(
+    let found = scan_open::first_open_gain(
         locations,
         legs,
         latest,
@@ -124,11 +135,21 @@ fn try_cut_set(
         stayed,
         &cuts[..],
         rows,
+        chains,
+        patterns,
+        signs,
+        blocked,
         lateness,
         since,
+        entries,
+        exits,
+        inside,
         joint,
         dues,
         held,
+        hand,
+        hand_chains,
+        kept,
         limit,
     );
     let reached = examined + found as u64;
@@ -203,6 +224,7 @@ pub fn take_step(
     pairs: &[u32],
     members: &[u64],
     rows: &[u8; ROW_BYTES],
+    chains: &[u8; CHAIN_BYTES],
     patterns: usize,
     signs: &[u16],
     blocked: u16,
@@ -222,12 +244,15 @@ pub fn take_step(
     joint: &mut [u64; CELLS],
     dues: &mut [u64; DUE_PLACES],
     held: &mut [u64; MARK_PLACES],
+    hand: &mut [u8; ROW_BYTES],
+    hand_chains: &mut [u8; CHAIN_BYTES],
+    kept: &mut [usize; HAND_PLACES],
     visits: &mut [u64],
     examined: u64,
     left: u64,
 ) -> Step
-    requires { ⌜ Steppable (trip locations (now legs) (now latest) (now service) depot end (now pairs)) (now members) (now rows) patterns (now signs) blocked some (now route) (now forward) (now backward) (now stayed) (now lateness) since (now cuts) (now entries) (now exits) (now inside) (now low) (now zero) (now joint) (now dues) (now held) (now visits) examined left ⌝ }
-    ensures { λ r. ⌜ Stepped (trip locations (now (legs .entry)) (now (latest .entry)) (now (service .entry)) depot end (now (pairs .entry))) (now (members .entry)) (now (rows .entry)) patterns (now (signs .entry)) blocked (now (route .entry)) (now (cuts .entry)) (now (joint .entry)) (now (dues .entry)) (now (held .entry)) examined left r (now (cuts .exit)) (now (joint .exit)) (now (dues .exit)) (now (held .exit)) (now (visits .exit)) ⌝ }
+    requires { ⌜ Steppable (trip locations (now legs) (now latest) (now service) depot end (now pairs)) (now members) (now rows) (now chains) patterns (now signs) blocked some (now route) (now forward) (now backward) (now stayed) (now lateness) since (now cuts) (now entries) (now exits) (now inside) (now low) (now zero) (now joint) (now dues) (now held) (now hand) (now «hand_chains») (now kept) (now visits) examined left ⌝ }
+    ensures { λ r. ⌜ Stepped (trip locations (now (legs .entry)) (now (latest .entry)) (now (service .entry)) depot end (now (pairs .entry))) (now (members .entry)) (now (rows .entry)) patterns (now (signs .entry)) blocked (now (route .entry)) (now (cuts .entry)) (now (joint .entry)) (now (dues .entry)) (now (held .entry)) examined left r (now (cuts .exit)) (now (joint .exit)) (now (dues .exit)) (now (held .exit)) (now (hand .exit)) (now («hand_chains» .exit)) (now (kept .exit)) (now (visits .exit)) ⌝ }
 {
     let last = cuts.len() - 1;
     let hit = next_hit(
@@ -270,7 +295,10 @@ pub fn take_step(
         pairs,
         members,
         rows,
+        chains,
         patterns,
+        signs,
+        blocked,
         route,
         forward,
         backward,
@@ -278,9 +306,15 @@ pub fn take_step(
         lateness,
         since,
         cuts,
+        entries,
+        exits,
+        inside,
         joint,
         dues,
         held,
+        hand,
+        hand_chains,
+        kept,
         reached,
         left,
     )

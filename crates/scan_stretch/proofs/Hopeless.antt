@@ -38,8 +38,8 @@ pub passed-spent : (stops patterns : ℕ) (cuts : List ℕ) (left over : ℕ) �
     Passed stops patterns cuts left (idle-end left false) cuts
 passed-spent stops patterns cuts left over e h = record { no-gain = refl; over = λ b. absurd (true≢false (sym b)); spent = λ _. (refl, omega (arith, e), refl) }
 
-module _ {T : Trip} {members rows : List ℕ} {patterns : ℕ} {signs r forwards backwards stayed : List ℕ} {heads : ℕ} {late : List ℕ} {since : ℕ} {cuts table shared visits : List ℕ}
-    (given : Stretchable T members rows patterns signs r forwards backwards stayed heads late since cuts table shared visits) where
+module _ {T : Trip} {members rows chains : List ℕ} {patterns : ℕ} {signs r forwards backwards stayed : List ℕ} {heads : ℕ} {late : List ℕ} {since : ℕ} {cuts table shared hand hand-chains visits : List ℕ}
+    (given : Stretchable T members rows chains patterns signs r forwards backwards stayed heads late since cuts table shared hand hand-chains visits) where
   abbrev own : CutSet (length cuts) (length r) cuts
   own = given .searchable .cut-set
 
@@ -51,7 +51,7 @@ module _ {T : Trip} {members rows : List ℕ} {patterns : ℕ} {signs r forwards
   within-longest (inl e) h = omega (arith, e, h)
   within-longest (inr e) h = absurd (omega (arith, e .0, h))
 
-  pub scannable : getD cuts 0 0 < heads → Scannable T members rows patterns signs r forwards backwards stayed late since cuts table shared visits
+  pub scannable : getD cuts 0 0 < heads → Scannable T members rows chains patterns signs r forwards backwards stayed late since cuts table shared hand hand-chains visits
   scannable l =
       let h = within-longest (given .head .left) l in
       record {
@@ -120,7 +120,7 @@ module _ {T : Trip} {members rows : List ℕ} {patterns : ℕ} {signs r forwards
         by (inl e) (no n) = ap (λ b. (b && on-time) && shorter) (broken-there (omega (arith, e)))
 
     pub passed-over : {left : ℕ} {answer : Stretch} {cuts′ : List ℕ} → Passed (length r) patterns cuts left answer cuts′ →
-        Stretched (problem T) members patterns rows signs r cuts left answer cuts′ table shared visits
+        Stretched (problem T) members patterns rows signs r cuts left answer cuts′ table shared hand hand-chains visits
     passed-over {left} {answer} {cuts′} w =
         record {
           ended = λ ps u.
@@ -133,6 +133,7 @@ module _ {T : Trip} {members rows : List ℕ} {patterns : ℕ} {signs r forwards
               };
           padded = given .padded;
           blank = given .closing .blank;
+          hand-lent = given .closing .hand-lent;
           kept = given .closing .kept;
         }
       where

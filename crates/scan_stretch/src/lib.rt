@@ -1,9 +1,12 @@
 // A stretch of the scan: the cut sets with the same first cuts, in their order. Those that can hold no gain are passed over and counted. No entry: crate scan_rest calls it.
 use deadline_dues::DUE_PLACES;
 use precedence_marks::MARK_PLACES;
+use scan_chains::CHAIN_BYTES;
 use scan_joints::CELLS;
 use scan_joints::ROW_BYTES;
 use scan_joints::STATES;
+use scan_open::HAND_PLACES;
+use scan_reach::HELD;
 use scan_shared::LOW_PLACES;
 use scan_step::Step;
 use scan_step::Stretch;
@@ -86,6 +89,7 @@ fn scan_last_cuts(
     pairs: &[u32],
     members: &[u64],
     rows: &[u8; ROW_BYTES],
+    chains: &[u8; CHAIN_BYTES],
     patterns: usize,
     signs: &[u16],
     route: &[u32],
@@ -97,11 +101,13 @@ fn scan_last_cuts(
     cuts: &mut [usize],
     joint: &mut [u64; CELLS],
     shared: &mut [u64; CELLS],
+    hand: &mut [u8; ROW_BYTES],
+    hand_chains: &mut [u8; CHAIN_BYTES],
     visits: &mut [u64],
     left: u64,
 ) -> Stretch
-    requires { ⌜ Scannable (trip locations (now legs) (now latest) (now service) depot end (now pairs)) (now members) (now rows) patterns (now signs) (now route) (now forward) (now backward) (now stayed) (now lateness) since (now cuts) (now joint) (now shared) (now visits) ⌝ }
-    ensures { λ r. ⌜ Stretched (problem (trip locations (now (legs .entry)) (now (latest .entry)) (now (service .entry)) depot end (now (pairs .entry)))) (now (members .entry)) patterns (now (rows .entry)) (now (signs .entry)) (now (route .entry)) (now (cuts .entry)) left r (now (cuts .exit)) (now (joint .exit)) (now (shared .exit)) (now (visits .exit)) ⌝ }
+    requires { ⌜ Scannable (trip locations (now legs) (now latest) (now service) depot end (now pairs)) (now members) (now rows) (now chains) patterns (now signs) (now route) (now forward) (now backward) (now stayed) (now lateness) since (now cuts) (now joint) (now shared) (now hand) (now «hand_chains») (now visits) ⌝ }
+    ensures { λ r. ⌜ Stretched (problem (trip locations (now (legs .entry)) (now (latest .entry)) (now (service .entry)) depot end (now (pairs .entry)))) (now (members .entry)) patterns (now (rows .entry)) (now (signs .entry)) (now (route .entry)) (now (cuts .entry)) left r (now (cuts .exit)) (now (joint .exit)) (now (shared .exit)) (now (hand .exit)) (now («hand_chains» .exit)) (now (visits .exit)) ⌝ }
 {
     let mut entries = [0u32; STATES];
     let mut exits = [0u32; STATES];
@@ -109,7 +115,9 @@ fn scan_last_cuts(
     let mut low = [0u64; LOW_PLACES];
     let mut dues = [0u64; DUE_PLACES];
     let mut held = [0u64; MARK_PLACES];
+    let mut kept = [0usize; HAND_PLACES];
     let zero = [0u64; LOW_PLACES];
+    joint[HELD] = 0;
     let mut blocked = scan_step::blocked_now(members, route, since, &cuts[..], signs, visits);
     let mut some = prepare_opened(
         locations,
@@ -142,6 +150,7 @@ fn scan_last_cuts(
             pairs,
             members,
             rows,
+            chains,
             patterns,
             signs,
             blocked,
@@ -161,6 +170,9 @@ fn scan_last_cuts(
             joint,
             &mut dues,
             &mut held,
+            hand,
+            hand_chains,
+            &mut kept,
             visits,
             examined,
             left,
@@ -197,6 +209,7 @@ pub fn scan_stretch(
     pairs: &[u32],
     members: &[u64],
     rows: &[u8; ROW_BYTES],
+    chains: &[u8; CHAIN_BYTES],
     patterns: usize,
     signs: &[u16],
     route: &[u32],
@@ -209,11 +222,13 @@ pub fn scan_stretch(
     cuts: &mut [usize],
     joint: &mut [u64; CELLS],
     shared: &mut [u64; CELLS],
+    hand: &mut [u8; ROW_BYTES],
+    hand_chains: &mut [u8; CHAIN_BYTES],
     visits: &mut [u64],
     left: u64,
 ) -> Stretch
-    requires { ⌜ Stretchable (trip locations (now legs) (now latest) (now service) depot end (now pairs)) (now members) (now rows) patterns (now signs) (now route) (now forward) (now backward) (now stayed) heads (now lateness) since (now cuts) (now joint) (now shared) (now visits) ⌝ }
-    ensures { λ r. ⌜ Stretched (problem (trip locations (now (legs .entry)) (now (latest .entry)) (now (service .entry)) depot end (now (pairs .entry)))) (now (members .entry)) patterns (now (rows .entry)) (now (signs .entry)) (now (route .entry)) (now (cuts .entry)) left r (now (cuts .exit)) (now (joint .exit)) (now (shared .exit)) (now (visits .exit)) ⌝ }
+    requires { ⌜ Stretchable (trip locations (now legs) (now latest) (now service) depot end (now pairs)) (now members) (now rows) (now chains) patterns (now signs) (now route) (now forward) (now backward) (now stayed) heads (now lateness) since (now cuts) (now joint) (now shared) (now hand) (now «hand_chains») (now visits) ⌝ }
+    ensures { λ r. ⌜ Stretched (problem (trip locations (now (legs .entry)) (now (latest .entry)) (now (service .entry)) depot end (now (pairs .entry)))) (now (members .entry)) patterns (now (rows .entry)) (now (signs .entry)) (now (route .entry)) (now (cuts .entry)) left r (now (cuts .exit)) (now (joint .exit)) (now (shared .exit)) (now (hand .exit)) (now («hand_chains» .exit)) (now (visits .exit)) ⌝ }
 {
     if heads <= cuts[0] {
         return pass_stretch(route.len(), patterns, cuts, left);
@@ -228,6 +243,7 @@ pub fn scan_stretch(
         pairs,
         members,
         rows,
+        chains,
         patterns,
         signs,
         route,
@@ -239,6 +255,8 @@ pub fn scan_stretch(
         cuts,
         joint,
         shared,
+        hand,
+        hand_chains,
         visits,
         left,
     )

@@ -2,21 +2,20 @@
 use mathlib.Core.Path.{_≡_, sym, _∙_}
 use mathlib.Core.Bool.{false}
 use Prim.Native.Nat.{ℕ, _+_, _-_, _≤_, _<_}
-use Rattle.scan_joints.specs.States.{row}
-use Rattle.scan_joints.specs.JointTable.{chain}
+use Rattle.scan_chains.specs.Chains.{cost}
 use Rattle.scan_cut_set.specs.Gain.{due-gain}
-use Rattle.scan_cut_set.proofs.FirstDue.{chains-from, row-judged, due-passed, due-first, due-broken, due-found, due-not-found}
+use Rattle.scan_cut_set.proofs.FirstDue.{adding-from, row-judged, due-passed, due-first, due-broken, due-found, due-not-found}
 use native.Mathlib.Omega.{arith}
 use borrow.Author.Needs.{needs}
 use Rattle.scan_cut_set.proofs.first_due.Statement.{statement}
 use Rattle.scan_cut_set.proofs.first_due.Tie as tie
 
 abbrev Inv-loop : tie.InvT-loop
-Inv-loop joint rows stays dues held m clock below start limit i₀ i =
-    (i ≤ limit) × ((x : ℕ) → x < i → due-gain joint rows stays dues held m clock below x ≡ false) × (i < limit → chain joint 9 (row rows i) < below)
+Inv-loop joint rows chains stays dues held m clock below start limit i₀ i =
+    (i ≤ limit) × ((x : ℕ) → x < i → due-gain joint rows chains stays dues held m clock below x ≡ false) × (i < limit → cost joint chains i < below)
 
 abbrev μ-loop : tie.MeasureT-loop
-μ-loop joint rows stays dues held m clock below start limit i₀ i = limit - i
+μ-loop joint rows chains stays dues held m clock below start limit i₀ i = limit - i
 
 loop-holds : tie.Need-loop-holds Inv-loop μ-loop
 loop-holds c = (c .pre .first .within, due-first (c .pre), c .pre .first .shorter)
@@ -31,10 +30,10 @@ returns c =
     due-found (c .before .before .before .before .pre) (l .i) h (l .inv .2 h) (l .inv .1) (sym (c .before .row-kept .ensures) ∙ c .if1 .taken)
 
 add-next-shorter : tie.Need-add-next-shorter Inv-loop μ-loop
-add-next-shorter c = omega (arith, c .before .before .loop-test .taken, c .before .before .before .before .pre .chains .few)
+add-next-shorter c = omega (arith, c .before .before .loop-test .taken, c .before .before .before .before .pre .adding .few)
 
 next-shorter-requires : tie.Need-next-shorter-requires Inv-loop μ-loop
-next-shorter-requires c κs = chains-from (c .before .before .before .before .pre) (c .before .before .before .loop .i + 1) (omega (arith, c .before .before .loop-test .taken))
+next-shorter-requires c κs = adding-from (c .before .before .before .before .pre) (c .before .before .before .loop .i + 1) (omega (arith, c .before .before .loop-test .taken))
 
 loop-less : tie.Need-loop-less Inv-loop μ-loop
 loop-less c = let n = c .next-shorter .ensures in omega (arith, n .least, n .most, c .before .before .before .loop-test .taken)

@@ -6,7 +6,7 @@ use Rattle.costs.proofs.Segments.{last-cut}
 use Rattle.deadline_dues.proofs.Filling.{no-stays}
 use Rattle.deadline_dues.proofs.Held.{reached-held, reached-dues}
 use Rattle.scan_cut_set.specs.Gain.{below}
-use Rattle.scan_cut_set.proofs.Gain.{dues-read, head-timed, clock-told, tabled, told-late, tellable, none-before, chains, none-below, none-ordered, order-rows, due-rows, first-due-gain}
+use Rattle.scan_cut_set.proofs.Gain.{joint-asked, dues-read, head-timed, clock-told, tabled, told-late, tellable, none-before, adding, none-below, none-ordered, order-rows, due-rows, first-due-gain}
 use Rattle.scan_cut_set.proofs.first_gain.Statement.{statement}
 use Rattle.scan_cut_set.proofs.first_gain.Tie as tie
 
@@ -26,17 +26,21 @@ returns c =
       within = omega arith;
       first = λ ps w l. none-before p (c .if1 .taken) ps w l;
       padded = p .padded;
+      joint-held = p .joint-held;
       held = p .held;
       behind = p .behind;
       marks = p .marks;
       marks-behind = p .marks-behind;
     }
 
-fill-joint-requires : tie.Need-fill-joint-requires
-fill-joint-requires c κs = search needs
+reach-joint-requires : tie.Need-reach-joint-requires
+reach-joint-requires c κs = joint-asked (c .before .before .before .before .before .before .before .before .before .before .pre)
 
 standing-cost-requires : tie.Need-standing-cost-requires
-standing-cost-requires c κs = search needs
+standing-cost-requires c κs =
+    let s = c .before .before .before .before .before .before .before .before .before .before .before .before in
+    let k = s .pre .searchable .cut-set in
+    record { padded = c .before .reach-joint .ensures .joined .padded; least = k .least; most = k .most }
 
 late-behind-requires : tie.Need-late-behind-requires
 late-behind-requires c κs =
@@ -48,16 +52,18 @@ threshold-requires : tie.Need-threshold-requires
 threshold-requires c κs = search needs
 
 next-shorter-requires : tie.Need-next-shorter-requires
-next-shorter-requires c κs = let s = c .before .before .before .before .before .before .before .before .before .before .before .before .before .before .before .before in chains (tabled (s .pre .searchable) (s .pre .patterned) (s .pre .allowed) (c .before .before .before .before .before .fill-joint .ensures)) 0 (omega arith)
+next-shorter-requires c κs = let s = c .before .before .before .before .before .before .before .before .before .before .before .before .before .before .before .before in adding (tabled (s .pre .searchable) (s .pre .patterned) (s .pre .allowed) (s .pre .chained) (c .before .before .before .before .before .reach-joint .ensures .joined)) 0 (omega arith)
 
 returns-2 : tie.Need-returns-2
 returns-2 c =
     let s = c .before .before .before .before .before .before .before .before .before .before .before .before .before .before .before .before .before .before in
-    let j = c .before .before .before .before .before .before .before .fill-joint .ensures in
+    let reached = c .before .before .before .before .before .before .before .reach-joint .ensures in
+    let j = reached .joined in
     record {
       within = omega arith;
-      first = λ ps w l. none-below (tabled (s .pre .searchable) w l j) (told-late (s .pre) (c .before .before .before .before .late-behind .ensures)) (s .pre .early) (s .pre .front) (s .pre .back) (c .before .before .before .before .before .before .before .before .before .if1 .left) _ _ (c .if2 .taken) ((c .before .before .before .threshold .ensures) ∙ ap (λ n. below n (c .before .before .before .before .late-behind .result)) (c .before .before .before .before .before .standing-cost .ensures)) (c .before .next-shorter .ensures);
+      first = λ ps w l. none-below (tabled (s .pre .searchable) w l (s .pre .chained) j) (told-late (s .pre) (c .before .before .before .before .late-behind .ensures)) (s .pre .early) (s .pre .front) (s .pre .back) (c .before .before .before .before .before .before .before .before .before .if1 .left) _ _ (c .if2 .taken) ((c .before .before .before .threshold .ensures) ∙ ap (λ n. below n (c .before .before .before .before .late-behind .result)) (c .before .before .before .before .before .standing-cost .ensures)) (c .before .next-shorter .ensures);
       padded = j .padded;
+      joint-held = reached .held;
       held = s .pre .held;
       behind = s .pre .behind;
       marks = s .pre .marks;
@@ -73,17 +79,19 @@ sub-m c = omega (arith, c .before .before .before .before .before .before .befor
 first-ordered-requires : tie.Need-first-ordered-requires
 first-ordered-requires c κs =
     let s = c .before .before .before .before .before .before .before .before .before .before .before .before .before .before .before .before .before .before .before .before .before .before in
-    order-rows (tabled (s .pre .searchable) (s .pre .patterned) (s .pre .allowed) (c .before .before .before .before .before .before .before .before .before .before .before .fill-joint .ensures)) _ (c .before .before .mark-states .ensures .places) _ _ (c .before .before .before .before .before .next-shorter .ensures)
+    order-rows (tabled (s .pre .searchable) (s .pre .patterned) (s .pre .allowed) (s .pre .chained) (c .before .before .before .before .before .before .before .before .before .before .before .reach-joint .ensures .joined)) _ (c .before .before .mark-states .ensures .places) _ _ (c .before .before .before .before .before .next-shorter .ensures)
 
 returns-3 : tie.Need-returns-3
 returns-3 c =
     let s = c .before .before .before .before .before .before .before .before .before .before .before .before .before .before .before .before .before .before .before .before .before .before .before .before in
-    let j = c .before .before .before .before .before .before .before .before .before .before .before .before .before .fill-joint .ensures in
+    let reached = c .before .before .before .before .before .before .before .before .before .before .before .before .before .reach-joint .ensures in
+    let j = reached .joined in
     let told = c .before .before .before .before .mark-states .ensures in
     record {
       within = omega arith;
-      first = λ ps w l. none-ordered (tabled (s .pre .searchable) w l j) (told-late (s .pre) (c .before .before .before .before .before .before .before .before .before .before .late-behind .ensures)) (s .pre .early) (s .pre .front) (s .pre .back) (c .before .before .before .before .before .before .before .before .before .before .before .before .before .before .before .if1 .left) _ (told .is _ (s .pre .lent) (s .pre .marks) .0) _ _ (c .if3 .taken) ((c .before .before .before .before .before .before .before .before .before .threshold .ensures) ∙ ap (λ n. below n (c .before .before .before .before .before .before .before .before .before .before .late-behind .result)) (c .before .before .before .before .before .before .before .before .before .before .before .standing-cost .ensures)) (c .before .first-ordered .ensures);
+      first = λ ps w l. none-ordered (tabled (s .pre .searchable) w l (s .pre .chained) j) (told-late (s .pre) (c .before .before .before .before .before .before .before .before .before .before .late-behind .ensures)) (s .pre .early) (s .pre .front) (s .pre .back) (c .before .before .before .before .before .before .before .before .before .before .before .before .before .before .before .if1 .left) _ (told .is _ (s .pre .lent) (s .pre .marks) .0) _ _ (c .if3 .taken) ((c .before .before .before .before .before .before .before .before .before .threshold .ensures) ∙ ap (λ n. below n (c .before .before .before .before .before .before .before .before .before .before .late-behind .result)) (c .before .before .before .before .before .before .before .before .before .before .before .standing-cost .ensures)) (c .before .first-ordered .ensures);
       padded = j .padded;
+      joint-held = reached .held;
       held = s .pre .held;
       behind = s .pre .behind;
       marks = told .is _ (s .pre .lent) (s .pre .marks) .1;
@@ -110,21 +118,23 @@ first-due-requires c κs =
     let h = c .before .before .before .before .head-clock .ensures in
     let w = c .before .before .before .before .before .time-states .ensures in
     let e = clock-told g h in
-    rw e (due-rows (tabled g (s .pre .patterned) (s .pre .allowed) (c .before .before .before .before .before .before .before .before .before .before .before .before .before .before .before .before .before .before .before .before .before .fill-joint .ensures)) _ _ _ (w .served) (w .reached .places) (c .before .before .before .before .before .before .before .before .before .before .before .before .mark-states .ensures .places) _ _ (omega (arith, e, h .early)) (c .before .before .before .before .before .before .before .before .before .first-ordered .ensures))
+    rw e (due-rows (tabled g (s .pre .patterned) (s .pre .allowed) (s .pre .chained) (c .before .before .before .before .before .before .before .before .before .before .before .before .before .before .before .before .before .before .before .before .before .reach-joint .ensures .joined)) _ _ _ (w .served) (w .reached .places) (c .before .before .before .before .before .before .before .before .before .before .before .before .mark-states .ensures .places) _ _ (omega (arith, e, h .early)) (c .before .before .before .before .before .before .before .before .before .first-ordered .ensures))
 
 returns-4 : tie.Need-returns-4
 returns-4 c =
     let s = c .before .before .before .before .before .before .before .before .before .before .before .before .before .before .before .before .before .before .before .before .before .before .before .before .before .before .before .before .before .before .before .before .before in
     let g = s .pre .searchable in
-    let j = c .before .before .before .before .before .before .before .before .before .before .before .before .before .before .before .before .before .before .before .before .before .before .fill-joint .ensures in
+    let reached = c .before .before .before .before .before .before .before .before .before .before .before .before .before .before .before .before .before .before .before .before .before .before .reach-joint .ensures in
+    let j = reached .joined in
     let w = c .before .before .before .before .before .before .time-states .ensures in
     let told = c .before .before .before .before .before .before .before .before .before .before .before .before .before .mark-states .ensures in
     let d = rw (clock-told g (c .before .before .before .before .before .head-clock .ensures)) at (c .first-due .ensures) in
     let late = c .before .before .before .before .before .before .before .before .before .before .before .before .before .before .before .before .before .before .before .late-behind in
     record {
       within = c .first-due .ensures .within;
-      first = λ ps u l. first-due-gain (tabled g u l j) (told-late (s .pre) (late .ensures)) (s .pre .early) (s .pre .front) (s .pre .back) (c .before .before .before .before .before .before .before .before .before .before .before .before .before .before .before .before .before .before .before .before .before .before .before .before .if1 .left) _ _ _ (w .served) (reached-dues (w .reached) (g .cut-set)) (told .is _ (s .pre .lent) (s .pre .marks) .0) _ _ ((c .before .before .before .before .before .before .before .before .before .before .before .before .before .before .before .before .before .before .threshold .ensures) ∙ ap (λ n. below n (late .result)) (c .before .before .before .before .before .before .before .before .before .before .before .before .before .before .before .before .before .before .before .before .standing-cost .ensures)) d;
+      first = λ ps u l. first-due-gain (tabled g u l (s .pre .chained) j) (told-late (s .pre) (late .ensures)) (s .pre .early) (s .pre .front) (s .pre .back) (c .before .before .before .before .before .before .before .before .before .before .before .before .before .before .before .before .before .before .before .before .before .before .before .before .if1 .left) _ _ _ (w .served) (reached-dues (w .reached) (g .cut-set)) (told .is _ (s .pre .lent) (s .pre .marks) .0) _ _ ((c .before .before .before .before .before .before .before .before .before .before .before .before .before .before .before .before .before .before .threshold .ensures) ∙ ap (λ n. below n (late .result)) (c .before .before .before .before .before .before .before .before .before .before .before .before .before .before .before .before .before .before .before .before .standing-cost .ensures)) d;
       padded = j .padded;
+      joint-held = reached .held;
       held = reached-held (w .reached) (g .cut-set);
       behind = omega (arith, w .reached .reach);
       marks = told .is _ (s .pre .lent) (s .pre .marks) .1;
@@ -139,7 +149,7 @@ first-gain-spec =
     mul-if1
     shared-slice-read-if1
     returns
-    fill-joint-requires
+    reach-joint-requires
     standing-cost-requires
     late-behind-requires
     threshold-requires

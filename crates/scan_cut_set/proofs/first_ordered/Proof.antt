@@ -4,21 +4,20 @@ use mathlib.Core.Bool.{false, _&&_}
 use Prim.Native.Nat.{ℕ, _+_, _-_, _*_, _≤_, _<_}
 use lib.Dec.{ltb}
 use lib.Seq.{slice}
-use Rattle.scan_joints.specs.States.{row}
-use Rattle.scan_joints.specs.JointTable.{chain}
+use Rattle.scan_chains.specs.Chains.{cost}
 use Rattle.precedence_marks.specs.Held.{in-order}
-use Rattle.scan_cut_set.proofs.FirstDue.{order-chains, order-row, order-passed, order-first, order-broken}
+use Rattle.scan_cut_set.proofs.FirstDue.{order-adding, order-row, order-passed, order-first, order-broken}
 use native.Mathlib.Omega.{arith}
 use borrow.Author.Needs.{needs}
 use Rattle.scan_cut_set.proofs.first_ordered.Statement.{statement}
 use Rattle.scan_cut_set.proofs.first_ordered.Tie as tie
 
 abbrev Inv-loop : tie.InvT-loop
-Inv-loop joint rows held paired m below shorter limit i₀ i =
-    (i ≤ limit) × ((x : ℕ) → x < i → (in-order held 0 (slice (4 * x) (4 * x + m) rows) && ltb (chain joint 9 (row rows x)) below) ≡ false) × (i < limit → chain joint 9 (row rows i) < below)
+Inv-loop joint rows chains held paired m below shorter limit i₀ i =
+    (i ≤ limit) × ((x : ℕ) → x < i → (in-order held 0 (slice (4 * x) (4 * x + m) rows) && ltb (cost joint chains x) below) ≡ false) × (i < limit → cost joint chains i < below)
 
 abbrev μ-loop : tie.MeasureT-loop
-μ-loop joint rows held paired m below shorter limit i₀ i = limit - i
+μ-loop joint rows chains held paired m below shorter limit i₀ i = limit - i
 
 returns : tie.Need-returns Inv-loop μ-loop
 returns c = let p = c .before .pre in record { within = p .first .most; passed = order-first p; shorter = p .first .shorter }
@@ -35,10 +34,10 @@ returns-2 c =
     record { within = l .inv .0; passed = l .inv .1; shorter = l .inv .2 }
 
 add-next-shorter : tie.Need-add-next-shorter Inv-loop μ-loop
-add-next-shorter c = omega (arith, c .before .before .loop-test .taken, c .before .before .before .before .before .pre .chains .few)
+add-next-shorter c = omega (arith, c .before .before .loop-test .taken, c .before .before .before .before .before .pre .adding .few)
 
 next-shorter-requires : tie.Need-next-shorter-requires Inv-loop μ-loop
-next-shorter-requires c κs = order-chains (c .before .before .before .before .before .pre) (c .before .before .before .loop .i + 1) (omega (arith, c .before .before .loop-test .taken))
+next-shorter-requires c κs = order-adding (c .before .before .before .before .before .pre) (c .before .before .before .loop .i + 1) (omega (arith, c .before .before .loop-test .taken))
 
 loop-less : tie.Need-loop-less Inv-loop μ-loop
 loop-less c = let n = c .next-shorter .ensures in omega (arith, n .least, n .most, c .before .before .before .loop-test .taken)

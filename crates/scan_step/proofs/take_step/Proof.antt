@@ -3,7 +3,7 @@ use mathlib.Core.Path.{refl}
 use lib.ListN.{length-set}
 use native.Mathlib.Omega.{arith}
 use borrow.Author.Needs.{needs}
-use Rattle.scan_step.proofs.Steps.{nextable, few-sets, spent-over, through-over, at-hit, hit-triable, from-hit, closes, block-asked, kept-then, shut-more, shut-tried}
+use Rattle.scan_step.proofs.Steps.{nextable, few-sets, spent-over, through-over, at-hit, hit-trying, from-hit, closes, block-asked, kept-then, shut-more, shut-tried}
 use Rattle.scan_step.proofs.take_step.Statement.{statement}
 use Rattle.scan_step.proofs.take_step.Tie as tie
 
@@ -35,7 +35,7 @@ same-length : tie.Need-same-length
 same-length c = search needs
 
 returns : tie.Need-returns
-returns c = record { carried = λ first ps w g. rw (c .without-gain .ensures) (spent-over (c .before .before .before .before .before .before .before .before .before .before .before .before .before .before .before .pre) (c .before .before .before .before .next-hit .ensures) w g (c .before .before .passed-patterns .ensures) (c .before .if1 .taken)); shut = refl; kept = c .before .before .before .before .before .before .before .before .before .before .before .before .before .before .before .pre .kept }
+returns c = record { carried = λ first ps w g. rw (c .without-gain .ensures) (spent-over (c .before .before .before .before .before .before .before .before .before .before .before .before .before .before .before .pre) (c .before .before .before .before .next-hit .ensures) w g (c .before .before .passed-patterns .ensures) (c .before .if1 .taken)); shut = refl; at-hand = c .before .before .before .before .before .before .before .before .before .before .before .before .before .before .before .pre .at-hand; kept = c .before .before .before .before .before .before .before .before .before .before .before .before .before .before .before .pre .kept }
 
 add-reached : tie.Need-add-reached
 add-reached c = search needs
@@ -53,7 +53,7 @@ same-length-2 : tie.Need-same-length-2
 same-length-2 c = search needs
 
 returns-2 : tie.Need-returns-2
-returns-2 c = record { carried = λ first ps w g. rw (c .without-gain2 .ensures) (through-over (c .before .before .before .before .before .before .before .before .before .before .before .before .before .before .before .before .pre) (c .before .before .before .before .before .next-hit .ensures) w g (c .before .before .before .passed-patterns .ensures) (c .before .before .if1 .left) (c .before .if2 .taken)); shut = refl; kept = c .before .before .before .before .before .before .before .before .before .before .before .before .before .before .before .before .pre .kept }
+returns-2 c = record { carried = λ first ps w g. rw (c .without-gain2 .ensures) (through-over (c .before .before .before .before .before .before .before .before .before .before .before .before .before .before .before .before .pre) (c .before .before .before .before .before .next-hit .ensures) w g (c .before .before .before .passed-patterns .ensures) (c .before .before .if1 .left) (c .before .if2 .taken)); shut = refl; at-hand = c .before .before .before .before .before .before .before .before .before .before .before .before .before .before .before .before .pre .at-hand; kept = c .before .before .before .before .before .before .before .before .before .before .before .before .before .before .before .before .pre .kept }
 
 mul-cuts-2 : tie.Need-mul-cuts-2
 mul-cuts-2 c = omega (arith, c .before .before .before .before .before .before .before .before .before .before .before .before .before .before .before .pre .triable .hopeful .searchable .cut-set .most)
@@ -78,30 +78,32 @@ returns-3 c =
     record {
       carried = λ first ps w g. closes (s .pre) n w g (c .before .before .before .before .before .before .before .before .passed-patterns .ensures) (c .before .before .before .before .before .before .before .if1 .left) l (c .before .before .before .blocked-now .result);
       shut = shut-more (s .pre) n l (c .before .before .before .blocked-now .ensures) (c .if3 .taken);
+      at-hand = s .pre .at-hand;
       kept = kept-then (s .pre) n l (c .before .before .before .blocked-now .ensures);
     }
 
 try-cut-set-requires : tie.Need-try-cut-set-requires
-try-cut-set-requires c κs = hit-triable (c .before .before .before .before .before .before .before .before .before .before .before .before .before .before .before .before .before .before .before .before .before .before .before .before .before .pre) (c .before .before .before .before .before .before .before .before .before .before .before .before .before .before .next-hit .ensures) (c .before .before .before .before .before .before .before .before .before .before .before .before .passed-patterns .ensures) (c .before .before .before .before .before .before .before .before .before .before .before .if1 .left) (c .before .before .before .before .before .before .before .before .before .before .if2 .left)
+try-cut-set-requires c κs = hit-trying (c .before .before .before .before .before .before .before .before .before .before .before .before .before .before .before .before .before .before .before .before .before .before .before .before .before .before .before .before .pre) (c .before .before .before .before .before .before .before .before .before .before .before .before .before .before .before .before .before .next-hit .ensures) (c .before .before .before .before .before .before .before .before .before .before .before .before .before .before .before .passed-patterns .ensures) (c .before .before .before .before .before .before .before .before .before .before .before .before .before .before .if1 .left) (c .before .before .before .before .before .before .before .before .before .before .before .before .before .if2 .left)
 
 same-length-5 : tie.Need-same-length-5
-same-length-5 c = simp length-set at (c .before .before .try-cut-set .kept .1 .1 .1 .1 .1 .1 .1 .1 .1 .1 .1 .1 .1 .1 .1 .1 .0)
+same-length-5 c = simp length-set at (c .before .before .try-cut-set .kept .1 .1 .1 .1 .1 .1 .1 .1 .1 .1 .1 .1 .1 .1 .1 .1 .1 .1 .1 .0)
 
 same-length-6 : tie.Need-same-length-6
 same-length-6 c = search needs
 
 returns-4 : tie.Need-returns-4
 returns-4 c =
-    let s = c .before .before .before .before .before .before .before .before .before .before .before .before .before .before .before .before .before .before .before .before .before .before .before .before .before .before .before .before in
-    let n = c .before .before .before .before .before .before .before .before .before .before .before .before .before .before .before .before .before .next-hit .ensures in
-    let o = c .before .before .before .before .before .before .before .before .before .before .before .before .before .before .before .passed-patterns .ensures in
-    let room = c .before .before .before .before .before .before .before .before .before .before .before .before .before .before .if1 .left in
-    let l = c .before .before .before .before .before .before .before .before .before .before .before .before .before .if2 .left in
+    let s = c .before .before .before .before .before .before .before .before .before .before .before .before .before .before .before .before .before .before .before .before .before .before .before .before .before .before .before .before .before .before .before in
+    let n = c .before .before .before .before .before .before .before .before .before .before .before .before .before .before .before .before .before .before .before .before .next-hit .ensures in
+    let o = c .before .before .before .before .before .before .before .before .before .before .before .before .before .before .before .before .before .before .passed-patterns .ensures in
+    let room = c .before .before .before .before .before .before .before .before .before .before .before .before .before .before .before .before .before .if1 .left in
+    let l = c .before .before .before .before .before .before .before .before .before .before .before .before .before .before .before .before .if2 .left in
     let t = c .before .before .try-cut-set in
     record {
-      carried = λ first ps w g. from-hit (s .pre) n w g o room (t .result) _ _ _ _ (t .ensures .0 first ps w (at-hit (s .pre) n w g o room l));
-      shut = shut-tried _ _ _ _ _ _ (t .result) _ (t .ensures .1);
-      kept = kept-then (s .pre) n l (c .before .before .before .before .before .before .before .before .before .before .blocked-now .ensures);
+      carried = λ first ps w g. from-hit (s .pre) n w g o room (t .result) _ _ _ _ (t .ensures .carried first ps w (at-hit (s .pre) n w g o room l));
+      shut = shut-tried _ _ _ _ _ _ (t .result) _ (t .ensures .not-closed);
+      at-hand = t .ensures .at-hand;
+      kept = kept-then (s .pre) n l (c .before .before .before .before .before .before .before .before .before .before .before .before .before .blocked-now .ensures);
     }
 
 pub take-step-spec : {M : Type 1} → statement M

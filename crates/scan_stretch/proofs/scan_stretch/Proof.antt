@@ -18,7 +18,7 @@ returns : tie.Need-returns
 returns c = passed-over (c .before .before .before .before .before .before .before .before .before .before .before .before .before .before .before .pre) (c .before .before .before .before .if1 .taken) (c .before .before .pass-stretch .ensures)
 
 scan-last-cuts-requires : tie.Need-scan-last-cuts-requires
-scan-last-cuts-requires c κs = scannable (c .before .before .before .before .before .before .before .before .before .before .before .before .before .before .before .pre) (c .before .before .before .before .if1 .left)
+scan-last-cuts-requires c κs = scannable (c .before .before .before .before .before .before .before .before .before .before .before .before .before .before .before .before .before .pre) (c .before .before .before .before .before .before .if1 .left)
 
 same-length-2 : tie.Need-same-length-2
 same-length-2 c = search needs

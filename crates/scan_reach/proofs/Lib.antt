@@ -1,0 +1,4 @@
+mod Moving
+mod Whole
+pub mod Alike
+pub mod Reached
