@@ -8,7 +8,7 @@ use std::{env, fs};
 /// Names the folder of an archive that is built already.
 const VARIABLE: &str = "MITTENSCHIST_LIB";
 const ARCHIVE: &str = "libmittenschist.a";
-const BUILD: &str = "rt staticlib mittenschist";
+const BUILD: &str = "bash tools/build-archive";
 
 fn main() -> ExitCode {
     match link() {
@@ -73,8 +73,8 @@ fn entries(folder: &Path) -> Vec<PathBuf> {
 
 /// Cargo shows nothing of this while it runs, some minutes: hence the words after it.
 fn build_archive(root: &Path) -> Result<(), String> {
-    let run = Command::new("rt")
-        .args(["staticlib", "mittenschist"])
+    let run = Command::new("bash")
+        .arg("tools/build-archive")
         .current_dir(root)
         .output();
     let advice = format!(

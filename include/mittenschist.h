@@ -1,4 +1,4 @@
-/* Mittenschist: a route polisher by k-opt in which every answer is proved. Link libmittenschist.a (`rt staticlib mittenschist`).
+/* Mittenschist: a route polisher by k-opt in which every answer is proved. Link libmittenschist.a (`bash tools/build-archive` writes it).
  *
  * Every function returns 0, or the number of a refusal, but for mittenschist_which_of_two, which says of itself what it returns. It takes any numbers and any contents, judges them first, and then refuses or works;
  * every call ends. After a refusal all lent memory is as before. After 0, places beyond those that are said to be written are as before.

@@ -116,7 +116,7 @@ fn write_scan(root: &Path) -> Result<(), String> {
 
 /// The source without its contracts; what it uses stands beside it.
 fn code_of(source: &str) -> String {
-    let contract = ["ghost use ", "requires {", "ensures {"];
+    let contract = ["ghost use ", "requires ", "ensures ", "#![tactic", "#[tactic"];
     let kept = source.lines().filter(|line| {
         !contract
             .iter()

@@ -2,7 +2,7 @@
 
 #![forbid(unsafe_code)]
 
-const SOURCE: &str = include_str!("../../crates/mittenschist/src/lib.rt");
+const SOURCE: &str = include_str!("../../crates/mittenschist_c/src/lib.rt");
 const HEADER: &str = include_str!("../../include/mittenschist.h");
 const RAW: &str = include_str!("../src/raw.rs");
 
@@ -21,9 +21,11 @@ fn parameters(text: &'static str, mention: &str) -> Vec<String> {
     parts.filter(|part| !part.is_empty()).collect()
 }
 
-/// A parameter of the source: its name, its type, and whether it is a slice that is read or written.
+/// A parameter of the source: its name, its type, and whether it is a slice that is read or written. The source has `res` where the header says result,
+/// which is what a function returns in Rattle's contracts.
 fn parted(parameter: &str) -> (&str, &str, Option<bool>) {
     let (name, kind) = parameter.split_once(": ").expect("a type");
+    let name = if name == "res" { "result" } else { name };
     if let Some(slice) = kind.strip_prefix("&mut [") {
         return (name, slice.trim_end_matches(']'), Some(true));
     }

@@ -1,4 +1,6 @@
 // The candidate of a pattern on a cut set, built. No entry: crates scan_taking and find_move call it.
+#![tactic(auto)]
+
 ghost use Rattle.std.specs.Prelude.{◌≡◌};
 ghost use Rattle.candidates.specs.Candidate.{candidate, Buildable, BuildableFront, BuiltFront};
 

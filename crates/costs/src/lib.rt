@@ -1,5 +1,7 @@
 // The costs of a route, after RouteCosts of the Rust: its length, the running sums of its inner legs and what is read off them, up to a move's delta. It
 // holds no entry; those are in crate mittenschist.
+#![tactic(auto)]
+
 ghost use Rattle.std.specs.Prelude.{◌≡◌, [], min, ◌<◌, ◌≤◌, length, get_or};
 ghost use Rattle.std.proofs.Math.Seq.{slice};
 ghost use Rattle.theory.specs.Route.{segments, reverses, reverse_if};
@@ -139,7 +141,7 @@ pub fn inner(sums: &[u64; STOPS], start: usize, end: usize) -> u64
 // ---- a move's delta, segment by segment
 
 // A segment as it is placed: the seconds from the stop before it up to its last stop, and that stop.
-#[derive(Drop)]
+#[derive(Clone, Copy)]
 struct Placed {
     seconds: u64,
     last: u32,

@@ -1,4 +1,6 @@
 // The pattern of an index, the next cut set, reconnecting and the first move, judged, with their values in a lent result or without. No entry: crate mittenschist hands them on.
+#![tactic(auto)]
+
 ghost use Rattle.std.specs.Prelude.{◌+◌};
 ghost use Rattle.moves.specs.Moves.{pattern_values};
 ghost use Rattle.refusal_rules.specs.Rules.{pattern_rules};

@@ -1,4 +1,6 @@
 // The step from one cut set to the next, in dictionary order. No entry: the crates above call it.
+#![tactic(auto)]
+
 ghost use Rattle.std.specs.Prelude.{◌≡◌, ◌++◌, ◌+◌, ◌-◌, ◌≤◌, ◌<◌, length, take};
 ghost use Rattle.theory.specs.Moves.{upfrom};
 ghost use Rattle.theory.specs.Tables.{CutSet};

@@ -1,8 +1,8 @@
 -- Whether a candidate keeps every deadline, part by part, whatever the standing route does: the head is as it was, the middle segments are walked, and the tail is
 -- reached sooner by what the candidate gains. Assumes nothing.
-use mathlib.Core.Path.{◌≡◌, refl, sym, ap, ◌∙◌}
+use mathlib.Core.Path.{◌≡◌, refl, sym, ap, ap₂, ◌∙◌}
 use mathlib.Core.Bool.{true, false, ◌&&◌}
-use mathlib.Core.List.{List, [], ◌∷◌, ◌++◌, append_assoc}
+use mathlib.Core.List.{List, [], ◌∷◌, ◌++◌, flatten, append_assoc}
 use Prim.Native.Nat.{ℕ, zero, suc, ◌+◌, ◌-◌, ◌*◌, ◌^◌, ◌≤◌, ◌<◌}
 use native.Mathlib.Nat.{pow-suc}
 use native.Mathlib.Omega.{arith}
@@ -11,7 +11,7 @@ use lib.ListN.{length, get_or, take, drop, length-append, length-drop}
 use lib.Seq.{slice, take_at, drop_at, get_or_at, split_at, take-take, get_or-take, length-take-le}
 use borrow.Author.Tests.{le-leb}
 use Rattle.theory.specs.Moves.{Pattern, total, upfrom}
-use Rattle.theory.specs.Route.{Problem, Timetable, Clock, timetable_of, clock, segments, reconnected, path, tour_length, left, timely, on_time}
+use Rattle.theory.specs.Route.{Problem, Timetable, Clock, timetable_of, clock, segments, placed, reconnected, path, tour_length, left, timely, on_time}
 use Rattle.theory.specs.Costs.{last_of, first_of}
 use Rattle.theory.specs.Tables.{CutSet, ForK}
 use Rattle.theory.proofs.Clock.{path_step, timely_on_time}
@@ -96,8 +96,9 @@ unfolding reconnected
 candidate_parts r cs p two f =
     let many : length cs ≡ suc (length cs - 1) = omega arith in
     let e : 2 ^ (length cs) ≡ 2 ^ (length cs - 1) * 2 = ap (λ n. 2 ^ n) many ∙ pow-suc 2 (length cs - 1) in
-    rw (middle_is (length cs) p.order p.mask two f, f.order_is, f.mask_is)
-    (joined_split f.middle (length cs) (2 * f.bits) (segments 0 cs r) (even_head f.bits) (small_tail (2 * f.bits) (length cs) (omega (arith, f.few, e))))
+    ap₂ (λ o m. reconnected (record { cuts = cs; pattern = record { order = o; mask = m } }) r) f.order_is f.mask_is
+    ∙ joined_split f.middle (length cs) (2 * f.bits) (segments 0 cs r) (even_head f.bits) (small_tail (2 * f.bits) (length cs) (omega (arith, f.few, e)))
+    ∙ sym (ap₂ (λ m o. head r cs ++ (flatten (placed m (segments 0 cs r) o) ++ tail r cs)) f.mask_is (middle_is (length cs) p.order p.mask two f))
 
 some_bits : (n : ℕ) → 0 < 2 ^ n
 some_bits zero = omega arith

@@ -1,5 +1,7 @@
 // Deadlines of placed segments, shared by the candidates that have them: the due of a segment, the second before which it must be left, as it stands and
 // reversed. No entry: for the inner search.
+#![tactic(auto)]
+
 ghost use Rattle.std.specs.Prelude.{◌≡◌, ◌+◌, ◌-◌, ◌*◌, ◌<◌, length, get_or, set};
 ghost use Rattle.std.proofs.Math.Seq.{slice};
 ghost use Rattle.theory.specs.Tables.{clock_by, tables};
@@ -14,7 +16,7 @@ use theory::{CUT_PLACES, STOPS};
 // ---- the dues of one segment, grown stop by stop
 
 // The dues of a segment as it stands and reversed.
-#[derive(Drop)]
+#[derive(Clone, Copy)]
 pub struct Dues {
     pub straight: u64,
     pub reversed: u64,
@@ -289,7 +291,7 @@ pub fn time_states(
 }
 
 // Whether the middle of a candidate is left in time.
-#[derive(Drop)]
+#[derive(Clone, Copy)]
 pub enum Timing {
     InTime,
     Late,

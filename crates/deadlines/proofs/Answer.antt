@@ -28,6 +28,11 @@ kept_told B depot r a told = sym (kept_timely B depot r (rw a at told))
 pub late_told : (B : Timetable) (depot : ℕ) (r : List ℕ) {answer : Deadline} {p : ℕ} → answer ≡ Check.Late p → Checked B depot r answer → false ≡ timely B depot r
 late_told B depot r a told = sym (late_untimely B depot r (rw a at told))
 
+-- An answer that is no late position says kept.
+pub kept_else : (answer : Deadline) → ((x : ℕ) → answer ≡ Check.Late x → ⊥) → answer ≡ Check.Kept
+kept_else Check.Kept h = refl
+kept_else (Check.Late x) h = absurd (h x refl)
+
 -- Where every deadline is kept, the number of stops is the answer.
 pub none_told : (B : Timetable) (depot : ℕ) (r : List ℕ) → timely B depot r ≡ true → length r ≡ late_position B depot r
 none_told B depot r e = sym ((late_position_none B depot r).1 ((timely_iff B depot r).0 e))

@@ -1,4 +1,6 @@
 // The deadline rule of document 01, checked along a route. It holds no entry; those are in crate mittenschist.
+#![tactic(auto)]
+
 ghost use Rattle.std.specs.Prelude.{◌≡◌, min, max, ◌-◌};
 ghost use Rattle.theory.specs.Route.{late_position};
 ghost use Rattle.theory.specs.Tables.{timetable_by, clock_by, Clocked, tables};

@@ -81,5 +81,5 @@ module _ (T : Trip) (first second : Bor (List ℕ)) (answer : ℕ) (told : Which
   pub hands_second : answer ≡ 2 → WhichOfTwo T first second second
   hands_second e = let d = sym told.is ∙ e in record { first_own = λ h. absurd (omega (arith, d, h)); second_own = λ _. refl; empty_part = λ h. absurd (omega (arith, d, h)) }
 
-  pub hands_nothing : (answer ≡ 1 → ⊥) → (answer ≡ 2 → ⊥) → (list : Bor (List ℕ)) → list.ref_ptr ≡ first.ptr → list.now ≡ [] → WhichOfTwo T first second list
+  pub hands_nothing : (answer ≡ 1 → ⊥) → (answer ≡ 2 → ⊥) → (list : Bor (List ℕ)) → list.ref_ptr ≡ first.ref_ptr → list.now ≡ [] → WhichOfTwo T first second list
   hands_nothing f g list e n = record { first_own = λ h. absurd (f (told.is ∙ h)); second_own = λ h. absurd (g (told.is ∙ h)); empty_part = λ _. (e, n) }

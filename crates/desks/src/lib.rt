@@ -1,5 +1,7 @@
 // Which of two lists for one boat is handed back: the shorter that keeps deadlines and pairs. It judges what it is handed and has no refusal number. No entry:
 // crate mittenschist hands it on.
+#![tactic(auto)]
+
 ghost use Rattle.std.specs.Prelude.{◌≡◌, ◌&&◌};
 ghost use Rattle.theory.specs.Pairs.{pairs_of, pairs_kept};
 ghost use Rattle.theory.specs.Route.{timely};

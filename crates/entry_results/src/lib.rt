@@ -1,5 +1,7 @@
 // The answer of an entry into a lent result: its refusal number; or 21 where the result has too few places; or 0 and the values in the first places. Also the answers of
 // the step, of a refused pattern and of a refused search. The numbers of a pattern, of a move that is found, of polishing and of a run are put by crates moves, polishing and run_numbers. No entry: crate mittenschist calls it.
+#![tactic(auto)]
+
 ghost use Rattle.std.specs.Prelude.{◌≡◌, cond, [], ◌∷◌};
 ghost use Rattle.theory.specs.Answers.{reply, step_answer, length_answer, delta_answer, feasibility_answer, doable_answer, listing_answer, deadline_position};
 ghost use Rattle.entry_results.specs.Handed.{Handed, pattern_refused, search_refused};

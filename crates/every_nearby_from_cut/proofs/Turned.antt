@@ -10,7 +10,7 @@ use lib.Dec.{ltb, eqb}
 use lib.ListN.{length, get_or, take, drop, set, length-set, drop_of_length-le}
 use lib.Seq.{sets, drop-cons, get_or-set_same, get_or-set_other}
 use lib.Ieee.{Float}
-use borrow.Author.Tests.{ltb-true, ltb-false, eqb-true, eqb-false}
+use borrow.Author.Tests.{ltb-true, eqb-true, eqb-false}
 use Rattle.nearby_nearest.specs.Neighbours.{eligible}
 use Rattle.nearby_last_cut.specs.Pouring.{pour}
 use Rattle.nearby_last_cut.proofs.Pour.{pour_on, pour_full, poured_most}

@@ -1,4 +1,6 @@
 // Every nearby cut set from a cut on, into the lent buffer. No entry is here.
+#![tactic(auto)]
+
 ghost use Rattle.std.specs.Prelude.{◌≡◌, cond, eqb};
 ghost use Rattle.nearby_from_cut.specs.Branch.{AskableFor};
 ghost use Rattle.every_nearby_from_cut.specs.Barren.{UnlessMarked, Walkable, Walked};

@@ -1,10 +1,10 @@
 -- Worked examples, by computing. Assumes nothing.
 use mathlib.Core.Path.{◌≡◌, refl}
 use mathlib.Core.List.{List, [], ◌∷◌}
-use mathlib.Core.Bool.{false, true}
+use mathlib.Core.Bool.{false}
 use lib.ListN.{replicate, set}
 use lib.IntN.{pos}
-use lib.Ieee.{Float, fin, inf, lt}
+use lib.Ieee.{Float, fin, lt}
 use Rattle.nearby.specs.Walk.{nearby_sets}
 use Rattle.every_nearby_sets.specs.Every.{every_sets}
 

@@ -1,5 +1,5 @@
 -- What the request says of the listing: which sets are in it, and in which order.
-use Rattle.std.specs.Prelude.{◌≡◌, ◌⊎◌, cond, ℕ, zero, suc, ◌+◌, ◌*◌, ◌≤◌, ◌<◌, eqb, length}
+use Rattle.std.specs.Prelude.{◌≡◌, ◌⊎◌, cond, ℕ, suc, ◌+◌, ◌*◌, ◌≤◌, ◌<◌, eqb, length}
 use mathlib.Core.List.{List, [], ◌∷◌, Memᴰ}
 
 -- "Each further cut is in the kept neighbour list of the one before." The list depends on the cuts missing, the one being picked included.

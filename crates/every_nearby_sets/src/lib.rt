@@ -1,1 +1,2 @@
 // Every nearby cut set: definitions and laws only, in specs/ and proofs/.
+#![tactic(auto)]

@@ -2,20 +2,17 @@
 use mathlib.Core.Path.{◌≡◌, refl, sym, ap, ◌∙◌, subst}
 use mathlib.Core.Bool.{Bool, true, false, not, true≢false}
 use mathlib.Core.List.{List, [], ◌∷◌, ◌++◌, map, append_assoc, append-nil}
-use mathlib.Core.Option.{Option, none, some}
+use mathlib.Core.Option.{none, some}
 use Prim.Native.Nat.{ℕ, zero, suc, ◌+◌, ◌-◌, ◌≤◌, ◌<◌}
 use native.Mathlib.Omega.{arith}
-use native.Mathlib.Numerals.{add-one}
-use lib.ListN.{length, get_or, set, take, length-append, length-set}
+use lib.ListN.{length, set, take, length-append, length-set}
 use lib.Seq.{length-take-le, get_or-take}
 use Rattle.theory.specs.Moves.{Rising, patterns, upfrom, combinations}
-use Rattle.theory.specs.Tables.{CutSet}
 use Rattle.theory.proofs.Cuts.{rising_below}
 use Rattle.theory.proofs.Delta.{gap}
 use Rattle.first_move.specs.FirstMove.{first_that, numbered, turns_into, found_move}
 use Rattle.first_move.specs.declared.FoundMove.{FoundMove}
 use Rattle.first_move.proofs.First.{first_here, first_later}
-use Rattle.prefixes.specs.Ways.{FirstCuts}
 use Rattle.find_move.specs.Walk.{tried_from}
 use Rattle.prefixes.specs.Prefix.{Tables}
 use Rattle.standing.specs.Standing.{Pair, HeadSet, TailSet}

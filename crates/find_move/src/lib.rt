@@ -1,5 +1,7 @@
 // The first move that turns one route into another, in the order of the scan: cut by cut, where the test of the first cuts does not say that nothing is there.
 // No entry: crate mittenschist calls it.
+#![tactic(auto)]
+
 ghost use Rattle.std.specs.Prelude.{◌≡◌, false, ◌<◌, length, set};
 ghost use Rattle.first_move.specs.FirstMove.{same_route};
 ghost use Rattle.find_move.specs.Search.{Sought, TryableRow, Tryable, turned, FirstOf, WholeCuts, FirstPattern, Begun, GoesOn, Walkable, Walked, Finds};

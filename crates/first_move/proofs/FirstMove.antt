@@ -1,24 +1,24 @@
 -- What the first move is: the scan's own candidates, by index; none exactly if no cuts and no pattern do it; all before it fail. Assumes nothing.
 use mathlib.Core.Path.{◌≡◌, refl, sym, ap, ap₂, ◌∙◌}
-use mathlib.Core.Bool.{Bool, true, false, ◌&&◌, true≢false, and-eq-true_iff}
+use mathlib.Core.Bool.{Bool, true, false, true≢false, and-eq-true_iff}
 use mathlib.Core.Logic.{◌↔◌}
 use mathlib.Core.List.{List, [], ◌∷◌, ◌++◌, map, map-map, map-append, flat_map, Memᴰ}
 use mathlib.Core.Option.{Option, none, some}
-use Prim.Native.Nat.{ℕ, zero, suc, ◌+◌, ◌≤◌, ◌<◌}
+use Prim.Native.Nat.{ℕ, zero, suc, ◌+◌, ◌<◌}
 use native.Mathlib.Omega.{arith}
 use native.Mathlib.Nat.{zero-add}
 use lib.Dec.{eqb}
-use lib.ListN.{length, get_or, take, drop, length-map, drop_of_length-le}
+use lib.ListN.{length, get_or, drop, drop_of_length-le}
 use lib.Seq.{drop-cons, take_at}
 use borrow.Author.Tests.{eq-eqb, eqb-true}
-use Rattle.theory.specs.Moves.{upfrom, Pattern, Move, patterns, cut_sets, candidates, Rising}
+use Rattle.theory.specs.Moves.{upfrom, Pattern, Move, patterns, cut_sets, candidates}
 use Rattle.theory.specs.Route.{reconnected}
 use Rattle.theory.specs.Polish.{move_at}
 use Rattle.theory.proofs.Moves.{mem_flatMap, of_flatMap, cuts_listed, listed_cuts, upfrom_range}
 use Rattle.theory.proofs.Orders.{listed_number}
 use Rattle.theory.proofs.Index.{mem_getD}
-use Rattle.first_move.specs.FirstMove.{first_that, same_route, numbered, turns_into, first_move, move_values, in_front, handed_move, NoMove, FoundFirst, Told}
-use Rattle.first_move.proofs.First.{first_none, none_passes, Found, found}
+use Rattle.first_move.specs.FirstMove.{same_route, numbered, turns_into, first_move, move_values, in_front, handed_move, NoMove, FoundFirst, Told}
+use Rattle.first_move.proofs.First.{first_none, none_passes, found}
 
 -- ---- contents
 

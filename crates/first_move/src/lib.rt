@@ -1,7 +1,8 @@
 // The first move that turns one route into another: its answer types here, its definition and laws in specs/ and proofs/.
+#![tactic(auto)]
 
 // What the search found: a move by the index of its pattern and its first k cuts, or none.
-#[derive(Drop)]
+#[derive(Clone, Copy)]
 pub struct FoundMove {
     pub found: bool,
     pub index: usize,
@@ -9,7 +10,7 @@ pub struct FoundMove {
 }
 
 // The judged search: the refusal number with no move, or 0 with what was found.
-#[derive(Drop)]
+#[derive(Clone, Copy)]
 pub struct SoughtMove {
     pub refusal: u32,
     pub answer: FoundMove,

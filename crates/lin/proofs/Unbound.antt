@@ -1,11 +1,11 @@
 -- Deadlines behind every arrival are not in force: with at most 512 stops, and legs and services of at most 1,000,000 seconds, those from 1,024,000,000 on. Assumes nothing.
-use mathlib.Core.Path.{◌≡◌, refl, ap}
+use mathlib.Core.Path.{◌≡◌}
 use mathlib.Core.List.{List, [], ◌∷◌}
-use Prim.Native.Nat.{ℕ, suc, ◌+◌, ◌*◌, ◌≤◌, ◌<◌}
+use Prim.Native.Nat.{ℕ, suc, ◌*◌, ◌≤◌}
 use native.Mathlib.Omega.{arith}
 use lib.ListN.{length, get_or, take, length-take}
 use Rattle.theory.specs.Moves.{total}
-use Rattle.theory.specs.Route.{Problem, path, timetable_of, arrival, Timely, Feasible}
+use Rattle.theory.specs.Route.{Problem, path, timetable_of, arrival, Timely}
 use Rattle.theory.specs.Pairs.{KeepsPairs}
 use Rattle.lin.specs.Lin.{SameStops, EveryOrderFeasible}
 use Rattle.lin.proofs.Counts.{same_length}

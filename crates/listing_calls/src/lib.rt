@@ -1,4 +1,6 @@
 // The listings of nearby cut sets, judged, with their number in a lent result or without. No entry: crate mittenschist hands them on.
+#![tactic(auto)]
+
 ghost use Rattle.listing_calls.specs.Listings.{NearbyReply, NearbyWritten, EveryReply, EveryWritten};
 
 use theory::Listing;

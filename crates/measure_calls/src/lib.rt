@@ -1,4 +1,6 @@
 // Lengths, length changes and the deadline check, judged, with their value in a lent result or without. No entry: crate mittenschist hands them on.
+#![tactic(auto)]
+
 ghost use Rattle.std.specs.Prelude.{[], ◌∷◌};
 ghost use Rattle.theory.specs.Route.{tour_length};
 ghost use Rattle.theory.specs.Polish.{move_at};

@@ -1,5 +1,7 @@
 // The entries. Each takes whatever it is handed and hands it on to the crate below that judges it, refuses it or does the work. Those that a Rattle program calls are
-// the functions of that crate themselves; those that a host calls are C functions.
+// the functions of that crate themselves; those that a host calls take numbers and lent lists alone, and crate mittenschist_c hands them on to C.
+#![tactic(auto)]
+
 ghost use Rattle.std.specs.Prelude.{[], ◌∷◌, ◌+◌};
 ghost use Rattle.theory.specs.Route.{tour_length};
 ghost use Rattle.theory.specs.Polish.{move_at};
@@ -30,8 +32,7 @@ pub use measure_calls::{delta, delta_to_end, route_feasible, route_length, route
 
 // Polishes a route from the depot to an end harbour. Refuses 1, 2, 3, 23, 4, 24, 5, 21. The result receives 0 finished or 1 spent, examined, accepted, length
 // before, length after, and the lowest late position of the route handed back, or the number of its stops for none.
-#[unsafe(no_mangle)]
-pub extern "C" fn mittenschist_polish_route_to_end(
+pub fn mittenschist_polish_route_to_end(
     k: usize,
     allowance: u64,
     locations: usize,
@@ -51,8 +52,7 @@ pub extern "C" fn mittenschist_polish_route_to_end(
 }
 
 // Polishes a closed tour. Refuses 1, 2, 3, 23, 4, 5, 21.
-#[unsafe(no_mangle)]
-pub extern "C" fn mittenschist_polish_route(
+pub fn mittenschist_polish_route(
     k: usize,
     allowance: u64,
     locations: usize,
@@ -71,8 +71,7 @@ pub extern "C" fn mittenschist_polish_route(
 }
 
 // Polishes a route that keeps pairs of locations, the first before the second: their members end to end. Refuses 1, 2, 3, 23, 4, 24, 29, 5, 21.
-#[unsafe(no_mangle)]
-pub extern "C" fn mittenschist_polish_route_with_pairs(
+pub fn mittenschist_polish_route_with_pairs(
     k: usize,
     allowance: u64,
     locations: usize,
@@ -94,8 +93,7 @@ pub extern "C" fn mittenschist_polish_route_with_pairs(
 
 // A slice of polishing a route that keeps pairs: the scan from a place on, k cuts and the index of a pattern. Refuses 1, 2, 3, 23, 4, 24, 29, 5, 6, 7, 21. The place
 // receives that of the next candidate, or the first one where the scan has finished; the result the six numbers of polishing, of this slice.
-#[unsafe(no_mangle)]
-pub extern "C" fn mittenschist_polish_slice(
+pub fn mittenschist_polish_slice(
     k: usize,
     allowance: u64,
     locations: usize,
@@ -117,8 +115,7 @@ pub extern "C" fn mittenschist_polish_slice(
 }
 
 // The pair loop over a route. Refuses 2, 3, 23, 4, 5, 21. The result receives the six numbers of polishing; the length after may be above the length before.
-#[unsafe(no_mangle)]
-pub extern "C" fn mittenschist_pair_loop(
+pub fn mittenschist_pair_loop(
     allowance: u64,
     locations: usize,
     legs: &[u32],
@@ -138,29 +135,21 @@ pub extern "C" fn mittenschist_pair_loop(
 // The C functions of the other entries: the same refusals, then 21, and the values into the first places of the lent result.
 
 // k + 1 segment numbers, then the mask. Refuses 1, 6, 21.
-#[unsafe(no_mangle)]
-pub extern "C" fn mittenschist_reconnection_at(k: usize, pattern: usize, res: &mut [u64]) -> u32
+pub fn mittenschist_reconnection_at(k: usize, pattern: usize, res: &mut [u64]) -> u32
     ensures { Written (pattern_rules k pattern) (k + 2) (pattern_values k pattern) res.old result res.new }
 {
     cut_calls::write_reconnection(k, pattern, res)
 }
 
 // 1 and the next cuts, or 0 and the cuts kept. Refuses 1, 5, 7, 21.
-#[unsafe(no_mangle)]
-pub extern "C" fn mittenschist_next_cut_set(
-    k: usize,
-    n: usize,
-    cuts: &mut [usize],
-    res: &mut [u64],
-) -> u32
+pub fn mittenschist_next_cut_set(k: usize, n: usize, cuts: &mut [usize], res: &mut [u64]) -> u32
     ensures { NextCutSetWritten k n cuts.old res.old result cuts.new res.new }
 {
     cut_calls::write_next_cut_set(k, n, cuts, res)
 }
 
 // Refuses 1, 5, 6, 7, 21.
-#[unsafe(no_mangle)]
-pub extern "C" fn mittenschist_reconnect(
+pub fn mittenschist_reconnect(
     k: usize,
     pattern: usize,
     cuts: &[usize],
@@ -173,8 +162,7 @@ pub extern "C" fn mittenschist_reconnect(
 }
 
 // Refuses 2, 3, 4, 24, 5, 21.
-#[unsafe(no_mangle)]
-pub extern "C" fn mittenschist_route_length_to_end(
+pub fn mittenschist_route_length_to_end(
     locations: usize,
     legs: &[u32],
     depot: u32,
@@ -188,8 +176,7 @@ pub extern "C" fn mittenschist_route_length_to_end(
 }
 
 // Refuses 2, 3, 4, 5, 21.
-#[unsafe(no_mangle)]
-pub extern "C" fn mittenschist_route_length(
+pub fn mittenschist_route_length(
     locations: usize,
     legs: &[u32],
     depot: u32,
@@ -202,8 +189,7 @@ pub extern "C" fn mittenschist_route_length(
 }
 
 // Refuses 1 to 4, 24, 5 to 7, 21.
-#[unsafe(no_mangle)]
-pub extern "C" fn mittenschist_delta_to_end(
+pub fn mittenschist_delta_to_end(
     k: usize,
     pattern: usize,
     cuts: &[usize],
@@ -220,8 +206,7 @@ pub extern "C" fn mittenschist_delta_to_end(
 }
 
 // Refuses 1 to 7, 21.
-#[unsafe(no_mangle)]
-pub extern "C" fn mittenschist_delta(
+pub fn mittenschist_delta(
     k: usize,
     pattern: usize,
     cuts: &[usize],
@@ -237,8 +222,7 @@ pub extern "C" fn mittenschist_delta(
 }
 
 // The lowest late position, or the number of stops where every deadline is kept. Refuses 2, 3, 23, 4, 5, 21.
-#[unsafe(no_mangle)]
-pub extern "C" fn mittenschist_route_feasible(
+pub fn mittenschist_route_feasible(
     locations: usize,
     legs: &[u32],
     latest: &[u32],
@@ -253,8 +237,7 @@ pub extern "C" fn mittenschist_route_feasible(
 }
 
 // Applies a pattern at the cuts: the old stops go into the first n journal places. Refuses 1, 5, 6, 7, 8, 21.
-#[unsafe(no_mangle)]
-pub extern "C" fn mittenschist_k_opt_do_move(
+pub fn mittenschist_k_opt_do_move(
     k: usize,
     pattern: usize,
     round: usize,
@@ -269,16 +252,14 @@ pub extern "C" fn mittenschist_k_opt_do_move(
 }
 
 // Puts the stops of the journal back. Refuses 5, 22.
-#[unsafe(no_mangle)]
-pub extern "C" fn mittenschist_k_opt_undo_move(route: &mut [u32], journal: &[u32]) -> u32
+pub fn mittenschist_k_opt_undo_move(route: &mut [u32], journal: &[u32]) -> u32
     ensures { UndoReply route.old journal.now result route.new }
 {
     move_calls::k_opt_undo_move(route, journal)
 }
 
 // 1 yes or 0 no. Refuses 1, 5, 6, 21.
-#[unsafe(no_mangle)]
-pub extern "C" fn mittenschist_k_opt_is_doable(
+pub fn mittenschist_k_opt_is_doable(
     k: usize,
     pattern: usize,
     round: usize,
@@ -294,8 +275,7 @@ pub extern "C" fn mittenschist_k_opt_is_doable(
 }
 
 // The run over rounds that lie end to end, each to its end harbour. Refuses 1, 2, 3, 23, 4, 24, 5, 21. The result receives four numbers a round: state, examined, accepted, applied.
-#[unsafe(no_mangle)]
-pub extern "C" fn mittenschist_run_list_k_opt_to_ends(
+pub fn mittenschist_run_list_k_opt_to_ends(
     k: usize,
     allowance: u64,
     locations: usize,
@@ -317,8 +297,7 @@ pub extern "C" fn mittenschist_run_list_k_opt_to_ends(
 }
 
 // The run over closed tours. Refuses 1, 2, 3, 23, 4, 5, 21.
-#[unsafe(no_mangle)]
-pub extern "C" fn mittenschist_run_list_k_opt(
+pub fn mittenschist_run_list_k_opt(
     k: usize,
     allowance: u64,
     locations: usize,
@@ -339,8 +318,7 @@ pub extern "C" fn mittenschist_run_list_k_opt(
 }
 
 // The run with pairs, one list for all rounds. Refuses 1, 2, 3, 23, 4, 24, 29, 5, 21.
-#[unsafe(no_mangle)]
-pub extern "C" fn mittenschist_run_list_k_opt_with_pairs(
+pub fn mittenschist_run_list_k_opt_with_pairs(
     k: usize,
     allowance: u64,
     locations: usize,
@@ -364,8 +342,7 @@ pub extern "C" fn mittenschist_run_list_k_opt_with_pairs(
 }
 
 // The rounds of a run with shares of the allowance. Refuses 1, 2, 3, 23, 4, 24, 29, 5, 21. The result receives the run's four numbers a round, never state 0.
-#[unsafe(no_mangle)]
-pub extern "C" fn mittenschist_run_in_shares(
+pub fn mittenschist_run_in_shares(
     k: usize,
     allowance: u64,
     locations: usize,
@@ -389,8 +366,7 @@ pub extern "C" fn mittenschist_run_in_shares(
 }
 
 // The same; the result receives the number of sets written, then 0 ended or 1 more. Refuses 1, 5, 9, 21.
-#[unsafe(no_mangle)]
-pub extern "C" fn mittenschist_nearby_cuts(
+pub fn mittenschist_nearby_cuts(
     n: usize,
     distances: &[f64],
     k: usize,
@@ -405,8 +381,7 @@ pub extern "C" fn mittenschist_nearby_cuts(
 }
 
 // The same; the result receives the number of sets written, then 0 ended or 1 more. Refuses 1, 5, 9, 21.
-#[unsafe(no_mangle)]
-pub extern "C" fn mittenschist_every_nearby_cuts(
+pub fn mittenschist_every_nearby_cuts(
     n: usize,
     distances: &[f64],
     k: usize,
@@ -421,21 +396,14 @@ pub extern "C" fn mittenschist_every_nearby_cuts(
 }
 
 // The same; the result receives 1, the index and the k cuts, or 0 in its first place. Refuses 1, 5, 25, 21.
-#[unsafe(no_mangle)]
-pub extern "C" fn mittenschist_find_move(
-    k: usize,
-    old: &[u32],
-    wanted: &[u32],
-    res: &mut [u64],
-) -> u32
+pub fn mittenschist_find_move(k: usize, old: &[u32], wanted: &[u32], res: &mut [u64]) -> u32
     ensures { FindMoveWritten k old.now wanted.now res.old result res.new }
 {
     cut_calls::write_find_move(k, old, wanted, res)
 }
 
 // The way back of a move of a route of n stops, as a move: the result receives the index of its pattern, then its k cuts. Refuses 1, 5, 6, 7, 21.
-#[unsafe(no_mangle)]
-pub extern "C" fn mittenschist_way_back(
+pub fn mittenschist_way_back(
     k: usize,
     pattern: usize,
     n: usize,
@@ -451,8 +419,7 @@ pub extern "C" fn mittenschist_way_back(
 
 // Loads a list of patterns from text: its orders end to end, k + 1 bytes a row, its masks, and into the result its k and its number of rows. Refuses 10, 1, 26,
 // 27, 28, 21.
-#[unsafe(no_mangle)]
-pub extern "C" fn mittenschist_load_patterns(
+pub fn mittenschist_load_patterns(
     text: &[u8],
     orders: &mut [u8],
     masks: &mut [u8],
@@ -464,8 +431,7 @@ pub extern "C" fn mittenschist_load_patterns(
 }
 
 // Polishes a route from the depot to an end harbour with a list of patterns, its rows as they were loaded. Refuses 1, 26, 27, 28, 2, 3, 23, 4, 24, 5, 21.
-#[unsafe(no_mangle)]
-pub extern "C" fn mittenschist_polish_with_patterns(
+pub fn mittenschist_polish_with_patterns(
     k: usize,
     orders: &[u8],
     masks: &[u8],
@@ -487,8 +453,7 @@ pub extern "C" fn mittenschist_polish_with_patterns(
 }
 
 // The same with pairs. Refuses 1, 26, 27, 28, 2, 3, 23, 4, 24, 29, 5, 21.
-#[unsafe(no_mangle)]
-pub extern "C" fn mittenschist_polish_with_patterns_and_pairs(
+pub fn mittenschist_polish_with_patterns_and_pairs(
     k: usize,
     orders: &[u8],
     masks: &[u8],
@@ -513,8 +478,7 @@ pub extern "C" fn mittenschist_polish_with_patterns_and_pairs(
 
 // Writes a problem as text, in the form that the text program reads, into the first places of the lent text; its number of bytes into the result. Refuses 1, 2,
 // 3, 23, 4, 24, 5, 31, 21.
-#[unsafe(no_mangle)]
-pub extern "C" fn mittenschist_write_problem(
+pub fn mittenschist_write_problem(
     k: usize,
     allowance: u64,
     locations: usize,
@@ -535,8 +499,7 @@ pub extern "C" fn mittenschist_write_problem(
 }
 
 // Reads a problem from text into lent lists, and into the result its k, allowance, locations, depot, end and number of stops. Refuses 10, 1, 3, 23, 4, 24, 5, 21.
-#[unsafe(no_mangle)]
-pub extern "C" fn mittenschist_read_problem(
+pub fn mittenschist_read_problem(
     text: &[u8],
     legs: &mut [u32],
     latest: &mut [u32],
@@ -550,8 +513,7 @@ pub extern "C" fn mittenschist_read_problem(
 }
 
 // Which of two lists for one boat, as `which_of_two`; as a number, since C has no part of a slice: 1 the first, 2 the second, 0 neither. No refusal number.
-#[unsafe(no_mangle)]
-pub extern "C" fn mittenschist_which_of_two(
+pub fn mittenschist_which_of_two(
     locations: usize,
     legs: &[u32],
     latest: &[u32],

@@ -1,4 +1,6 @@
 // Apply, undo, and whether a move can be done, with the cuts as two lists of numbers. No entry: the crates above call it.
+#![tactic(auto)]
+
 ghost use Rattle.std.specs.Prelude.{◌≡◌};
 ghost use Rattle.move_applying.specs.Applying.{Appliable, Applied, Undoable, Undone, doable};
 

@@ -1,4 +1,6 @@
-// Apply, undo and doable, judged; the cuts are two lists of numbers or a list of cut points. The functions that take cut points are proved by hand.
+// Apply, undo and doable, judged; the cuts are two lists of numbers or a list of cut points.
+#![tactic(auto)]
+
 ghost use Rattle.std.specs.Prelude.{◌≡◌, take};
 ghost use Rattle.theory.specs.Refusals.{refusal};
 ghost use Rattle.move_points.specs.CutPoints.{Sized, rounds_of, positions_of};

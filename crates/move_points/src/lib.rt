@@ -1,16 +1,18 @@
-// Cut points, and a slice of them read into numbers: the functions that take the slice are proved by hand. No entry: the crates above call it.
+// Cut points, and a slice of them read into numbers. No entry: the crates above call it.
+#![tactic(auto)]
+
 ghost use Rattle.std.specs.Prelude.{◌≡◌, min, length};
 ghost use Rattle.move_points.specs.CutPoints.{cut_at, numbers_of, HoldsCuts};
 
 // A cut of a round, before a position.
-#[derive(Drop)]
+#[derive(Clone, Copy)]
 pub struct CutPoint {
     pub round: usize,
     pub position: usize,
 }
 
 // The first six cut points as numbers. A move has at most five cuts, so that six tell as much as more.
-#[derive(Drop)]
+#[derive(Clone, Copy)]
 pub struct CutNumbers {
     pub len: usize,
     pub rounds: [usize; 6],

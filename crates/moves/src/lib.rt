@@ -1,4 +1,6 @@
 // A move by the index of its pattern: its route, its change of the length, and its numbers in a lent result. No entry: the crates above call it.
+#![tactic(auto)]
+
 ghost use Rattle.std.specs.Prelude.{◌≡◌, ◌∷◌, ◌++◌, ◌+◌, ◌≤◌, length, drop};
 ghost use Rattle.theory.specs.Moves.{patterns};
 ghost use Rattle.theory.specs.Route.{reconnected};

@@ -1,4 +1,6 @@
 // The listing of the nearby cut sets, after nearby_state.rs. No entry is here.
+#![tactic(auto)]
+
 ghost use Rattle.std.specs.Prelude.{◌≡◌, length};
 ghost use Rattle.nearby_last_cut.specs.Pouring.{pour};
 ghost use Rattle.nearby.specs.Walk.{nearby_sets};

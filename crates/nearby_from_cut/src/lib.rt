@@ -1,4 +1,6 @@
 // The branches of the nearby walk: the cut sets from a cut on, into the lent buffer, after nearby_state.rs. No entry is here.
+#![tactic(auto)]
+
 ghost use Rattle.std.specs.Prelude.{◌≡◌, ◌+◌, ◌<◌, length, get_or, drop};
 ghost use Rattle.nearby_from_cut.specs.Branch.{goes_on, Branchable, Branched, AskableFor, EligibleFor};
 

@@ -1,10 +1,12 @@
 // Cut sets into the lent buffer, while there is room: those of the last cut, after nearby_state.rs. No entry is here.
+#![tactic(auto)]
+
 ghost use Rattle.std.specs.Prelude.{◌≡◌, ◌∷◌, [], ◌++◌, map, ◌+◌, ◌-◌, ◌≤◌, length, take};
 ghost use Rattle.std.proofs.lemmas.List.Edits.{sets};
 ghost use Rattle.nearby_last_cut.specs.Pouring.{pour, Room};
 
 // What a listing keeps to: `len` stops, and room for `capacity` sets.
-#[derive(Drop)]
+#[derive(Clone, Copy)]
 pub struct NearbyCutState {
     pub k: usize,
     pub len: usize,

@@ -1,4 +1,6 @@
 // The pair loop: the exact 2-opt of the Rust's list k-opt kernel, over one round. No entry: crate mittenschist calls it.
+#![tactic(auto)]
+
 ghost use Rattle.std.specs.Prelude.{◌≡◌, [], ◌<◌, length};
 ghost use Rattle.theory.specs.Tables.{problem, Timed, trip};
 ghost use Rattle.pair_loop.specs.PairLoop.{stop_before, sweep, pass, pair_loop, reply_so_far, PairsTried};
@@ -7,7 +9,7 @@ ghost use Rattle.pair_loop.specs.Parts.{Going, Sweep};
 use theory::{Counts, Polished};
 
 // What the loop has counted.
-#[derive(Drop)]
+#[derive(Clone, Copy)]
 struct PairLoop {
     finished: bool,
     examined: u64,

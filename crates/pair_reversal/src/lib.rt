@@ -1,4 +1,6 @@
 // A reversal of a part of a route, judged: what the pair loop asks of a pair. No entry: crate pair_loop calls it.
+#![tactic(auto)]
+
 ghost use Rattle.std.specs.Prelude.{◌≡◌, [], reverse, ◌<◌, length};
 ghost use Rattle.theory.specs.Tables.{problem, trip};
 ghost use Rattle.costs.specs.RouteCosts.{leg};

@@ -1,4 +1,6 @@
 // A list of patterns loaded from text into lent rows: read, judged on the whole, and only then written. No entry: crate mittenschist hands it on.
+#![tactic(auto)]
+
 ghost use Rattle.std.specs.Prelude.{◌≡◌, map, ◌-◌, ◌≤◌, length};
 ghost use Rattle.theory.specs.Refusals.{number, refusal};
 ghost use Rattle.pattern_list_loading.specs.Loading.{LoadReply, DigitsOf, TookRow, Takeable, Took, JudgedRows, LargestPlaces, LoadedBy, Whole, HandedOver, announced_rows, sizes};
@@ -11,14 +13,14 @@ const ORDER_PLACES: usize = 2298;
 const ROW_PLACES: usize = 383;
 
 // A row's mask, and the place after its line; or a row that does not fit its places.
-#[derive(Drop)]
+#[derive(Clone, Copy)]
 enum Taken {
     Row(u8, usize),
     Misfit,
 }
 
 // k and the number of rows; or a refusal number.
-#[derive(Drop)]
+#[derive(Clone, Copy)]
 enum Loaded {
     List(usize, usize),
     Refused(u32),

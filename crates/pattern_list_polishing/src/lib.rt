@@ -1,4 +1,6 @@
 // Polishing with a list of patterns that the caller lends, judged; with pairs, or without. No entry: crate mittenschist hands it on.
+#![tactic(auto)]
+
 ghost use Rattle.std.specs.Prelude.{◌≡◌, [], ◌++◌};
 ghost use Rattle.theory.specs.Answers.{Polishes};
 ghost use Rattle.theory.specs.Tables.{problem, pattern_rows, trip};

@@ -1,4 +1,6 @@
 // A list of patterns, read from bytes: its numbers, how many rows it has, and a row at a place. No entry: crate pattern_list_loading calls it.
+#![tactic(auto)]
+
 ghost use Rattle.std.specs.Prelude.{◌≡◌, ◌&&◌, ◌≤◌, leb, length, drop};
 ghost use Rattle.pattern_list_text.specs.Reading.{rows_of};
 ghost use Rattle.pattern_list_text.specs.Told.{Spans, RowRead, count_of, count_told, Answered};
@@ -7,20 +9,20 @@ use text_lines::read_value;
 use text_tokens::{Numeral, Place, byte_at, read_numeral, skip_key};
 
 // Where the digits of a row's order begin and end, its mask, and the place after its line.
-#[derive(Drop)]
+#[derive(Clone, Copy)]
 pub enum Row {
     Read(usize, usize, u32, usize),
     Malformed,
 }
 
-#[derive(Drop)]
+#[derive(Clone, Copy)]
 enum Count {
     Rows(usize),
     Malformed,
 }
 
 // k, the announced number of rows, their number, and where the first begins.
-#[derive(Drop)]
+#[derive(Clone, Copy)]
 pub enum Reading {
     List(u32, u32, usize, usize),
     Malformed,

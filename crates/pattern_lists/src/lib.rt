@@ -1,4 +1,6 @@
 // A list of patterns as a caller lends it, judged: the orders end to end, k + 1 segments each, and a mask for each. No entry: the crates of lists call it.
+#![tactic(auto)]
+
 ghost use Rattle.std.specs.Prelude.{◌≡◌, cond, [], ◌∷◌, suc, ◌+◌, ◌^◌, ◌≤◌, ltb, eqb, drop};
 ghost use Rattle.theory.specs.Route.{count, every};
 ghost use Rattle.theory.specs.Tables.{pattern_rows};

@@ -1,4 +1,6 @@
 // The orders of up to four items by recursion, as rows of bytes, after k_opt_reconnection.rs. No entry: crate patterns calls it.
+#![tactic(auto)]
+
 ghost use Rattle.std.specs.Prelude.{◌≡◌, ◌+◌, ◌≤◌, ◌<◌, length, drop};
 ghost use Rattle.std.proofs.lemmas.List.Edits.{sets};
 ghost use Rattle.pattern_orders.specs.Rows.{RowRoom, Permuted};

@@ -1,5 +1,7 @@
 // The patterns for 2 to 5 cuts as a table: first those for 2 cuts, each k's in index order. tools/write-patterns writes the constants; that they are
 // document 01's patterns is the promise of the functions, so nothing else mentions them. A mention is a copy of 3,002 bytes: once a call, never in a loop.
+#![tactic(auto)]
+
 ghost use Rattle.std.specs.Prelude.{◌≡◌, ◌≤◌};
 ghost use Rattle.pattern_table.specs.Table.{all_orders, all_masks, PartFor};
 
@@ -481,7 +483,7 @@ const MASKS: [u8; 438] = *b"\
     \0\x02\x04\x06\x08\x0a\x0c\x0e\x10\x12\x14\x16\x18\x1a\x1c\x1e";
 
 // A part of the table: where its orders begin and end, in bytes, and its masks.
-#[derive(Drop)]
+#[derive(Clone, Copy)]
 pub struct Part {
     pub orders: usize,
     pub orders_end: usize,

@@ -1,9 +1,24 @@
-// Polishes the round on standard input and writes the answer. One byte more than a text may have is read, so that a longer one is known.
-fn main() {
+// Polishes the round on standard input and writes the answer.
+#![tactic(auto)]
+
+ghost use Rattle.std.specs.Prelude.{IfSome, OnOk, take};
+ghost use Rattle.std.specs.Io.KnownBytes.{Appends};
+ghost use Rattle.text.specs.Program.{program};
+
+use std::io::{self, Read, Write};
+
+// Reads a text and writes its answer. One byte more than a text may have is read, so that a longer one is known.
+fn answer_text<R: Read, W: Write>(reader: &mut R, writer: &mut W) -> io::Result<()>
+    ensures { OnOk result (IfSome (R.remaining reader.old) (λ text. Appends (W.contents writer.old) (W.contents writer.new) (program (take 60001 text)))) }
+{
     let mut input = [0u8; 60001];
-    let got = io::read_full(0, &mut input);
+    let got = lent_reading::read_full(reader, &mut input)?;
     let answer = text::polish_text(&input[..got]);
     let bytes = answer.bytes;
     let length = answer.length;
-    let _ = io::write_all(1, &bytes[..length]);
+    writer.write_all(&bytes[..length])
+}
+
+fn main(rt: HostRuntime) -> io::Result<()> {
+    answer_text(&mut rt.stdin(), &mut rt.stdout())
 }

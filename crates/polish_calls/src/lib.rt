@@ -1,4 +1,6 @@
 // Polishing with every pattern and the pair loop, judged, with their six numbers in a lent result. No entry: crate mittenschist hands them on.
+#![tactic(auto)]
+
 ghost use Rattle.theory.specs.Tables.{tables};
 ghost use Rattle.theory.specs.Question.{question, question_with_pairs};
 ghost use Rattle.polish_calls.specs.Polishing.{PolishReply, PolishToEndReply, PolishWithPairsReply, PairLoopReply};

@@ -1,4 +1,6 @@
 // What polishing or the pair loop counted, as their answer, and the answer's six numbers into a lent result. No entry: crates polishing, pair_loop and mittenschist call it.
+#![tactic(auto)]
+
 ghost use Rattle.std.specs.Prelude.{◌≡◌, ◌∷◌, ◌++◌, ◌≤◌, length, drop};
 ghost use Rattle.theory.specs.Answers.{polish_values};
 ghost use Rattle.polish_numbers.specs.Answer.{answer_of};

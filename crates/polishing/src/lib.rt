@@ -1,5 +1,7 @@
 // Polishing a route by the scan of document 01, with every pattern for k or with lent rows of patterns; with pairs, whose words are lent beside them, or without. No
 // entry: crates mittenschist, run and text call it. All stands on the slice: the scan from a place on.
+#![tactic(auto)]
+
 ghost use Rattle.theory.specs.Moves.{patterns};
 ghost use Rattle.theory.specs.Tables.{problem, pattern_rows, trip};
 ghost use Rattle.theory.specs.Answers.{Polishes};
@@ -13,7 +15,7 @@ use scan_loop::Scanned;
 use theory::{Counts, Polished};
 
 // What a slice counted, as polishing does, and the place where the next one begins.
-#[derive(Drop)]
+#[derive(Clone, Copy)]
 pub struct Sliced {
     pub finished: bool,
     pub examined: u64,

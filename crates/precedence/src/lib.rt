@@ -1,5 +1,7 @@
 // Pairs of locations of which the first comes before the second: a lent list judged, sets of pairs as words, the words of a part of a route, and where a route may
 // be cut so that head and tail keep their pairs. No entry: the crates above call it.
+#![tactic(auto)]
+
 ghost use Rattle.std.specs.Prelude.{◌≡◌, ◌+◌, ◌≤◌, eqb, length, get_or};
 ghost use Rattle.theory.specs.Refusals.{any, number, pair_list};
 ghost use Rattle.theory.specs.Pairs.{pairs_of};
@@ -87,7 +89,7 @@ pub fn seconds_at(members: &[u64], stop: u32) -> u64
 // ---- the words of a part of a route, grown stop by stop
 
 // The pairs whose first is visited, and whose second; those that the part breaks as it stands, and reversed.
-#[derive(Drop)]
+#[derive(Clone, Copy)]
 pub struct Marks {
     pub firsts: u64,
     pub seconds: u64,

@@ -1,5 +1,7 @@
 // Which patterns break a pair on a cut set of a route that keeps its pairs, and on every later one with the same first cuts, by ten signs: that one middle segment
 // stands before an earlier one, or is reversed. A sign is closed where a pair goes from the earlier segment to the other. No entry: for the inner search.
+#![tactic(auto)]
+
 ghost use Rattle.std.specs.Prelude.{◌≡◌, ◌<◌, ◌≤◌};
 ghost use Rattle.precedence.specs.Words.{marks};
 ghost use Rattle.scan_joints.specs.States.{row};
@@ -82,7 +84,7 @@ fn event_sign(visits: &[u64], cuts: &[usize], a: usize, b: usize, bit: u16) -> u
 }
 
 // The event behind (a, b).
-#[derive(Drop)]
+#[derive(Clone, Copy)]
 struct Event {
     a: usize,
     b: usize,

@@ -1,4 +1,6 @@
 // Pairs that contradict each other along a route, so that no order of its stops keeps them. No entry: the scan asks it once, of a route that breaks a pair.
+#![tactic(auto)]
+
 ghost use Rattle.precedence.specs.Words.{Readable};
 ghost use Rattle.precedence_contradictions.specs.Contrary.{FirstsIf, FirstsVisited, LeftBehind, ContraryFound};
 

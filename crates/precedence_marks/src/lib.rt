@@ -1,5 +1,7 @@
 // Pairs of placed segments, shared by the candidates that have them: the words of each middle segment, grown with the last cut, and a row of states judged by them. No
 // entry: for the inner search.
+#![tactic(auto)]
+
 ghost use Rattle.std.specs.Prelude.{◌≡◌, ◌+◌, ◌-◌, ◌*◌, get_or};
 ghost use Rattle.std.proofs.Math.Seq.{slice};
 ghost use Rattle.precedence_marks.specs.Held.{in_order, Puttable, Putting, SegmentAsked, SegmentMarked, MarksFillable, MarksFilled, MarksReachable, MarksStretched, MarksAsked, MarksReached, MarksTellable, MarksTold, RowOrdered, RouteTellable, HeadLimit, TailSince};

@@ -1,5 +1,7 @@
 // The pairs of which a member is visited before each position of a route, as words, found as far as asked: by them it is told of two parts of the route whether
 // some pair goes from one to the other. No entry: for the inner search.
+#![tactic(auto)]
+
 ghost use Rattle.precedence_visits.specs.Visits.{VisitsAsked, VisitsReached, VisitsForgotten, BetweenAsked, Between};
 
 // At 2 * i the pairs whose first is visited before position i, at 2 * i + 1 those whose second is; behind them the last position of which they are known.

@@ -1,7 +1,7 @@
 -- A candidate that turns one route into the other lays its middle segments from its first cut to its last. Assumes nothing.
 use mathlib.Core.Path.{◌≡◌, refl, sym, ap, ◌∙◌}
 use mathlib.Core.Bool.{Bool, true, false, cond}
-use mathlib.Core.Logic.{◌⊎◌, inl, inr}
+use mathlib.Core.Logic.{inl, inr}
 use mathlib.Core.List.{List, [], ◌∷◌, ◌++◌, flatten, append_assoc, Memᴰ}
 use Prim.Native.Nat.{ℕ, zero, suc, ◌+◌, ◌-◌, ◌*◌, ◌≤◌, ◌<◌}
 use native.Mathlib.Omega.{arith}
@@ -11,7 +11,7 @@ use lib.Dec.{leb, eqb}
 use lib.ListN.{length, get_or, take, drop, length-append, length-drop, get_or-append}
 use lib.Seq.{slice, length-slice, get_or-append-add, get_or-drop, get_or-take}
 use borrow.Author.Tests.{eq-eqb, ne_eqb, le-leb, lt-leb}
-use Rattle.theory.specs.Moves.{upfrom, total, Pattern, Move, Rising}
+use Rattle.theory.specs.Moves.{upfrom, total, Pattern, Rising}
 use Rattle.theory.specs.Route.{segments, reverses, reverse_if, placed, joined, reconnected, count}
 use Rattle.theory.proofs.Moves.{Shape, length_upfrom, total_ones}
 use Rattle.theory.proofs.Orders.{in_range, count_other}
@@ -19,8 +19,8 @@ use Rattle.theory.proofs.Cuts.{rising_below}
 use Rattle.theory.proofs.Delta.{length_reverse_if, joined_split, even_head, small_tail, straight}
 use Rattle.reconnection.proofs.Reversal.{get_d_reverse}
 use Rattle.standing.specs.Places.{Has}
-use Rattle.standing.specs.Standing.{Along, Against, Stands, TailSet}
-use Rattle.prefixes.specs.Ways.{start_of, size_of, known_size, Laid, Way}
+use Rattle.standing.specs.Standing.{Stands, TailSet}
+use Rattle.prefixes.specs.Ways.{size_of, known_size, Laid, Way}
 use Rattle.prefixes.proofs.Ways.{middle_filled, middle_within}
 
 -- ---- parts of lists by their elements

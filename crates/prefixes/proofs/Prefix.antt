@@ -1,13 +1,13 @@
 -- Where nothing can be laid, no candidate that begins with the first cuts does it. Assumes nothing.
-use mathlib.Core.Path.{◌≡◌, refl, sym, ap, ◌∙◌}
-use mathlib.Core.Bool.{Bool, true, false}
-use mathlib.Core.List.{List, [], ◌∷◌, ◌++◌}
+use mathlib.Core.Path.{◌≡◌, ◌∙◌}
+use mathlib.Core.Bool.{false}
+use mathlib.Core.List.{List, [], ◌++◌}
 use Prim.Native.Nat.{ℕ, zero, suc, ◌+◌, ◌-◌, ◌*◌, ◌≤◌, ◌<◌}
 use native.Mathlib.Omega.{arith}
 use native.Mathlib.Nat.{add-zero, add-suc}
-use lib.ListN.{length, get_or, take, length-append, length-take, get_or-append}
+use lib.ListN.{length, get_or, take, length-take, get_or-append}
 use lib.Seq.{get_or-take}
-use Rattle.theory.specs.Moves.{Pattern, patterns, Rising}
+use Rattle.theory.specs.Moves.{patterns, Rising}
 use Rattle.theory.specs.Route.{reconnected}
 use Rattle.theory.specs.Polish.{move_at}
 use Rattle.theory.proofs.Moves.{pattern_shape}
@@ -17,7 +17,6 @@ use Rattle.theory.proofs.Delta.{gap}
 use Rattle.first_move.specs.FirstMove.{turns_into}
 use Rattle.first_move.proofs.FirstMove.{other_route}
 use Rattle.standing.specs.Places.{Has}
-use Rattle.standing.specs.Standing.{Stands}
 use Rattle.prefixes.specs.Ways.{start_of, size_of, Setting, Nowhere, FirstCuts}
 use Rattle.prefixes.specs.Prefix.{Tables, NothingThere, Prefix}
 use Rattle.prefixes.proofs.Ways.{middle_filled, middle_within}

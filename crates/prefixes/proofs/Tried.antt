@@ -1,15 +1,14 @@
 -- The turns of the search for a way: each known segment first, then an unknown one. Assumes nothing.
-use mathlib.Core.Path.{◌≡◌, refl, sym, ap, ◌∙◌}
-use mathlib.Core.Bool.{Bool, true, false}
+use mathlib.Core.Path.{◌≡◌, refl}
+use mathlib.Core.Bool.{Bool, false}
 use mathlib.Core.List.Memᴰ
 use mathlib.Core.List.{List, [], ◌∷◌}
-use Prim.Native.Nat.{ℕ, zero, suc, ◌+◌, ◌-◌, ◌*◌, ◌≤◌, ◌<◌}
+use Prim.Native.Nat.{ℕ, suc, ◌+◌, ◌-◌, ◌*◌, ◌≤◌, ◌<◌}
 use native.Mathlib.Omega.{arith}
 use native.Mathlib.Decide.{dec_lt}
-use lib.ListN.{length, get_or}
+use lib.ListN.{get_or}
 use Rattle.standing.specs.Places.{Has}
-use Rattle.standing.specs.Standing.{Stands, StandsTable}
-use Rattle.prefixes.specs.Ways.{start_of, size_of, Laid, Setting, Way, Nowhere, NowhereFirst, FirstCuts, Handable, Handed, Farther, Reaches, Marked, Gathered}
+use Rattle.prefixes.specs.Ways.{start_of, size_of, Nowhere, NowhereFirst, FirstCuts, Handable, Handed, Farther, Reaches, Marked, Gathered}
 use Rattle.prefixes.proofs.Ways.{middle_filled, middle_within, way_near, way_known, way_unknown, some_unknown}
 
 pub handable : (known : ℕ) (cuts : List ℕ) (p : ℕ) → FirstCuts known cuts → 1 ≤ p → p ≤ known → Handable cuts p

@@ -1,20 +1,19 @@
 -- One segment after the other: what is left of a way once its first segment is laid. Assumes nothing.
-use mathlib.Core.Path.{◌≡◌, refl, sym, ap, ◌∙◌}
+use mathlib.Core.Path.{◌≡◌, refl}
 use mathlib.Core.Bool.{Bool, true, false, cond}
 use mathlib.Core.List.{List, [], ◌∷◌, Memᴰ}
-use Prim.Native.Nat.{ℕ, zero, suc, ◌+◌, ◌-◌, ◌*◌, ◌≤◌, ◌<◌}
+use Prim.Native.Nat.{ℕ, suc, ◌+◌, ◌-◌, ◌≤◌, ◌<◌}
 use native.Mathlib.Omega.{arith}
-use lib.Dec.{leb, eqb}
+use lib.Dec.{leb}
 use lib.ListN.{length, get_or}
 use borrow.Author.Tests.{le-leb, lt-leb, eq-eqb}
 use Rattle.theory.specs.Moves.{Rising, total}
-use Rattle.theory.specs.Route.{reverses, count}
+use Rattle.theory.specs.Route.{count}
 use Rattle.theory.proofs.Cuts.{rising_below}
 use Rattle.theory.proofs.Delta.{gap}
 use Rattle.theory.proofs.Orders.{count_mem}
 use Rattle.standing.specs.Places.{Has}
-use Rattle.standing.specs.Standing.{Stands, StandsTable}
-use Rattle.prefixes.specs.Ways.{start_of, size_of, known_size, Laid, Setting, Way, Marked}
+use Rattle.prefixes.specs.Ways.{size_of, known_size, Laid, Way, Marked}
 
 module _ (n k : ℕ) (cs : List ℕ) (many : length cs ≡ k) (rising : Rising 0 cs n) (i : ℕ) (least : 1 ≤ i) (most : i < k) where
   pub middle_filled : get_or cs (i - 1) 0 < get_or cs i 0

@@ -1,6 +1,6 @@
 -- The segments of a candidate laid into the wanted route one after the other, those between the first cuts known, the others not; and what the test of
 -- first cuts says: "no" where nothing can be laid so.
-use Rattle.std.specs.Prelude.{◌≡◌, Bool, true, false, cond, ℕ, suc, ◌+◌, ◌-◌, ◌*◌, ◌≤◌, ◌<◌, leb, length, get_or}
+use Rattle.std.specs.Prelude.{◌≡◌, Bool, false, cond, ℕ, suc, ◌+◌, ◌-◌, ◌*◌, ◌≤◌, ◌<◌, leb, length, get_or}
 use mathlib.Core.List.{List, [], ◌∷◌, Memᴰ}
 use Rattle.theory.specs.Moves.{Rising, total}
 use Rattle.theory.specs.Route.{reverses, count}

@@ -1,4 +1,6 @@
 // Whether the first cuts of a cut set may lead to the wanted route. "No" is certain; nothing rests on how often the answer is "yes".
+#![tactic(auto)]
+
 ghost use Rattle.std.specs.Prelude.{◌≡◌, false, ◌≤◌, ◌<◌};
 ghost use Rattle.prefixes.specs.Prefix.{Prefix, MayLead};
 ghost use Rattle.prefixes.specs.Ways.{Nowhere, Askable, Handable, Handed, Farther, Reaches, Marked, Gathered};

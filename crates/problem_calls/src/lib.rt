@@ -1,9 +1,11 @@
 // A problem written as text, judged as polishing judges it; and what writing and reading promise. No entry: crate mittenschist hands it on.
+#![tactic(auto)]
+
 ghost use Rattle.theory.specs.Question.{question};
 ghost use Rattle.problem_calls.specs.Problems.{WriteReply, Accepted, SizeTold};
 
 // How many bytes a problem's text has; or a problem that is beyond the text's bounds.
-#[derive(Drop)]
+#[derive(Clone, Copy)]
 enum Size {
     Bytes(usize),
     Beyond,

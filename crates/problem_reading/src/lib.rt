@@ -1,4 +1,6 @@
 // A problem read from text into lent lists, judged as polishing judges it. No entry: crate mittenschist hands it on.
+#![tactic(auto)]
+
 ghost use Rattle.std.specs.Prelude.{◌≡◌, [], ◌∷◌, ◌≤◌, length};
 ghost use Rattle.theory.specs.Refusals.{refusal, room};
 ghost use Rattle.problem_calls.specs.Problems.{ReadReply, put_before};

@@ -1,4 +1,6 @@
 // A route cut into segments and put together again in the order of a pattern. No entry: the crates above call it.
+#![tactic(auto)]
+
 ghost use Rattle.std.specs.Prelude.{◌≡◌, ◌++◌, reverse, ◌+◌, ◌-◌, ◌≤◌, length, take, drop};
 ghost use Rattle.theory.specs.Route.{reverses, reverse_if, reconnected};
 ghost use Rattle.reconnection.specs.Segments.{bound, SegmentPuttable, Fits, Reconnectable};

@@ -1,6 +1,8 @@
 // What a call was handed, judged by its list of rules: the first number in the one order whose rule applies, or 0. Apply, undo and doable are judged in crate
 // move_calls, the deadline check in crate refusals. A call without an end harbour is judged as one that ends at its depot. No entry: the crates of the
 // judged calls and text_problem call it.
+#![tactic(auto)]
+
 ghost use Rattle.std.specs.Prelude.{◌≡◌, [], ◌∷◌, ◌+◌, ◌*◌, length};
 ghost use Rattle.theory.specs.Tables.{tables, trip, fleet};
 ghost use Rattle.theory.specs.Refusals.{refusal, number, cut_count, round_lists, end_list, trip_rules, paired_rules};

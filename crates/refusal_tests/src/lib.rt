@@ -1,4 +1,6 @@
 // Tests over a list, by which the checks of refusals are made. No entry: the crates above call them.
+#![tactic(auto)]
+
 ghost use Rattle.std.specs.Prelude.{◌≡◌, not, ◌||◌, ltb, leb, eqb};
 ghost use Rattle.theory.specs.Refusals.{any, rises, no_number};
 ghost use Rattle.theory.specs.Moves.{total};

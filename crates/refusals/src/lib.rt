@@ -1,4 +1,6 @@
 // One small check for each refusal number: the number where its rule applies to the raw input, else 0. No entry: the crates above call them.
+#![tactic(auto)]
+
 ghost use Rattle.std.specs.Prelude.{◌≡◌, [], ◌≤◌};
 ghost use Rattle.theory.specs.Refusals.{either, number, cut_count, leg_table, deadline_list, leg_sizes, service_list, known_stops, known_end, stop_count, pattern_index, cut_positions, room, refusal, table_rules, problem_rules, trip_rules, cut_lists, own_round, journal_length, known_rounds, known_ends, round_lists, end_list, nearby_input};
 ghost use Rattle.theory.specs.Tables.{tables, trip};

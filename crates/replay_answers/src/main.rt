@@ -1,20 +1,26 @@
 // Replays the stored answers of the unchanged Rust on polishing, the pair loop, the run and nearby cuts: the file stdout beside src/ is written from them by
 // tools/store-answers, and this program prints what the library answers for the same questions, which both draw by the rule of crate replay_drawing.
 // Of polishing's late position the Rust knows only yes or no: it is stored by the definition.
+#![tactic(auto)]
 
-fn write(line: &[u8]) {
-    let _ = io::write_all(1, line);
-}
+use std::io;
 
 // A line of a call: its refusal number and result, and the stops that it left.
-fn show_line(call: &[u8], refused: u32, res: &[u64], name: &[u8], stops: &[u32]) {
+fn show_line(
+    rt: &impl Print,
+    call: &[u8],
+    refused: u32,
+    res: &[u64],
+    name: &[u8],
+    stops: &[u32],
+) -> io::Result<()> {
     let mut line = [0u8; 1024];
     let number = replay_lines::put_number(call, refused as u64, &mut line, 0);
     let told = replay_lines::put_numbers(res, &mut line, number);
     let word = replay_lines::put(name, &mut line, told);
     let left = replay_lines::put_stops(stops, &mut line, word);
     let end = replay_lines::put(b"\n", &mut line, left);
-    write(&line[..end]);
+    rt.write_all(&line[..end])
 }
 
 // The most seconds at a stop: none for every other four seeds.
@@ -25,6 +31,7 @@ fn service_of(seed: u16) -> u16 {
 // Ten locations; legs to 99 seconds but for the first, deadlines to 799, service times but for the first. For the questions that are refused: another
 // number of locations, a longer leg, a longer service time, another depot.
 fn show_polish(
+    rt: &impl Print,
     seed: u16,
     k: usize,
     locations: usize,
@@ -33,7 +40,7 @@ fn show_polish(
     depot: u32,
     route: &mut [u32],
     res: &mut [u64],
-) {
+) -> io::Result<()> {
     let mut legs = [0u32; 100];
     let mut latest = [0u32; 10];
     let mut service = [0u32; 10];
@@ -54,11 +61,11 @@ fn show_polish(
         route,
         res,
     );
-    show_line(b"polish ", refused, &res[..], b" route", &route[..]);
+    show_line(rt, b"polish ", refused, &res[..], b" route", &route[..])
 }
 
 // Seven stops from location 0 to an end harbour.
-fn show_ended(seed: u16, end: u32) {
+fn show_ended(rt: &impl Print, seed: u16, end: u32) -> io::Result<()> {
     let mut legs = [0u32; 100];
     let mut latest = [0u32; 10];
     let mut service = [0u32; 10];
@@ -80,11 +87,11 @@ fn show_ended(seed: u16, end: u32) {
         &mut route,
         &mut result,
     );
-    show_line(b"ended ", refused, &result, b" route", &route);
+    show_line(rt, b"ended ", refused, &result, b" route", &route)
 }
 
 // One round of eight stops.
-fn show_pairs(seed: u16, res: &mut [u64]) {
+fn show_pairs(rt: &impl Print, seed: u16, res: &mut [u64]) -> io::Result<()> {
     let mut legs = [0u32; 100];
     let mut latest = [0u32; 10];
     let mut service = [0u32; 10];
@@ -103,11 +110,11 @@ fn show_pairs(seed: u16, res: &mut [u64]) {
         &mut route,
         res,
     );
-    show_line(b"pairs ", refused, &res[..], b" route", &route);
+    show_line(rt, b"pairs ", refused, &res[..], b" route", &route)
 }
 
 // Three rounds; the middle one is short, and pinned for every other four seeds. The last one is longer than its stops where the run is refused.
-fn show_run(seed: u16, last: usize) {
+fn show_run(rt: &impl Print, seed: u16, last: usize) -> io::Result<()> {
     let mut legs = [0u32; 100];
     let mut latest = [0u32; 10];
     let mut service = [0u32; 10];
@@ -131,11 +138,11 @@ fn show_run(seed: u16, last: usize) {
         &[0, pin, 0],
         &mut result,
     );
-    show_line(b"run ", refused, &result, b" stops", &stops);
+    show_line(rt, b"run ", refused, &result, b" stops", &stops)
 }
 
 // Two rounds, each to its own end; one end too few where the run is refused.
-fn show_run_to_ends(seed: u16, ends: &[u32]) {
+fn show_run_to_ends(rt: &impl Print, seed: u16, ends: &[u32]) -> io::Result<()> {
     let mut legs = [0u32; 100];
     let mut latest = [0u32; 10];
     let mut service = [0u32; 10];
@@ -159,11 +166,11 @@ fn show_run_to_ends(seed: u16, ends: &[u32]) {
         &[0, 0],
         &mut result,
     );
-    show_line(b"ran ", refused, &result, b" stops", &stops);
+    show_line(rt, b"ran ", refused, &result, b" stops", &stops)
 }
 
 // Seven stops to an end harbour, with pairs.
-fn show_kept(seed: u16, end: u32, pairs: &[u32]) {
+fn show_kept(rt: &impl Print, seed: u16, end: u32, pairs: &[u32]) -> io::Result<()> {
     let mut legs = [0u32; 100];
     let mut latest = [0u32; 10];
     let mut service = [0u32; 10];
@@ -186,11 +193,11 @@ fn show_kept(seed: u16, end: u32, pairs: &[u32]) {
         &mut route,
         &mut result,
     );
-    show_line(b"kept ", refused, &result, b" route", &route);
+    show_line(rt, b"kept ", refused, &result, b" route", &route)
 }
 
 // Two rounds to their ends, with pairs for both.
-fn show_run_kept(seed: u16, ends: &[u32], pairs: &[u32]) {
+fn show_run_kept(rt: &impl Print, seed: u16, ends: &[u32], pairs: &[u32]) -> io::Result<()> {
     let mut legs = [0u32; 100];
     let mut latest = [0u32; 10];
     let mut service = [0u32; 10];
@@ -215,26 +222,26 @@ fn show_run_kept(seed: u16, ends: &[u32], pairs: &[u32]) {
         pairs,
         &mut result,
     );
-    show_line(b"run kept ", refused, &result, b" stops", &stops);
+    show_line(rt, b"run kept ", refused, &result, b" stops", &stops)
 }
 
 // Two pairs, drawn from elsewhere than the stops.
-fn show_keeping(seed: u16) {
+fn show_keeping(rt: &impl Print, seed: u16) -> io::Result<()> {
     let mut pairs = [0u32; 4];
     replay_drawing::fill(65535 - seed, 9, &mut pairs);
     let end = (seed % 10) as u32;
-    show_kept(seed, end, &pairs);
-    show_run_kept(seed, &[end, 9 - end], &pairs);
+    show_kept(rt, seed, end, &pairs)?;
+    show_run_kept(rt, seed, &[end, 9 - end], &pairs)
 }
 
-fn show_to_ends(seed: u16) {
+fn show_to_ends(rt: &impl Print, seed: u16) -> io::Result<()> {
     let end = (seed % 10) as u32;
-    show_ended(seed, end);
-    show_run_to_ends(seed, &[end, 9 - end]);
+    show_ended(rt, seed, end)?;
+    show_run_to_ends(rt, seed, &[end, 9 - end])
 }
 
 // Twelve positions; distances to 7, so that many are equal. From seed 29 on there are too many neighbours.
-fn show_nearby(seed: u16) {
+fn show_nearby(rt: &impl Print, seed: u16) -> io::Result<()> {
     let mut distances = [0.0f64; 144];
     let mut sets = [99usize; 40];
     let mut result = [9u64; 3];
@@ -254,17 +261,26 @@ fn show_nearby(seed: u16) {
     let word = replay_lines::put(b" sets", &mut line, told);
     let left = replay_lines::put_places(&sets, &mut line, word);
     let end = replay_lines::put(b"\n", &mut line, left);
-    write(&line[..end]);
+    rt.write_all(&line[..end])
 }
 
-fn show_nine(seed: u16) {
+fn show_nine(rt: &impl Print, seed: u16) -> io::Result<()> {
     let k = replay_drawing::cuts_of(seed);
     let stay = service_of(seed) as u32;
-    show_polish(seed, k, 10, 0, stay, 0, &mut [0u32; 9], &mut [9u64; 7]);
+    show_polish(rt, seed, k, 10, 0, stay, 0, &mut [0u32; 9], &mut [9u64; 7])
 }
 
-fn show_five(seed: u16, k: usize, locations: usize, leg: u32, stay: u32, depot: u32) {
+fn show_five(
+    rt: &impl Print,
+    seed: u16,
+    k: usize,
+    locations: usize,
+    leg: u32,
+    stay: u32,
+    depot: u32,
+) -> io::Result<()> {
     show_polish(
+        rt,
         seed,
         k,
         locations,
@@ -273,47 +289,47 @@ fn show_five(seed: u16, k: usize, locations: usize, leg: u32, stay: u32, depot: 
         depot,
         &mut [0u32; 5],
         &mut [9u64; 7],
-    );
+    )
 }
 
-fn show_short_result() {
-    show_polish(1, 3, 10, 0, 0, 0, &mut [0u32; 5], &mut [9u64; 5]);
+fn show_short_result(rt: &impl Print) -> io::Result<()> {
+    show_polish(rt, 1, 3, 10, 0, 0, 0, &mut [0u32; 5], &mut [9u64; 5])
 }
 
-fn show(seed: u16) {
-    show_nine(seed);
+fn show(rt: &impl Print, seed: u16) -> io::Result<()> {
+    show_nine(rt, seed)?;
     let stay = service_of(seed) as u32;
-    show_five(seed, replay_drawing::cuts_of(seed), 10, 0, stay, 0);
-    show_pairs(seed, &mut [9u64; 7]);
-    show_run(seed, 7);
-    show_to_ends(seed);
-    show_keeping(seed);
-    show_nearby(seed);
+    show_five(rt, seed, replay_drawing::cuts_of(seed), 10, 0, stay, 0)?;
+    show_pairs(rt, seed, &mut [9u64; 7])?;
+    show_run(rt, seed, 7)?;
+    show_to_ends(rt, seed)?;
+    show_keeping(rt, seed)?;
+    show_nearby(rt, seed)
 }
 
 // A question for each refusal number that a small one can have.
-fn show_refused() {
-    show_five(1, 6, 10, 0, 0, 0);
-    show_five(1, 3, 9, 0, 0, 0);
-    show_five(1, 3, 10, 1000001, 0, 0);
+fn show_refused(rt: &impl Print) -> io::Result<()> {
+    show_five(rt, 1, 6, 10, 0, 0, 0)?;
+    show_five(rt, 1, 3, 9, 0, 0, 0)?;
+    show_five(rt, 1, 3, 10, 1000001, 0, 0)?;
     // Before 4, which it would be too.
-    show_five(1, 3, 10, 0, 1000001, 10);
-    show_five(1, 3, 10, 0, 0, 10);
-    show_short_result();
-    show_pairs(1, &mut [9u64; 5]);
-    show_run(1, 8);
-    show_ended(1, 10);
-    show_run_to_ends(1, &[0]);
+    show_five(rt, 1, 3, 10, 0, 1000001, 10)?;
+    show_five(rt, 1, 3, 10, 0, 0, 10)?;
+    show_short_result(rt)?;
+    show_pairs(rt, 1, &mut [9u64; 5])?;
+    show_run(rt, 1, 8)?;
+    show_ended(rt, 1, 10)?;
+    show_run_to_ends(rt, 1, &[0])?;
     // Behind 24, before 5.
-    show_kept(1, 10, &[3, 3]);
-    show_kept(1, 9, &[3, 3]);
-    show_run_kept(1, &[0], &[3, 4, 5]);
-    show_nearby(29);
+    show_kept(rt, 1, 10, &[3, 3])?;
+    show_kept(rt, 1, 9, &[3, 3])?;
+    show_run_kept(rt, 1, &[0], &[3, 4, 5])?;
+    show_nearby(rt, 29)
 }
 
-fn main() {
+fn main(rt: HostRuntime) -> io::Result<()> {
     for seed in 0..16u16 {
-        show(seed);
+        show(&rt, seed)?;
     }
-    show_refused();
+    show_refused(&rt)
 }

@@ -1,4 +1,5 @@
 // The questions of the stored answers, drawn by a rule: the host's store_answers draws the same. No entry: the replaying programs call it.
+#![tactic(auto)]
 
 ghost use Rattle.std.specs.Prelude.{◌≡◌, length};
 ghost use Rattle.replay_drawing.specs.Draw.{following, drawn, itself, float, all_drawn, allowance, cut_count};

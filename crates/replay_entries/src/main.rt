@@ -1,37 +1,36 @@
 // Runs what, beside the entries over cut points, only a Rattle program can call, a line each: the listing of nearby cuts with its answer as an enum, the
 // first move with its answer as a struct, and which of two lists, with the list itself; beside it the number that C is told.
+#![tactic(auto)]
+
 ghost use Rattle.std.specs.Prelude.{◌≤◌, length};
 
+use std::io;
 use theory::Listing;
 
-fn write(line: &[u8]) {
-    let _ = io::write_all(1, line);
-}
-
 // A listing's word and number, and the buffer.
-fn show_sets(word: &[u8], number: u64, sets: &[usize]) {
+fn show_sets(rt: &impl Print, word: &[u8], number: u64, sets: &[usize]) -> io::Result<()> {
     let mut line = [0u8; 1024];
     let told = replay_lines::put_number(word, number, &mut line, 0);
     let buffer = replay_lines::put(b" sets", &mut line, told);
     let left = replay_lines::put_places(sets, &mut line, buffer);
     let end = replay_lines::put(b"\n", &mut line, left);
-    write(&line[..end]);
+    rt.write_all(&line[..end])
 }
 
-fn show_listing(answer: Listing, sets: &[usize]) {
+fn show_listing(rt: &impl Print, answer: Listing, sets: &[usize]) -> io::Result<()> {
     match answer {
-        Listing::Refused(number) => show_sets(b"nearby refused ", number as u64, sets),
-        Listing::Ended(count) => show_sets(b"nearby ended ", count as u64, sets),
-        Listing::More(count) => show_sets(b"nearby more ", count as u64, sets),
+        Listing::Refused(number) => show_sets(rt, b"nearby refused ", number as u64, sets),
+        Listing::Ended(count) => show_sets(rt, b"nearby ended ", count as u64, sets),
+        Listing::More(count) => show_sets(rt, b"nearby more ", count as u64, sets),
     }
 }
 
 // Five positions and three cuts: all distances are 2.0 but that from 1 to 3.
-fn show_nearby(d: f64, sets: &mut [usize]) {
+fn show_nearby(rt: &impl Print, d: f64, sets: &mut [usize]) -> io::Result<()> {
     let mut distances = [2.0f64; 25];
     distances[8] = d;
     let answer = mittenschist::nearby_cuts(5, &distances, 3, 1, 4, sets);
-    show_listing(answer, &sets[..]);
+    show_listing(rt, answer, &sets[..])
 }
 
 fn flag_of(flag: bool) -> u64 {
@@ -48,7 +47,7 @@ fn put_cuts(cuts: [usize; 5], line: &mut [u8], at: usize) -> usize
 }
 
 // The first move with its answer as a struct: the refusal number, whether there is one, the index and the cuts.
-fn show_move(k: usize, old: &[u32], wanted: &[u32]) {
+fn show_move(rt: &impl Print, k: usize, old: &[u32], wanted: &[u32]) -> io::Result<()> {
     let sought = mittenschist::find_move(k, old, wanted);
     let answer = sought.answer;
     let cuts = answer.cuts;
@@ -58,14 +57,21 @@ fn show_move(k: usize, old: &[u32], wanted: &[u32]) {
     let index = replay_lines::put_number(b" ", answer.index as u64, &mut line, flag);
     let places = put_cuts(cuts, &mut line, index);
     let end = replay_lines::put(b"\n", &mut line, places);
-    write(&line[..end]);
+    rt.write_all(&line[..end])
 }
 
 // The legs of the text case.
 const LEGS: [u32; 9] = [0, 5, 1, 1, 0, 5, 5, 1, 0];
 
 // Which of two lists from location 0: the number, and the list that is handed back.
-fn show_which<'a>(latest_of_1: u32, end: u32, pairs: &[u32], first: &'a [u32], second: &'a [u32]) {
+fn show_which<'a>(
+    rt: &impl Print,
+    latest_of_1: u32,
+    end: u32,
+    pairs: &[u32],
+    first: &'a [u32],
+    second: &'a [u32],
+) -> io::Result<()> {
     let legs = LEGS;
     let latest = [4294967295u32, latest_of_1, 4294967295];
     let service = [0u32; 3];
@@ -80,27 +86,27 @@ fn show_which<'a>(latest_of_1: u32, end: u32, pairs: &[u32], first: &'a [u32], s
     let word = replay_lines::put(b" list", &mut line, number);
     let stops = replay_lines::put_stops(list, &mut line, word);
     let end_of_line = replay_lines::put(b"\n", &mut line, stops);
-    write(&line[..end_of_line]);
+    rt.write_all(&line[..end_of_line])
 }
 
 // The shorter, equal lists, a deadline, a pair, fewer stops that are longer to another end; neither, and a stop that is no location.
-fn show_desks() {
-    show_which(99, 0, &[], &[1, 2], &[2, 1]);
-    show_which(99, 0, &[], &[2, 1, 2], &[2, 1, 2]);
-    show_which(4, 0, &[], &[1], &[2, 1]);
-    show_which(99, 0, &[1, 2], &[1, 2], &[2, 1]);
-    show_which(99, 2, &[], &[1], &[2, 1, 0, 2]);
-    show_which(1, 0, &[], &[1, 2], &[2, 1]);
-    show_which(99, 0, &[], &[1, 2], &[3]);
+fn show_desks(rt: &impl Print) -> io::Result<()> {
+    show_which(rt, 99, 0, &[], &[1, 2], &[2, 1])?;
+    show_which(rt, 99, 0, &[], &[2, 1, 2], &[2, 1, 2])?;
+    show_which(rt, 4, 0, &[], &[1], &[2, 1])?;
+    show_which(rt, 99, 0, &[1, 2], &[1, 2], &[2, 1])?;
+    show_which(rt, 99, 2, &[], &[1], &[2, 1, 0, 2])?;
+    show_which(rt, 1, 0, &[], &[1, 2], &[2, 1])?;
+    show_which(rt, 99, 0, &[], &[1, 2], &[3])
 }
 
-fn main() {
-    show_move(3, &[1, 2], &[2, 1]);
-    show_move(3, &[1], &[1]);
-    show_move(3, &[1, 2, 3], &[1, 2]);
-    show_nearby(1.0, &mut [99usize; 7]);
-    show_nearby(2.0, &mut [99usize; 7]);
-    show_nearby(2.0, &mut [99usize; 2]);
-    show_nearby(0.0 / 0.0, &mut [99usize; 3]);
-    show_desks();
+fn main(rt: HostRuntime) -> io::Result<()> {
+    show_move(&rt, 3, &[1, 2], &[2, 1])?;
+    show_move(&rt, 3, &[1], &[1])?;
+    show_move(&rt, 3, &[1, 2, 3], &[1, 2])?;
+    show_nearby(&rt, 1.0, &mut [99usize; 7])?;
+    show_nearby(&rt, 2.0, &mut [99usize; 7])?;
+    show_nearby(&rt, 2.0, &mut [99usize; 2])?;
+    show_nearby(&rt, 0.0 / 0.0, &mut [99usize; 3])?;
+    show_desks(&rt)
 }

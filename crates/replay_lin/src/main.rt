@@ -1,18 +1,17 @@
 // Holds Lin's exchanges against the candidates, a line for each number of stops n and of cuts k: how many orders of the stops have a closed tour that differs in
 // at most k links from that of 1, 2, .., n (within), how many of them are in neither direction a candidate (missed), and how many candidates differ in more
 // (beyond). The depot is 0. The route itself is a candidate: cut at 0 to k - 1 and one-stop segments reversed.
+#![tactic(auto)]
+
+use std::io;
 use std::num::wrapping_add_u64;
 
 // What was counted.
-#[derive(Drop)]
+#[derive(Clone, Copy)]
 struct Counts {
     within: u64,
     missed: u64,
     beyond: u64,
-}
-
-fn write(line: &[u8]) {
-    let _ = io::write_all(1, line);
 }
 
 fn one_if(test: bool) -> u64 {
@@ -249,7 +248,7 @@ fn count(k: usize, n: usize, codes: u64) -> Counts {
     counts
 }
 
-fn write_counts(n: usize, k: usize, counts: Counts) {
+fn write_counts(rt: &impl Print, n: usize, k: usize, counts: Counts) -> io::Result<()> {
     let mut line = [0u8; 1024];
     let stops = replay_lines::put_number(b"stops ", n as u64, &mut line, 0);
     let cuts = replay_lines::put_number(b" k ", k as u64, &mut line, stops);
@@ -257,11 +256,11 @@ fn write_counts(n: usize, k: usize, counts: Counts) {
     let missed = replay_lines::put_number(b" missed ", counts.missed, &mut line, within);
     let beyond = replay_lines::put_number(b" beyond ", counts.beyond, &mut line, missed);
     let end = replay_lines::put(b"\n", &mut line, beyond);
-    write(&line[..end]);
+    rt.write_all(&line[..end])
 }
 
 // All orders of n stops: n to the n numbers have n digits.
-fn show(n: usize, k: usize) {
+fn show(rt: &impl Print, n: usize, k: usize) -> io::Result<()> {
     let codes = match n {
         2 => 4,
         3 => 27,
@@ -269,25 +268,25 @@ fn show(n: usize, k: usize) {
         5 => 3125,
         _ => 46656,
     };
-    write_counts(n, k, count(k, n, codes));
+    write_counts(rt, n, k, count(k, n, codes))
 }
 
-fn main() {
-    show(2, 2);
-    show(2, 3);
-    show(3, 2);
-    show(3, 3);
-    show(3, 4);
-    show(4, 2);
-    show(4, 3);
-    show(4, 4);
-    show(4, 5);
-    show(5, 2);
-    show(5, 3);
-    show(5, 4);
-    show(5, 5);
-    show(6, 2);
-    show(6, 3);
-    show(6, 4);
-    show(6, 5);
+fn main(rt: HostRuntime) -> io::Result<()> {
+    show(&rt, 2, 2)?;
+    show(&rt, 2, 3)?;
+    show(&rt, 3, 2)?;
+    show(&rt, 3, 3)?;
+    show(&rt, 3, 4)?;
+    show(&rt, 4, 2)?;
+    show(&rt, 4, 3)?;
+    show(&rt, 4, 4)?;
+    show(&rt, 4, 5)?;
+    show(&rt, 5, 2)?;
+    show(&rt, 5, 3)?;
+    show(&rt, 5, 4)?;
+    show(&rt, 5, 5)?;
+    show(&rt, 6, 2)?;
+    show(&rt, 6, 3)?;
+    show(&rt, 6, 4)?;
+    show(&rt, 6, 5)
 }

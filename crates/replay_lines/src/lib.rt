@@ -1,4 +1,6 @@
 // Lines of the programs that replay runs, put into lent bytes: words, and numbers behind them. What does not fit is left out, so that any line can be asked for. Writing is left to the programs.
+#![tactic(auto)]
+
 ghost use Rattle.std.specs.Prelude.{◌≡◌, ◌++◌, min, ◌≤◌, length, take};
 ghost use Rattle.text_decimal.specs.Decimal.{digits};
 ghost use Rattle.replay_lines.specs.Line.{spaced, Reaches};

@@ -1,12 +1,15 @@
 // Runs apply, undo and doable over cut points, which only a Rattle program can call: a line each, what came back.
+#![tactic(auto)]
+
 ghost use Rattle.std.specs.Prelude.{[], ◌∷◌};
 ghost use Rattle.move_points.specs.CutPoints.{rounds_of, positions_of};
 ghost use Rattle.move_calls.specs.Entries.{DoMoveReply, DoableReply};
 
 use move_points::CutPoint;
+use std::io;
 use theory::Doable;
 
-// Whether a move of four stops at two cuts can be done. Proved by hand, since it lends a list of structs.
+// Whether a move of four stops at two cuts can be done.
 fn doable_at(first: CutPoint, second: CutPoint) -> Doable
     ensures { DoableReply 2 0 0 4 (rounds_of (first ∷ second ∷ [])) (positions_of (first ∷ second ∷ [])) result }
 {
@@ -14,7 +17,7 @@ fn doable_at(first: CutPoint, second: CutPoint) -> Doable
     move_calls::k_opt_is_doable(2, 0, 0, 4, &cuts)
 }
 
-// The move applied. Proved by hand likewise.
+// The move applied.
 fn apply_at(first: CutPoint, second: CutPoint, route: &mut [u32], journal: &mut [u32]) -> u32
     ensures { DoMoveReply 2 0 0 (rounds_of (first ∷ second ∷ [])) (positions_of (first ∷ second ∷ [])) route.old journal.old result route.new journal.new }
 {
@@ -22,20 +25,22 @@ fn apply_at(first: CutPoint, second: CutPoint, route: &mut [u32], journal: &mut 
     move_calls::k_opt_do_move(2, 0, 0, &cuts, route, journal)
 }
 
-fn write(line: &[u8]) {
-    let _ = io::write_all(1, line);
-}
-
-fn show_doable(answer: Doable) {
+fn show_doable(rt: &impl Print, answer: Doable) -> io::Result<()> {
     match answer {
-        Doable::Refused(_) => write(b"doable refused\n"),
-        Doable::No => write(b"doable no\n"),
-        Doable::Yes => write(b"doable yes\n"),
+        Doable::Refused(_) => rt.write_all(b"doable refused\n"),
+        Doable::No => rt.write_all(b"doable no\n"),
+        Doable::Yes => rt.write_all(b"doable yes\n"),
     }
 }
 
 // A call's word and refusal number, the stops of the route and the journal.
-fn show_stops(word: &[u8], refused: u32, route: &[u32], journal: &[u32]) {
+fn show_stops(
+    rt: &impl Print,
+    word: &[u8],
+    refused: u32,
+    route: &[u32],
+    journal: &[u32],
+) -> io::Result<()> {
     let mut line = [0u8; 1024];
     let number = replay_lines::put_number(word, refused as u64, &mut line, 0);
     let stops = replay_lines::put(b" route", &mut line, number);
@@ -43,36 +48,42 @@ fn show_stops(word: &[u8], refused: u32, route: &[u32], journal: &[u32]) {
     let old = replay_lines::put(b" journal", &mut line, left);
     let put = replay_lines::put_stops(journal, &mut line, old);
     let end = replay_lines::put(b"\n", &mut line, put);
-    write(&line[..end]);
+    rt.write_all(&line[..end])
 }
 
-fn show_applied(first: CutPoint, second: CutPoint, route: &mut [u32], journal: &mut [u32]) {
+fn show_applied(
+    rt: &impl Print,
+    first: CutPoint,
+    second: CutPoint,
+    route: &mut [u32],
+    journal: &mut [u32],
+) -> io::Result<()> {
     let refused = apply_at(first, second, route, journal);
-    show_stops(b"applied ", refused, &route[..], &journal[..]);
+    show_stops(rt, b"applied ", refused, &route[..], &journal[..])
 }
 
-fn show_undone(route: &mut [u32], journal: &[u32]) {
+fn show_undone(rt: &impl Print, route: &mut [u32], journal: &[u32]) -> io::Result<()> {
     let refused = move_calls::k_opt_undo_move(route, journal);
-    show_stops(b"undone ", refused, &route[..], journal);
+    show_stops(rt, b"undone ", refused, &route[..], journal)
 }
 
 // A move of four stops at two cuts of round 0 or another: whether it can be done, applied, and undone.
-fn show_move(first: CutPoint, second: CutPoint) {
+fn show_move(rt: &impl Print, first: CutPoint, second: CutPoint) -> io::Result<()> {
     let mut route = [11u32, 12, 13, 14];
     let mut journal = [99u32; 4];
-    show_doable(doable_at(first, second));
-    show_applied(first, second, &mut route, &mut journal);
-    show_undone(&mut route, &journal);
+    show_doable(rt, doable_at(first, second))?;
+    show_applied(rt, first, second, &mut route, &mut journal)?;
+    show_undone(rt, &mut route, &journal)
 }
 
 fn cut(round: usize, position: usize) -> CutPoint {
     CutPoint { round, position }
 }
 
-fn main() {
-    show_move(cut(0, 1), cut(0, 3));
-    show_move(cut(0, 1), cut(7, 3));
-    show_move(cut(7, 3), cut(0, 1));
-    show_move(cut(0, 3), cut(0, 1));
-    show_move(cut(0, 1), cut(0, 5));
+fn main(rt: HostRuntime) -> io::Result<()> {
+    show_move(&rt, cut(0, 1), cut(0, 3))?;
+    show_move(&rt, cut(0, 1), cut(7, 3))?;
+    show_move(&rt, cut(7, 3), cut(0, 1))?;
+    show_move(&rt, cut(0, 3), cut(0, 1))?;
+    show_move(&rt, cut(0, 1), cut(0, 5))
 }

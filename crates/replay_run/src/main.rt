@@ -1,16 +1,15 @@
 // Replays document 01's pair case over the pair loop's entry, and worked examples of a run over rounds, a line each: what came back.
+#![tactic(auto)]
+
+use std::io;
 
 // The legs of the pair case: D, A, B, C, E are 0 to 4.
 const LEGS: [u32; 25] = [
     0, 10, 1, 5, 1, 10, 0, 1, 1, 1, 1, 1, 0, 10, 10, 5, 1, 10, 0, 1, 1, 1, 10, 1, 0,
 ];
 
-fn write(line: &[u8]) {
-    let _ = io::write_all(1, line);
-}
-
 // A line of a call: its refusal number and result, and the stops that it left.
-fn show(call: &[u8], refused: u32, res: &[u64], stops: &[u32]) {
+fn show(rt: &impl Print, call: &[u8], refused: u32, res: &[u64], stops: &[u32]) -> io::Result<()> {
     let mut line = [0u8; 1024];
     let number = replay_lines::put_number(call, refused as u64, &mut line, 0);
     let word = replay_lines::put(b" result", &mut line, number);
@@ -18,22 +17,28 @@ fn show(call: &[u8], refused: u32, res: &[u64], stops: &[u32]) {
     let behind = replay_lines::put(b" stops", &mut line, told);
     let left = replay_lines::put_stops(stops, &mut line, behind);
     let end = replay_lines::put(b"\n", &mut line, left);
-    write(&line[..end]);
+    rt.write_all(&line[..end])
 }
 
 // The pair loop on a route of the pair case, with an allowance, A's latest second and a lent result.
-fn show_pairs(allowance: u64, latest: u32, route: &mut [u32], res: &mut [u64]) {
+fn show_pairs(
+    rt: &impl Print,
+    allowance: u64,
+    latest: u32,
+    route: &mut [u32],
+    res: &mut [u64],
+) -> io::Result<()> {
     let legs = LEGS;
     let mut deadlines = [4294967295u32; 5];
     deadlines[1] = latest;
     let refused = mittenschist::mittenschist_pair_loop(
         allowance, 5, &legs, &deadlines, &[0u32; 5], 0, route, res,
     );
-    show(b"pairs ", refused, &res[..], &route[..]);
+    show(rt, b"pairs ", refused, &res[..], &route[..])
 }
 
 // The pair case by a run.
-fn show_case(k: usize, allowance: u64, pin: u8) {
+fn show_case(rt: &impl Print, k: usize, allowance: u64, pin: u8) -> io::Result<()> {
     let legs = LEGS;
     let latest = [4294967295u32; 5];
     let mut stops = [1u32, 2, 3, 4];
@@ -51,11 +56,11 @@ fn show_case(k: usize, allowance: u64, pin: u8) {
         &[pin],
         &mut result,
     );
-    show(b"run ", refused, &result, &stops);
+    show(rt, b"run ", refused, &result, &stops)
 }
 
 // The pair case twice, to other ends.
-fn show_ends(k: usize, ends: &[u32]) {
+fn show_ends(rt: &impl Print, k: usize, ends: &[u32]) -> io::Result<()> {
     let legs = LEGS;
     let latest = [4294967295u32; 5];
     let mut stops = [1u32, 2, 3, 4, 1, 2, 3, 4];
@@ -74,11 +79,11 @@ fn show_ends(k: usize, ends: &[u32]) {
         &[0, 0],
         &mut result,
     );
-    show(b"run ", refused, &result, &stops);
+    show(rt, b"run ", refused, &result, &stops)
 }
 
 // The pair case twice with pairs, one list for both.
-fn show_keeping(k: usize, pairs: &[u32]) {
+fn show_keeping(rt: &impl Print, k: usize, pairs: &[u32]) -> io::Result<()> {
     let legs = LEGS;
     let latest = [4294967295u32; 5];
     let mut stops = [1u32, 2, 3, 4, 1, 2, 3, 4];
@@ -98,11 +103,11 @@ fn show_keeping(k: usize, pairs: &[u32]) {
         pairs,
         &mut result,
     );
-    show(b"run ", refused, &result, &stops);
+    show(rt, b"run ", refused, &result, &stops)
 }
 
 // Three rounds of one location: the first takes 70 candidates with k = 3, the second is short, the third pinned.
-fn show_rounds(allowance: u64) {
+fn show_rounds(rt: &impl Print, allowance: u64) -> io::Result<()> {
     let mut stops = [0u32; 10];
     let mut result = [9u64; 12];
     let refused = mittenschist::mittenschist_run_list_k_opt(
@@ -118,71 +123,77 @@ fn show_rounds(allowance: u64) {
         &[0, 0, 200],
         &mut result,
     );
-    show(b"run ", refused, &result, &stops);
+    show(rt, b"run ", refused, &result, &stops)
 }
 
-fn show_allowance(allowance: u64) {
-    show_pairs(allowance, 4294967295, &mut [1u32, 2, 3, 4], &mut [9u64; 7]);
+fn show_allowance(rt: &impl Print, allowance: u64) -> io::Result<()> {
+    show_pairs(
+        rt,
+        allowance,
+        4294967295,
+        &mut [1u32, 2, 3, 4],
+        &mut [9u64; 7],
+    )
 }
 
 // Up to each acceptance, and to the end.
-fn show_way() {
-    show_allowance(0);
-    show_allowance(1);
-    show_allowance(2);
-    show_allowance(8);
-    show_allowance(17);
-    show_allowance(18);
-    show_allowance(1000);
+fn show_way(rt: &impl Print) -> io::Result<()> {
+    show_allowance(rt, 0)?;
+    show_allowance(rt, 1)?;
+    show_allowance(rt, 2)?;
+    show_allowance(rt, 8)?;
+    show_allowance(rt, 17)?;
+    show_allowance(rt, 18)?;
+    show_allowance(rt, 1000)
 }
 
 // A late and not improved, no pair, one, and too few places.
-fn show_bounds() {
-    show_pairs(1000, 1, &mut [1u32, 2, 3, 4], &mut [9u64; 7]);
-    show_pairs(0, 4294967295, &mut [], &mut [9u64; 6]);
-    show_pairs(0, 4294967295, &mut [1u32], &mut [9u64; 6]);
-    show_pairs(1000, 4294967295, &mut [1u32, 2], &mut [9u64; 6]);
-    show_pairs(1000, 4294967295, &mut [1u32, 2], &mut [9u64; 5]);
+fn show_bounds(rt: &impl Print) -> io::Result<()> {
+    show_pairs(rt, 1000, 1, &mut [1u32, 2, 3, 4], &mut [9u64; 7])?;
+    show_pairs(rt, 0, 4294967295, &mut [], &mut [9u64; 6])?;
+    show_pairs(rt, 0, 4294967295, &mut [1u32], &mut [9u64; 6])?;
+    show_pairs(rt, 1000, 4294967295, &mut [1u32, 2], &mut [9u64; 6])?;
+    show_pairs(rt, 1000, 4294967295, &mut [1u32, 2], &mut [9u64; 5])
 }
 
 // By polishing, with two cuts as with three.
-fn show_cases() {
-    show_case(2, 1000, 0);
-    show_case(2, 12, 0);
-    show_case(2, 11, 0);
-    show_case(2, 0, 1);
-    show_case(3, 1000, 0);
+fn show_cases(rt: &impl Print) -> io::Result<()> {
+    show_case(rt, 2, 1000, 0)?;
+    show_case(rt, 2, 12, 0)?;
+    show_case(rt, 2, 11, 0)?;
+    show_case(rt, 2, 0, 1)?;
+    show_case(rt, 3, 1000, 0)
 }
 
-fn show_round_allowances() {
-    show_rounds(1000);
-    show_rounds(70);
-    show_rounds(69);
+fn show_round_allowances(rt: &impl Print) -> io::Result<()> {
+    show_rounds(rt, 1000)?;
+    show_rounds(rt, 70)?;
+    show_rounds(rt, 69)
 }
 
 // Each to its own end, with two cuts and three; ends that are no locations, and another number of them.
-fn show_to_ends() {
-    show_ends(2, &[0, 3]);
-    show_ends(3, &[2, 4]);
-    show_ends(2, &[0, 5]);
-    show_ends(2, &[0, 0, 0]);
-    show_ends(2, &[5]);
+fn show_to_ends(rt: &impl Print) -> io::Result<()> {
+    show_ends(rt, 2, &[0, 3])?;
+    show_ends(rt, 3, &[2, 4])?;
+    show_ends(rt, 2, &[0, 5])?;
+    show_ends(rt, 2, &[0, 0, 0])?;
+    show_ends(rt, 2, &[5])
 }
 
 // No pair; A before B; B and C before A, which the rounds break as handed in; equal members.
-fn show_run_keeping() {
-    show_keeping(2, &[]);
-    show_keeping(2, &[1, 2]);
-    show_keeping(3, &[1, 2]);
-    show_keeping(2, &[2, 1, 3, 1]);
-    show_keeping(2, &[3, 3]);
+fn show_run_keeping(rt: &impl Print) -> io::Result<()> {
+    show_keeping(rt, 2, &[])?;
+    show_keeping(rt, 2, &[1, 2])?;
+    show_keeping(rt, 3, &[1, 2])?;
+    show_keeping(rt, 2, &[2, 1, 3, 1])?;
+    show_keeping(rt, 2, &[3, 3])
 }
 
-fn main() {
-    show_way();
-    show_bounds();
-    show_cases();
-    show_round_allowances();
-    show_to_ends();
-    show_run_keeping();
+fn main(rt: HostRuntime) -> io::Result<()> {
+    show_way(&rt)?;
+    show_bounds(&rt)?;
+    show_cases(&rt)?;
+    show_round_allowances(&rt)?;
+    show_to_ends(&rt)?;
+    show_run_keeping(&rt)
 }

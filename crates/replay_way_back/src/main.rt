@@ -1,12 +1,12 @@
 // Replays document 02's runs of the way back, a line each, refusals in the order of their numbers, and counts the patterns that are their own inverses.
+#![tactic(auto)]
+
 ghost use Rattle.std.specs.Prelude.{◌≤◌};
 
-fn write(line: &[u8]) {
-    let _ = io::write_all(1, line);
-}
+use std::io;
 
 // A line of a call: the move, its refusal number, and the result with the places behind it.
-fn show(k: usize, pattern: usize, n: usize, cuts: &[usize]) {
+fn show(rt: &impl Print, k: usize, pattern: usize, n: usize, cuts: &[usize]) -> io::Result<()> {
     let mut result = [9u64; 7];
     let refused = way_back::way_back(k, pattern, n, cuts, &mut result);
     let mut line = [0u8; 256];
@@ -17,24 +17,24 @@ fn show(k: usize, pattern: usize, n: usize, cuts: &[usize]) {
     let behind = replay_lines::put(b" result", &mut line, number);
     let told = replay_lines::put_numbers(&result, &mut line, behind);
     let end = replay_lines::put(b"\n", &mut line, told);
-    write(&line[..end]);
+    rt.write_all(&line[..end])
 }
 
-fn show_runs() {
-    show(3, 3, 4, &[0, 1, 4]);
-    show(3, 4, 4, &[0, 1, 4]);
-    show(3, 5, 4, &[0, 1, 4]);
-    show(3, 0, 2, &[0, 1, 2]);
-    show(2, 0, 512, &[0, 512]);
-    show(5, 382, 512, &[1, 2, 400, 401, 512]);
+fn show_runs(rt: &impl Print) -> io::Result<()> {
+    show(rt, 3, 3, 4, &[0, 1, 4])?;
+    show(rt, 3, 4, 4, &[0, 1, 4])?;
+    show(rt, 3, 5, 4, &[0, 1, 4])?;
+    show(rt, 3, 0, 2, &[0, 1, 2])?;
+    show(rt, 2, 0, 512, &[0, 512])?;
+    show(rt, 5, 382, 512, &[1, 2, 400, 401, 512])
 }
 
-fn show_refused() {
-    show(6, 383, 513, &[]);
-    show(5, 383, 513, &[]);
-    show(5, 383, 512, &[]);
-    show(5, 382, 512, &[0, 1, 2, 3, 513]);
-    show(5, 382, 512, &[0, 1, 2, 4, 3]);
+fn show_refused(rt: &impl Print) -> io::Result<()> {
+    show(rt, 6, 383, 513, &[])?;
+    show(rt, 5, 383, 513, &[])?;
+    show(rt, 5, 383, 512, &[])?;
+    show(rt, 5, 382, 512, &[0, 1, 2, 3, 513])?;
+    show(rt, 5, 382, 512, &[0, 1, 2, 4, 3])
 }
 
 // 1 where a pattern is its own inverse.
@@ -65,19 +65,19 @@ fn own_inverses(k: usize) -> u64
     own
 }
 
-fn show_own_inverses(k: usize, own: u64) {
+fn show_own_inverses(rt: &impl Print, k: usize, own: u64) -> io::Result<()> {
     let mut line = [0u8; 64];
     let cuts = replay_lines::put_number(b"cuts ", k as u64, &mut line, 0);
     let number = replay_lines::put_number(b" own inverses ", own, &mut line, cuts);
     let end = replay_lines::put(b"\n", &mut line, number);
-    write(&line[..end]);
+    rt.write_all(&line[..end])
 }
 
-fn main() {
-    show_runs();
-    show_refused();
-    show_own_inverses(2, own_inverses(2));
-    show_own_inverses(3, own_inverses(3));
-    show_own_inverses(4, own_inverses(4));
-    show_own_inverses(5, own_inverses(5));
+fn main(rt: HostRuntime) -> io::Result<()> {
+    show_runs(&rt)?;
+    show_refused(&rt)?;
+    show_own_inverses(&rt, 2, own_inverses(2))?;
+    show_own_inverses(&rt, 3, own_inverses(3))?;
+    show_own_inverses(&rt, 4, own_inverses(4))?;
+    show_own_inverses(&rt, 5, own_inverses(5))
 }

@@ -1,4 +1,6 @@
 // The run over rounds that lie end to end. No entry: crate mittenschist calls it.
+#![tactic(auto)]
+
 pub mod round;
 
 ghost use Rattle.theory.specs.Tables.{tables, fleet};

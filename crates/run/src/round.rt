@@ -8,7 +8,7 @@ ghost use Rattle.run.specs.Round.{Replies, RoundRan};
 use theory::{Polished, RoundState, STOPS};
 
 // What the polishing of a round counted.
-#[derive(Drop)]
+#[derive(Clone, Copy)]
 struct Replied {
     finished: bool,
     examined: u64,

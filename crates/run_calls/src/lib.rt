@@ -1,4 +1,6 @@
 // The run, and the run in shares of the allowance, judged. No entry: crate mittenschist hands them on.
+#![tactic(auto)]
+
 ghost use Rattle.theory.specs.Tables.{tables, fleet};
 ghost use Rattle.run_calls.specs.Runs.{RunReply, RunToEndsReply, RunWithPairsReply, SharesReply};
 

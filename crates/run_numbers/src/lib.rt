@@ -1,4 +1,6 @@
 // What a round of a run came to: its state, what it took from the allowance, and its four numbers. No entry: the crates above call it.
+#![tactic(auto)]
+
 ghost use Rattle.std.specs.Prelude.{◌≡◌, ◌∷◌, ◌++◌, ◌≤◌, length, drop};
 ghost use Rattle.theory.specs.Answers.{round_values};
 ghost use Rattle.run_numbers.specs.States.{state_after, examined_of, is_spent, kept_values};

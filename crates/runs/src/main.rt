@@ -1,16 +1,15 @@
 // Replays document 01's runs on patterns, cut sets and polishing over the library's own entries, a line each: what was asked, and what came back.
-use theory::CutStep;
+#![tactic(auto)]
 
-fn write(line: &[u8]) {
-    let _ = io::write_all(1, line);
-}
+use std::io;
+use theory::CutStep;
 
 fn put_byte(n: u8, line: &mut [u8], at: usize) -> usize {
     replay_lines::put_number(b"", n as u64, line, at)
 }
 
 // A line of a polishing: its refusal number, its result with the place lent beyond the six, and the stops that it left.
-fn show_polished(refused: u32, res: &[u64], stops: &[u32]) {
+fn show_polished(rt: &impl Print, refused: u32, res: &[u64], stops: &[u32]) -> io::Result<()> {
     let mut line = [0u8; 1024];
     let number = replay_lines::put_number(b"polish ", refused as u64, &mut line, 0);
     let word = replay_lines::put(b" result", &mut line, number);
@@ -18,11 +17,11 @@ fn show_polished(refused: u32, res: &[u64], stops: &[u32]) {
     let route = replay_lines::put(b" route", &mut line, told);
     let left = replay_lines::put_stops(stops, &mut line, route);
     let end = replay_lines::put(b"\n", &mut line, left);
-    write(&line[..end]);
+    rt.write_all(&line[..end])
 }
 
 // A pattern: its refusal number, order and mask.
-fn show_pattern(k: usize, index: usize) {
+fn show_pattern(rt: &impl Print, k: usize, index: usize) -> io::Result<()> {
     let found = mittenschist::reconnection_at(k, index);
     let pattern = found.reconnection;
     let order = pattern.segment_order;
@@ -37,7 +36,7 @@ fn show_pattern(k: usize, index: usize) {
     let sixth = put_byte(order[5], &mut line, fifth);
     let mask = replay_lines::put_number(b" mask ", pattern.reverse_mask as u64, &mut line, sixth);
     let end = replay_lines::put(b"\n", &mut line, mask);
-    write(&line[..end]);
+    rt.write_all(&line[..end])
 }
 
 // Steps through the cut sets of four stops, at most 100 of them, and counts them.
@@ -53,16 +52,24 @@ fn count_cut_sets(k: usize, cuts: &mut [usize]) -> u64 {
     count
 }
 
-fn show_cut_sets(k: usize, cuts: &mut [usize]) {
+fn show_cut_sets(rt: &impl Print, k: usize, cuts: &mut [usize]) -> io::Result<()> {
     let mut line = [0u8; 1024];
     let count = count_cut_sets(k, cuts);
     let number = replay_lines::put_number(b"cut sets ", count, &mut line, 0);
     let end = replay_lines::put(b"\n", &mut line, number);
-    write(&line[..end]);
+    rt.write_all(&line[..end])
 }
 
 // The text case T with another k, allowance, longest leg, deadlines of locations 1 and 2, or service of location 2.
-fn show_timed(k: usize, allowance: u64, leg: u32, first: u32, second: u32, service: u32) {
+fn show_timed(
+    rt: &impl Print,
+    k: usize,
+    allowance: u64,
+    leg: u32,
+    first: u32,
+    second: u32,
+    service: u32,
+) -> io::Result<()> {
     let legs = [0u32, leg, 1, 1, 0, 5, 5, 1, 0];
     let deadlines = [4294967295u32, first, second];
     let services = [0u32, 0, service];
@@ -79,21 +86,28 @@ fn show_timed(k: usize, allowance: u64, leg: u32, first: u32, second: u32, servi
         &mut route,
         &mut result,
     );
-    show_polished(refused, &result, &route);
+    show_polished(rt, refused, &result, &route)
 }
 
 // With no deadline of location 2.
-fn show_t(k: usize, allowance: u64, leg: u32, latest: u32, service: u32) {
-    show_timed(k, allowance, leg, latest, 4294967295, service);
+fn show_t(
+    rt: &impl Print,
+    k: usize,
+    allowance: u64,
+    leg: u32,
+    latest: u32,
+    service: u32,
+) -> io::Result<()> {
+    show_timed(rt, k, allowance, leg, latest, 4294967295, service)
 }
 
 // T with late stops.
-fn show_late(k: usize, allowance: u64, first: u32, second: u32) {
-    show_timed(k, allowance, 5, first, second, 0);
+fn show_late(rt: &impl Print, k: usize, allowance: u64, first: u32, second: u32) -> io::Result<()> {
+    show_timed(rt, k, allowance, 5, first, second, 0)
 }
 
 // T, or its legs with another route, to an end harbour.
-fn show_to(end: u32, route: &mut [u32]) {
+fn show_to(rt: &impl Print, end: u32, route: &mut [u32]) -> io::Result<()> {
     let legs = [0u32, 5, 1, 1, 0, 5, 5, 1, 0];
     let deadlines = [4294967295u32; 3];
     let services = [0u32; 3];
@@ -110,11 +124,11 @@ fn show_to(end: u32, route: &mut [u32]) {
         route,
         &mut result,
     );
-    show_polished(refused, &result, &route[..]);
+    show_polished(rt, refused, &result, &route[..])
 }
 
 // T, or its legs with another route, with pairs.
-fn show_keeping(end: u32, pairs: &[u32], route: &mut [u32]) {
+fn show_keeping(rt: &impl Print, end: u32, pairs: &[u32], route: &mut [u32]) -> io::Result<()> {
     let legs = [0u32, 5, 1, 1, 0, 5, 5, 1, 0];
     let deadlines = [4294967295u32; 3];
     let services = [0u32; 3];
@@ -132,11 +146,11 @@ fn show_keeping(end: u32, pairs: &[u32], route: &mut [u32]) {
         route,
         &mut result,
     );
-    show_polished(refused, &result, &route[..]);
+    show_polished(rt, refused, &result, &route[..])
 }
 
 // A route of one location, as long as the slice.
-fn show_long(route: &mut [u32]) {
+fn show_long(rt: &impl Print, route: &mut [u32]) -> io::Result<()> {
     let legs = [1u32];
     let deadlines = [4294967295u32];
     let services = [0u32];
@@ -152,126 +166,126 @@ fn show_long(route: &mut [u32]) {
         route,
         &mut result,
     );
-    show_polished(refused, &result, &route[..0]);
+    show_polished(rt, refused, &result, &route[..0])
 }
 
-fn show_patterns() {
-    show_pattern(3, 0);
-    show_pattern(3, 1);
-    show_pattern(3, 2);
-    show_pattern(3, 3);
-    show_pattern(3, 4);
-    show_pattern(3, 5);
-    show_pattern(3, 6);
-    show_pattern(3, 7);
-    show_pattern(4, 7);
-    show_pattern(5, 382);
-    show_pattern(5, 383);
-    show_pattern(6, 0);
+fn show_patterns(rt: &impl Print) -> io::Result<()> {
+    show_pattern(rt, 3, 0)?;
+    show_pattern(rt, 3, 1)?;
+    show_pattern(rt, 3, 2)?;
+    show_pattern(rt, 3, 3)?;
+    show_pattern(rt, 3, 4)?;
+    show_pattern(rt, 3, 5)?;
+    show_pattern(rt, 3, 6)?;
+    show_pattern(rt, 3, 7)?;
+    show_pattern(rt, 4, 7)?;
+    show_pattern(rt, 5, 382)?;
+    show_pattern(rt, 5, 383)?;
+    show_pattern(rt, 6, 0)
 }
 
-fn show_cut_set_counts() {
-    show_cut_sets(3, &mut [0, 1, 2]);
-    show_cut_sets(4, &mut [0, 1, 2, 3]);
-    show_cut_sets(5, &mut [0, 1, 2, 3, 4]);
+fn show_cut_set_counts(rt: &impl Print) -> io::Result<()> {
+    show_cut_sets(rt, 3, &mut [0, 1, 2])?;
+    show_cut_sets(rt, 4, &mut [0, 1, 2, 3])?;
+    show_cut_sets(rt, 5, &mut [0, 1, 2, 3, 4])
 }
 
 // T as document 01 asks it,
-fn show_starred() {
-    show_t(3, 100, 5, 4294967295, 0);
-    show_t(3, 11, 5, 4294967295, 0);
-    show_t(3, 10, 5, 4294967295, 0);
-    show_t(3, 3, 5, 4294967295, 0);
-    show_t(3, 100, 5, 1, 0);
-    show_t(3, 100, 5, 2, 0);
-    show_t(4, 100, 5, 4294967295, 0);
+fn show_starred(rt: &impl Print) -> io::Result<()> {
+    show_t(rt, 3, 100, 5, 4294967295, 0)?;
+    show_t(rt, 3, 11, 5, 4294967295, 0)?;
+    show_t(rt, 3, 10, 5, 4294967295, 0)?;
+    show_t(rt, 3, 3, 5, 4294967295, 0)?;
+    show_t(rt, 3, 100, 5, 1, 0)?;
+    show_t(rt, 3, 100, 5, 2, 0)?;
+    show_t(rt, 4, 100, 5, 4294967295, 0)
 }
 
 // with time on the lamp at location 2,
-fn show_service() {
-    show_t(3, 100, 5, 11, 10);
-    show_t(3, 100, 5, 12, 10);
+fn show_service(rt: &impl Print) -> io::Result<()> {
+    show_t(rt, 3, 100, 5, 11, 10)?;
+    show_t(rt, 3, 100, 5, 12, 10)
 }
 
 // with stops that are late when they are handed in: both, the second one, also where there is no cut set or nothing was examined, and the first
 // one until it is mended,
-fn show_late_stops() {
-    show_late(3, 100, 0, 0);
-    show_late(3, 100, 4294967295, 0);
-    show_late(4, 100, 4294967295, 0);
-    show_late(3, 0, 0, 0);
-    show_late(3, 3, 4, 4294967295);
-    show_late(3, 4, 4, 4294967295);
+fn show_late_stops(rt: &impl Print) -> io::Result<()> {
+    show_late(rt, 3, 100, 0, 0)?;
+    show_late(rt, 3, 100, 4294967295, 0)?;
+    show_late(rt, 4, 100, 4294967295, 0)?;
+    show_late(rt, 3, 0, 0, 0)?;
+    show_late(rt, 3, 3, 4, 4294967295)?;
+    show_late(rt, 3, 4, 4, 4294967295)
 }
 
 // to each end harbour, and with no stop the one leg,
-fn show_ends() {
-    show_to(0, &mut [1, 2]);
-    show_to(1, &mut [1, 2]);
-    show_to(2, &mut [1, 2]);
-    show_to(3, &mut [1, 2]);
-    show_to(1, &mut [0u32; 0]);
+fn show_ends(rt: &impl Print) -> io::Result<()> {
+    show_to(rt, 0, &mut [1, 2])?;
+    show_to(rt, 1, &mut [1, 2])?;
+    show_to(rt, 2, &mut [1, 2])?;
+    show_to(rt, 3, &mut [1, 2])?;
+    show_to(rt, 1, &mut [0u32; 0])
 }
 
 // with no pair, 1 before 2, 2 before 1, both, and the depot as a member, which is no visit,
-fn show_pairs() {
-    show_keeping(0, &[], &mut [1, 2]);
-    show_keeping(0, &[1, 2], &mut [1, 2]);
-    show_keeping(0, &[2, 1], &mut [1, 2]);
-    show_keeping(0, &[1, 2, 2, 1], &mut [1, 2]);
-    show_keeping(0, &[0, 1, 1, 0], &mut [1, 2]);
+fn show_pairs(rt: &impl Print) -> io::Result<()> {
+    show_keeping(rt, 0, &[], &mut [1, 2])?;
+    show_keeping(rt, 0, &[1, 2], &mut [1, 2])?;
+    show_keeping(rt, 0, &[2, 1], &mut [1, 2])?;
+    show_keeping(rt, 0, &[1, 2, 2, 1], &mut [1, 2])?;
+    show_keeping(rt, 0, &[0, 1, 1, 0], &mut [1, 2])
 }
 
 // with a stop visited again: of 1, 2, 1, which breaks the pair, the shorter order 2, 1, 1 breaks it too,
-fn show_again() {
-    show_keeping(0, &[], &mut [1, 2, 1]);
-    show_keeping(0, &[1, 2], &mut [1, 2, 1]);
-    show_keeping(0, &[2, 1], &mut [1, 2, 1]);
+fn show_again(rt: &impl Print) -> io::Result<()> {
+    show_keeping(rt, 0, &[], &mut [1, 2, 1])?;
+    show_keeping(rt, 0, &[1, 2], &mut [1, 2, 1])?;
+    show_keeping(rt, 0, &[2, 1], &mut [1, 2, 1])
 }
 
 // with 64 pairs, and with 65,
-fn show_many_pairs() {
+fn show_many_pairs(rt: &impl Print) -> io::Result<()> {
     let mut many = [1u32; 130];
     let mut q = 0;
     while q < 65 {
         many[2 * q] = 2;
         q += 1;
     }
-    show_keeping(0, &many[..128], &mut [1, 2]);
-    show_keeping(0, &many, &mut [1, 2]);
+    show_keeping(rt, 0, &many[..128], &mut [1, 2])?;
+    show_keeping(rt, 0, &many, &mut [1, 2])
 }
 
 // with a member alone, with one that is no location, with equal members, and behind 24,
-fn show_bad_pairs() {
-    show_keeping(0, &[2, 1, 2], &mut [1, 2]);
-    show_keeping(0, &[2, 3], &mut [1, 2]);
-    show_keeping(0, &[2, 1, 0, 0], &mut [1, 2]);
-    show_keeping(3, &[0, 0], &mut [1, 2]);
+fn show_bad_pairs(rt: &impl Print) -> io::Result<()> {
+    show_keeping(rt, 0, &[2, 1, 2], &mut [1, 2])?;
+    show_keeping(rt, 0, &[2, 3], &mut [1, 2])?;
+    show_keeping(rt, 0, &[2, 1, 0, 0], &mut [1, 2])?;
+    show_keeping(rt, 3, &[0, 0], &mut [1, 2])
 }
 
 // and at other bounds.
-fn show_bounds() {
-    show_t(4, 0, 5, 4294967295, 0);
-    show_t(2, 100, 5, 4294967295, 0);
-    show_t(3, 4, 5, 4294967295, 0);
-    show_t(3, 100, 1000001, 4294967295, 0);
-    show_t(6, 100, 1000001, 4294967295, 0);
-    show_t(3, 100, 5, 4294967295, 1000000);
-    show_t(3, 100, 5, 4294967295, 1000001);
-    show_long(&mut [0u32; 512]);
-    show_long(&mut [0u32; 513]);
+fn show_bounds(rt: &impl Print) -> io::Result<()> {
+    show_t(rt, 4, 0, 5, 4294967295, 0)?;
+    show_t(rt, 2, 100, 5, 4294967295, 0)?;
+    show_t(rt, 3, 4, 5, 4294967295, 0)?;
+    show_t(rt, 3, 100, 1000001, 4294967295, 0)?;
+    show_t(rt, 6, 100, 1000001, 4294967295, 0)?;
+    show_t(rt, 3, 100, 5, 4294967295, 1000000)?;
+    show_t(rt, 3, 100, 5, 4294967295, 1000001)?;
+    show_long(rt, &mut [0u32; 512])?;
+    show_long(rt, &mut [0u32; 513])
 }
 
-fn main() {
-    show_patterns();
-    show_cut_set_counts();
-    show_starred();
-    show_service();
-    show_late_stops();
-    show_ends();
-    show_pairs();
-    show_again();
-    show_many_pairs();
-    show_bad_pairs();
-    show_bounds();
+fn main(rt: HostRuntime) -> io::Result<()> {
+    show_patterns(&rt)?;
+    show_cut_set_counts(&rt)?;
+    show_starred(&rt)?;
+    show_service(&rt)?;
+    show_late_stops(&rt)?;
+    show_ends(&rt)?;
+    show_pairs(&rt)?;
+    show_again(&rt)?;
+    show_many_pairs(&rt)?;
+    show_bad_pairs(&rt)?;
+    show_bounds(&rt)
 }

@@ -1,4 +1,6 @@
 // The cut sets that can hold no gain, passed over without a look at their patterns. No entry: crate scan_stretch calls it.
+#![tactic(auto)]
+
 ghost use Rattle.scan_bound.specs.Tests.{IntoFits, LeastInto, OutFits, LeastOut, PromisingTestable, PromisingTested, Nextable, NextPromising};
 
 use scan_joints::{STATES, TAIL};

@@ -1,4 +1,6 @@
 // The rows of states as the places of the joint table that they add up, so that a sum needs no shifts. It holds no entry: the crates above call it.
+#![tactic(auto)]
+
 ghost use Rattle.std.specs.Prelude.{◌≡◌, ◌<◌};
 ghost use Rattle.scan_joints.specs.JointTable.{Padded};
 ghost use Rattle.scan_chains.specs.Chains.{cost, CellPlaced, ChainPuttable, ChainPut, ChainsFillable, Chained, Costable};

@@ -1,4 +1,6 @@
 // The inner step of the scan: the first pattern on a cut set that improves the route and keeps every deadline and every pair. No entry: for the scan.
+#![tactic(auto)]
+
 ghost use Rattle.std.specs.Prelude.{◌≡◌, ◌&&◌, ◌+◌, ◌-◌, ◌*◌, length, get_or};
 ghost use Rattle.std.proofs.Math.Seq.{slice};
 ghost use Rattle.theory.specs.Tables.{trip};

@@ -1,5 +1,7 @@
 // What all patterns on a cut set share: the ends of the states, and the joint table, whose cell (a, b) holds the seconds from the end of state a to the end
 // of state b, so that a candidate, as a row of states, costs the sum of five cells. It holds no entry: the crates above call it.
+#![tactic(auto)]
+
 ghost use Rattle.std.specs.Prelude.{◌≡◌, [], ◌∷◌, ◌+◌, ◌<◌, length, set};
 ghost use Rattle.scan_joints.specs.States.{state_count, standing_row, row};
 ghost use Rattle.scan_joints.specs.JointTable.{chain, Chainable, EndsPuttable, EndsPut, EndsFillable, StateEnds, Standing, FourStates, CellAt, Cell, RowFillable, RowFilled};

@@ -1,4 +1,6 @@
 // The scan of document 01 from a place on, stretch by stretch: the cut sets with the same first cuts are one. No entry: crate polishing calls it.
+#![tactic(auto)]
+
 ghost use Rattle.std.specs.Prelude.{◌≡◌};
 ghost use Rattle.theory.specs.Tables.{problem, pattern_rows, trip};
 ghost use Rattle.scan_loop.specs.Loop.{Spendable, spent_at, ScanAsked, Scans};
@@ -9,7 +11,7 @@ use scan_taking::Limits;
 use theory::{CUT_PLACES, STOPS};
 
 // What the scan counted when it ended, and whether the route then keeps every deadline; and the place of the next candidate, or the first place where it has finished.
-#[derive(Drop)]
+#[derive(Clone, Copy)]
 pub struct Scanned {
     pub finished: bool,
     pub examined: u64,

@@ -1,4 +1,6 @@
 // The first pattern on a cut set that improves the route, looked for among the rows that are open: these are put together where what is blocked changes. No entry: crate scan_step calls it.
+#![tactic(auto)]
+
 ghost use Rattle.std.specs.Prelude.{◌≡◌, cond, ◌<◌, eqb, length, get_or};
 ghost use Rattle.theory.specs.Tables.{trip};
 ghost use Rattle.scan_shared.specs.Filling.{open_by};

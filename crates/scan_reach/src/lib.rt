@@ -1,5 +1,7 @@
 // The joint table of a cut set, from that of one before it with the same first cuts: along those the last cut moves only P, the last middle segment, and the
 // tail, so only their cells are filled anew. No entry: the crates above call it.
+#![tactic(auto)]
+
 ghost use Rattle.scan_reach.specs.Moving.{RowMovable, RowMoved, RowsMovable, RowsMoved, RowsFixable, RowsFixed, Fixable, JointFixed, Movable, JointMoved};
 ghost use Rattle.scan_reach.specs.Reach.{JointAsked, JointReached};
 

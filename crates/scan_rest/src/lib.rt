@@ -1,4 +1,6 @@
 // A part of the scan: a stretch, or the rest of a cut set, whose patterns from an index on are a list of their own. No entry: crate scan_loop calls it.
+#![tactic(auto)]
+
 ghost use Rattle.std.specs.Prelude.{◌≡◌, true, ◌≤◌, length};
 ghost use Rattle.theory.specs.Tables.{problem, pattern_rows, trip};
 ghost use Rattle.scan_chains.specs.Chains.{Chained};

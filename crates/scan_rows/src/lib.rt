@@ -1,4 +1,6 @@
 // The patterns as rows of states, for the chains of crate scan_joints. It holds no entry: crate polishing calls it.
+#![tactic(auto)]
+
 ghost use Rattle.std.specs.Prelude.{◌≡◌, cond, ◌+◌, ◌<◌, ◌≤◌, ltb, length, get_or};
 ghost use Rattle.scan_joints.specs.States.{state_of, StateRows};
 ghost use Rattle.scan_rows.specs.Rows.{MiddleOrder, StateAt, RowsFillable, RowPut};

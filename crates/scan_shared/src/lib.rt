@@ -1,5 +1,7 @@
 // What the cut sets with the same first k - 1 cuts share: the ends of the states before P, the least cost of each class of patterns and the standing cost, read off a
 // table of what the last cut does not move. P is the last middle segment, which the last cut ends. No entry: crate scan_stretch calls it.
+#![tactic(auto)]
+
 ghost use Rattle.std.specs.Prelude.{◌≡◌, [], ◌∷◌, ℕ, ◌+◌, ◌^◌, ◌<◌, ◌≤◌, length, get_or};
 ghost use Rattle.scan_joints.specs.States.{row};
 ghost use Rattle.scan_shared.specs.Filling.{all_open, Lowered, Classable, ClassIs, RowClassable, LowFillable, LowOf, RowOpen, RowLowered, OpenFillable, OpenLow, Lowerable, Relowered, Fixable, FixedRows, FixedTable, Preparable, Sharing};

@@ -1,4 +1,6 @@
 // The rows that are open, put together, so that a search looks at no other. No entry.
+#![tactic(auto)]
+
 ghost use Rattle.std.specs.Prelude.{◌≡◌, cond, ◌+◌, ◌<◌, length, get_or};
 ghost use Rattle.scan_shared.specs.Filling.{open_by};
 ghost use Rattle.scan_sifting.specs.Sifting.{opens, Sifted, Siftable, OpenAsked, OneAsked, RowSiftable, RowSifted};

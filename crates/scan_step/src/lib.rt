@@ -1,4 +1,6 @@
 // A step of a stretch: over the cut sets that can hold no gain to one that is promising, which is tried, unless rows are found to be closed there. No entry: crate scan_stretch calls it.
+#![tactic(auto)]
+
 ghost use Rattle.std.specs.Prelude.{◌≡◌, min, ◌*◌, ◌≤◌};
 ghost use Rattle.theory.specs.Tables.{trip};
 ghost use Rattle.scan_bound.specs.Tests.{Nextable};
@@ -13,7 +15,7 @@ use scan_shared::LOW_PLACES;
 use theory::{CUT_PLACES, STOPS};
 
 // How a stretch ended: at an improving candidate, whose pattern is told and whose cuts are at hand; or through it; or else with the candidates allowed. Those before were examined.
-#[derive(Drop)]
+#[derive(Clone, Copy)]
 pub struct Stretch {
     pub examined: u64,
     pub gains: bool,
@@ -22,7 +24,7 @@ pub struct Stretch {
 }
 
 // What a step came to: the stretch has ended; or the next last cut is at hand and so many candidates before it are examined; or the same, and rows are closed there that were open.
-#[derive(Drop)]
+#[derive(Clone, Copy)]
 pub enum Step {
     Done(Stretch),
     On(u64),

@@ -1,4 +1,6 @@
 // A stretch of the scan: the cut sets with the same first cuts, in their order. Those that can hold no gain are passed over and counted. No entry: crate scan_rest calls it.
+#![tactic(auto)]
+
 ghost use Rattle.std.specs.Prelude.{◌≡◌};
 ghost use Rattle.theory.specs.Tables.{problem, trip};
 ghost use Rattle.scan_shared.specs.Filling.{Sharing};

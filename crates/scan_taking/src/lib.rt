@@ -1,4 +1,6 @@
 // A route measured: its sums, and what it leaves to its candidates; and an accepted candidate put in its place. No entry: crate scan_loop calls it.
+#![tactic(auto)]
+
 ghost use Rattle.std.specs.Prelude.{◌≡◌, min};
 ghost use Rattle.theory.specs.Tables.{tables};
 ghost use Rattle.deadlines.specs.Stays.{StaysFillable};
@@ -10,7 +12,7 @@ use theory::{CUT_PLACES, STOPS};
 
 // What a route leaves to its candidates: how many of its heads are on time and keep their pairs, from the empty one on, and none where its pairs contradict each other;
 // and where the longest tail begins that keeps its own.
-#[derive(Drop)]
+#[derive(Clone, Copy)]
 pub struct Limits {
     pub heads: usize,
     pub since: usize,

@@ -1,9 +1,24 @@
-// Reports on the blocks on standard input. One byte more than a report's input may have is read, so that a longer one is known.
-fn main() {
+// Reports on the blocks on standard input.
+#![tactic(auto)]
+
+ghost use Rattle.std.specs.Prelude.{IfSome, OnOk, take};
+ghost use Rattle.std.specs.Io.KnownBytes.{Appends};
+ghost use Rattle.season_report.specs.Report.{report};
+
+use std::io::{self, Read, Write};
+
+// Reads blocks and writes the report on them. One byte more than a report's input may have is read, so that a longer one is known.
+fn report_blocks<R: Read, W: Write>(reader: &mut R, writer: &mut W) -> io::Result<()>
+    ensures { OnOk result (IfSome (R.remaining reader.old) (λ text. Appends (W.contents writer.old) (W.contents writer.new) (report (take 60001 text)))) }
+{
     let mut input = [0u8; 60001];
-    let got = io::read_full(0, &mut input);
+    let got = lent_reading::read_full(reader, &mut input)?;
     let report = season_report::report_season(&input[..got]);
     let bytes = report.bytes;
     let length = report.length;
-    let _ = io::write_all(1, &bytes[..length]);
+    writer.write_all(&bytes[..length])
+}
+
+fn main(rt: HostRuntime) -> io::Result<()> {
+    report_blocks(&mut rt.stdin(), &mut rt.stdout())
 }

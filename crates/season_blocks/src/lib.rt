@@ -1,4 +1,6 @@
 // A season's input parted into its blocks, with a line `next` between two. No entry: crate season_report calls it.
+#![tactic(auto)]
+
 ghost use Rattle.std.specs.Prelude.{◌≡◌, ◌+◌, ◌≤◌, length, drop};
 ghost use Rattle.season_blocks.specs.Blocks.{line_size, block_size, Ends, Parted};
 

@@ -1,4 +1,6 @@
 // The season report as text, put into lent bytes. No entry: crate season_report calls it.
+#![tactic(auto)]
+
 ghost use Rattle.text_decimal.specs.Text.{Room, Put};
 ghost use Rattle.text_printing.specs.Answer.{Printed};
 ghost use Rattle.season_printing.specs.Lines.{value_or_none, sums_text, Printable};

@@ -1,4 +1,6 @@
 // The season report's function from bytes to bytes: each block is polished as the text program does, and the numbers of all are printed.
+#![tactic(auto)]
+
 ghost use Rattle.std.specs.Prelude.{◌≡◌, map};
 ghost use Rattle.std.proofs.Math.Option.{some};
 ghost use Rattle.theory.specs.Tables.{tables};
@@ -115,7 +117,7 @@ fn report_text(text: &[u8], out: &mut [u8]) -> usize
 }
 
 // What the program writes: the first `length` of the bytes.
-#[derive(Drop)]
+#[derive(Clone, Copy)]
 pub struct Report {
     pub bytes: [u8; 256],
     pub length: usize,

@@ -1,1 +1,2 @@
 // Shares of the allowance: the definition in specs/, its laws and runs in proofs/. No code.
+#![tactic(auto)]

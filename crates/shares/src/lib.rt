@@ -1,4 +1,6 @@
 // Shares of the allowance: a dispatcher over the rounds of a run. No entry: crate mittenschist calls it.
+#![tactic(auto)]
+
 ghost use Rattle.std.specs.Prelude.{◌≡◌, length};
 ghost use Rattle.theory.specs.Tables.{tables, fleet};
 ghost use Rattle.share_numbers.specs.Shares.{own_by, takers_by};
@@ -9,7 +11,7 @@ ghost use Rattle.shares.specs.Dividing.{DividedInto};
 use precedence::MEMBERS;
 
 // What each round that takes part is given, and what the first of them is given beside it.
-#[derive(Drop)]
+#[derive(Clone, Copy)]
 struct Parts {
     each: u64,
     remainder: u64,

@@ -1,4 +1,6 @@
 // Polishing in slices, judged: the scan from a lent place on, with the place where it was spent and the six numbers of polishing. No entry: crate mittenschist hands it on.
+#![tactic(auto)]
+
 ghost use Rattle.std.specs.Prelude.{◌≡◌, ◌∷◌, ◌++◌, suc, min, ◌≤◌, length, get_or, take, drop};
 ghost use Rattle.theory.specs.Moves.{patterns};
 ghost use Rattle.theory.specs.Refusals.{refusal};

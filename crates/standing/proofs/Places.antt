@@ -1,13 +1,12 @@
 -- Sets of places: what the operations of words keep. Assumes nothing.
 use mathlib.Core.Path.{◌≡◌, refl, sym, ap, ◌∙◌}
 use mathlib.Core.Bool.{Bool, true, false, true≢false}
-use mathlib.Core.Logic.{◌⊎◌}
 use Prim.Native.Nat.{ℕ, zero, suc, ◌+◌, ◌-◌, ◌*◌, ◌/◌, ◌%◌, ◌^◌, min, max, ◌≤◌, ◌<◌}
 use native.Mathlib.Omega.{arith}
 use native.Mathlib.Nat.{pow-suc, div-eq_of_lt}
 use native.Mathlib.Decide.{dec_lt}
 use native.Mathlib.Numerals.{one-add}
-use lib.Dec.{eqb, lit<}
+use lib.Dec.{lit<}
 use lib.Bits.{bit_and, bit_or, and_shr, or_shr, and_step, or_step}
 use lib.Count.{count_trailing_zeros, under}
 use lib.Pow.{shl-shr, shr-shr, field, mod-mod-pow, shl_exact, pow-add, pow-lt}

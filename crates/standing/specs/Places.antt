@@ -1,5 +1,5 @@
 -- Sets of places as words: bit y is set where place y is in the set.
-use Rattle.std.specs.Prelude.{◌≡◌, Bool, true, false, ℕ, ◌+◌, ◌≤◌, ◌<◌}
+use Rattle.std.specs.Prelude.{◌≡◌, Bool, true, false, ℕ, ◌≤◌, ◌<◌}
 use Rattle.theory.specs.Route.{reverses}
 
 abbrev pub Has : ℕ → ℕ → Type 0

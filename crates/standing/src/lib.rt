@@ -1,4 +1,6 @@
 // Sets of the places 0 to 63 as words, and where parts of one route stand in another. The tables are filled in standing_tables.
+#![tactic(auto)]
+
 ghost use Rattle.std.specs.Prelude.{◌<◌};
 ghost use Rattle.standing.specs.Places.{OnePlace, Least, Apart};
 

@@ -1,4 +1,6 @@
 // The tables of where parts of the old route stand in the wanted one, as words.
+#![tactic(auto)]
+
 ghost use Rattle.std.specs.Prelude.{◌≡◌, ◌≤◌, ◌<◌, length};
 ghost use Rattle.standing.specs.Standing.{Pair, HeadSet, TailSet};
 ghost use Rattle.standing_tables.specs.Filling.{PlaceIf, SameSet, SameTable, AlongCell, AgainstCell, AlongTable, AgainstTable, Merged, PartsFilled, RowRoom, RowFilled, StandsFilled};

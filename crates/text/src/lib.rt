@@ -1,4 +1,6 @@
 // The text program's function from bytes to bytes: a question is read, judged and polished in crate text_polishing, and the answer printed.
+#![tactic(auto)]
+
 ghost use Rattle.theory.specs.Tables.{tables};
 ghost use Rattle.text_printing.specs.Answer.{Printed};
 ghost use Rattle.text.specs.Program.{program, counts_text, polished_text, Printable, Work, Shown};
@@ -53,7 +55,7 @@ fn answer_text(
 }
 
 // What the program writes: the first `length` of the bytes.
-#[derive(Drop)]
+#[derive(Clone, Copy)]
 pub struct Output {
     pub bytes: [u8; 6500],
     pub length: usize,

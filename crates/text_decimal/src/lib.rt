@@ -1,4 +1,6 @@
 // Numbers in decimal and texts, put into lent bytes. No entry: the crates above call it.
+#![tactic(auto)]
+
 ghost use Rattle.std.specs.Prelude.{◌≡◌, ◌≤◌, length, drop};
 ghost use Rattle.text_decimal.specs.Decimal.{last_digit, digits, Spelled};
 ghost use Rattle.text_decimal.specs.Text.{Room, Put};

@@ -1,4 +1,6 @@
 // Lines of numbers, read from bytes. No entry: the crates above call it.
+#![tactic(auto)]
+
 ghost use Rattle.std.specs.Prelude.{◌≡◌, length, drop};
 ghost use Rattle.text_tokens.specs.Told.{numeral_told};
 ghost use Rattle.text_lines.specs.Reading.{entries, entries_or_none, line_of, row, value};
@@ -7,7 +9,7 @@ ghost use Rattle.text_lines.specs.Told.{row_told, Listed};
 use text_tokens::{Numeral, Place, byte_at, read_numeral, skip_key};
 
 // How many entries a line has, and the place after it.
-#[derive(Drop)]
+#[derive(Clone, Copy)]
 pub enum Entries {
     Read(usize, usize),
     Malformed,

@@ -1,4 +1,6 @@
 // A text read, judged and polished in lent places: what the text program and the season report stand on. No entry: crates text and season_report call it.
+#![tactic(auto)]
+
 ghost use Rattle.theory.specs.Tables.{tables};
 ghost use Rattle.text_problem.specs.Judged.{ProblemPlaces};
 ghost use Rattle.text_polishing.specs.Outcome.{Asked, PolishedIn, Tells};
@@ -8,7 +10,7 @@ use text_question::Header;
 use theory::Polished;
 
 // The polished question with the number of its stops, which are in lent places; or why there is none.
-#[derive(Drop)]
+#[derive(Clone, Copy)]
 pub enum TextAnswer {
     Refused(u32),
     Polished(Polished, usize),

@@ -1,4 +1,6 @@
 // The answer of the text program, written into lent bytes. No entry: the program above calls it.
+#![tactic(auto)]
+
 ghost use Rattle.text_decimal.specs.Text.{Room, Put};
 ghost use Rattle.text_printing.specs.Answer.{outcome, late_line, answer_text, refusal_text, Fits, Printed};
 

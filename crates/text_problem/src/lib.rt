@@ -1,4 +1,6 @@
 // A text read and judged: the problem that polishing takes, in lent places, or the number by which the text is refused. No entry: the crates above call it.
+#![tactic(auto)]
+
 ghost use Rattle.std.specs.Prelude.{◌≡◌};
 ghost use Rattle.theory.specs.Tables.{tables};
 ghost use Rattle.text_problem.specs.Judged.{ProblemPlaces, Judges, Lies, first_refusal};
@@ -7,7 +9,7 @@ use text_lines::Entries;
 use text_question::{Header, Reading};
 
 // A problem and how many stops it has; its tables and stops are in lent places.
-#[derive(Drop)]
+#[derive(Clone, Copy)]
 pub enum ProblemRead {
     Refused(u32),
     Read(Header, usize),

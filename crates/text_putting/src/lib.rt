@@ -1,4 +1,6 @@
 // Lines of numbers, written into lent bytes: those of the program's answer, and those of a problem. No entry: the crates above call it.
+#![tactic(auto)]
+
 ghost use Rattle.std.specs.Prelude.{[], ◌∷◌};
 ghost use Rattle.text_decimal.specs.Text.{further, listed, line, Room, Put};
 

@@ -1,4 +1,6 @@
 // The text program's question, read from bytes. No entry: the program above calls it.
+#![tactic(auto)]
+
 ghost use Rattle.std.specs.Prelude.{◌≡◌};
 ghost use Rattle.theory.specs.Tables.{tables};
 ghost use Rattle.text_question.specs.Reading.{header};
@@ -10,7 +12,7 @@ use text_tables::read_tables;
 use text_tokens::{Numeral, Place};
 
 // The numbers of a question: the values of its first five lines.
-#[derive(Drop)]
+#[derive(Clone, Copy)]
 pub struct Header {
     pub k: u32,
     pub allowance: u32,
@@ -20,14 +22,14 @@ pub struct Header {
 }
 
 // The lines before the legs, and the place after them.
-#[derive(Drop)]
+#[derive(Clone, Copy)]
 enum Start {
     Read(Header, usize),
     Malformed,
 }
 
 // A question, whose tables are in lent places and whose stops stand in the text: how many there are, the highest of them, and where their line begins.
-#[derive(Drop)]
+#[derive(Clone, Copy)]
 pub enum Reading {
     Question(Header, usize, u32, usize),
     Malformed,

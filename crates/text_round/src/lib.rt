@@ -1,4 +1,6 @@
 // The round of a text, read with no place for its stops: it may have more of them than any problem that is taken. No entry: crate text_question calls it.
+#![tactic(auto)]
+
 ghost use Rattle.std.specs.Prelude.{◌≡◌, drop};
 ghost use Rattle.text_decimal.specs.Text.{ascii};
 ghost use Rattle.text_lines.specs.Reading.{entries, line_of};
@@ -7,7 +9,7 @@ ghost use Rattle.text_round.specs.Round.{higher, counted, round_told};
 use text_tokens::{Numeral, Place, byte_at, read_numeral, skip_key};
 
 // How many stops a round has, the highest of them, or 0 where there is none, and the place after the line.
-#[derive(Drop)]
+#[derive(Clone, Copy)]
 pub enum Round {
     Read(usize, u32, usize),
     Malformed,

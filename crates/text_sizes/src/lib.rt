@@ -1,4 +1,6 @@
 // How many bytes a problem's text has, before the first of them is written. No entry: crate problem_calls calls it.
+#![tactic(auto)]
+
 ghost use Rattle.std.specs.Prelude.{[], ◌∷◌, ◌≡◌, ◌*◌, ◌≤◌, length};
 ghost use Rattle.theory.specs.Tables.{tables};
 ghost use Rattle.theory.specs.Question.{question};

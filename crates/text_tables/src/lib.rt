@@ -1,4 +1,6 @@
 // The legs, the deadlines and the service times of a question, read from bytes into lent places. No entry: crate text_question calls it.
+#![tactic(auto)]
+
 ghost use Rattle.std.specs.Prelude.{◌≡◌, drop};
 ghost use Rattle.theory.specs.Tables.{tables};
 ghost use Rattle.text_lines.specs.Told.{row_told};

@@ -1,17 +1,19 @@
 // A number or a key at a place of a text, read from bytes. No entry: the crates above call it.
+#![tactic(auto)]
+
 ghost use Rattle.std.specs.Prelude.{◌≡◌, ◌≤◌, drop};
 ghost use Rattle.text_tokens.specs.Tokens.{front, digit, digits_after, numeral, after};
 ghost use Rattle.text_tokens.specs.Told.{numeral_told, place_told};
 
 // A number and the place after it.
-#[derive(Drop)]
+#[derive(Clone, Copy)]
 pub enum Numeral {
     Read(u32, usize),
     Missing,
 }
 
 // A place of the text.
-#[derive(Drop)]
+#[derive(Clone, Copy)]
 pub enum Place {
     At(usize),
     Nowhere,

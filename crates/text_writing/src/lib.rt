@@ -1,4 +1,6 @@
 // A problem's text, written into lent bytes. No entry: crate problem_calls calls it.
+#![tactic(auto)]
+
 ghost use Rattle.theory.specs.Tables.{tables};
 ghost use Rattle.theory.specs.Question.{question};
 ghost use Rattle.text_decimal.specs.Text.{Room, Put};

@@ -26,6 +26,7 @@ pub data Full : List (List ℕ) → Type 0 where
 pub through_path : (d : ℕ → ℕ → ℕ) (a : ℕ) (ps : List (List ℕ)) (e : ℕ) → Full ps → through d a ps e ≡ path d a (flatten ps ++ (e ∷ []))
 unfolding through path inner last_of first_of flatten
 through_path d a [] e none = omega arith
+through_path d a ([] ∷ ps) e x3 = elim x3 [ ]
 through_path d a ((x ∷ xs) ∷ ps) e (more f) =
     rw (append_assoc xs (flatten ps) (e ∷ [])) (omega (arith, through_path d (last_of x xs) ps e f, path_append d x xs (flatten ps ++ (e ∷ []))))
 

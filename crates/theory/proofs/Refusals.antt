@@ -7,9 +7,8 @@ use mathlib.Core.List.{List, [], ◌∷◌, ◌++◌, map, Memᴰ}
 use Prim.Native.Nat.{ℕ, zero, suc}
 use native.Mathlib.Omega.{arith}
 use lib.Dec.{eqb}
-use lib.ListN.{length}
 use borrow.Author.Tests.{eqb-true, eqb-false}
-use Rattle.theory.specs.Refusals.{Rule, number, any, order, either, rules_of, first_in, refusal}
+use Rattle.theory.specs.Refusals.{Rule, any, order, either, rules_of, first_in, refusal}
 
 -- No rule applies.
 abbrev pub Passes : List Rule → Type 0

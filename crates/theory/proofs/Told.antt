@@ -5,7 +5,7 @@ use mathlib.Core.List.{List, [], ◌∷◌}
 use Prim.Native.Nat.{ℕ, zero, suc}
 use lib.ListN.{get_or}
 use lib.IntN.{ℤ}
-use Rattle.theory.specs.Answers.{Answer, step_answer, length_answer, delta_answer, listing_answer, doable_answer, round_values}
+use Rattle.theory.specs.Answers.{step_answer, length_answer, delta_answer, listing_answer, doable_answer, round_values}
 use Rattle.theory.specs.declared.CutStep.{CutStep}
 use Rattle.theory.specs.declared.CutStep.TheVariants as Step
 use Rattle.theory.specs.declared.RouteLength.{RouteLength}

@@ -1,5 +1,5 @@
 -- What a caller is told: document 01's number and values for each case of an answer.
-use Rattle.std.specs.Prelude.{◌≡◌, List, [], ◌∷◌, true, false, cond, ◌⊎◌, ℕ, zero, suc, ◌<◌, eqb, length, get_or, take, ℤ, Float}
+use Rattle.std.specs.Prelude.{◌≡◌, List, [], ◌∷◌, true, false, cond, ℕ, zero, suc, ◌<◌, eqb, length, get_or, take, ℤ, Float}
 use Rattle.theory.specs.Moves.{Pattern}
 use Rattle.theory.specs.Route.{Problem, Timetable, late_position, Timely, tour_length, timetable_of}
 use Rattle.theory.specs.Scan.{Reply}

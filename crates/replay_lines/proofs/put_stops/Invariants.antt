@@ -1,0 +1,11 @@
+-- `replay_lines::put_stops` meets its contract. The invariant: the numbers passed stand. Assumes nothing.
+use Prim.Native.Nat.{◌-◌}
+use lib.ListN.{length}
+use Rattle.replay_lines.proofs.Lines.{Listing}
+use Rattle.replay_lines.proofs.put_stops.Given as goal
+
+abbrev pub invariant-loop-i : goal.invariant-loop-i
+invariant-loop-i l = Listing l.numbers l.initial.line l.at l.i l.place l.line
+
+abbrev pub decreases-loop-i : goal.decreases-loop-i
+decreases-loop-i l = length l.numbers - l.i

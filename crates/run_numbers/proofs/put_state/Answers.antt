@@ -1,0 +1,1 @@
+-- `run_numbers::put_state` meets its contract. Assumes nothing.

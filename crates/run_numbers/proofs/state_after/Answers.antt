@@ -1,0 +1,1 @@
+-- `run_numbers::state_after` meets its contract. Assumes nothing.

@@ -1,0 +1,15 @@
+-- `fill_against` meets its contract. The invariant: the places from i on are filled. Assumes nothing.
+use mathlib.Core.Path.{◌≡◌}
+use mathlib.Core.List.{List}
+use Prim.Native.Nat.{ℕ, ◌-◌, ◌≤◌}
+use lib.ListN.{length}
+use Rattle.standing.specs.Standing.{Pair}
+use Rattle.standing_tables.specs.Filling.{SameTable, AgainstFrom}
+use Rattle.standing_tables.proofs.fill_against.Given as goal
+
+abbrev pub invariant-loop-i : goal.invariant-loop-i
+invariant-loop-i l =
+    (l.i ≤ 2352) × (length l.table ≡ 2401) × ((n : ℕ) (old wanted : List ℕ) → Pair n old wanted → SameTable old wanted l.same → AgainstFrom n old wanted l.table l.i)
+
+abbrev pub decreases-loop-i : goal.decreases-loop-i
+decreases-loop-i l = l.i

@@ -1,0 +1,12 @@
+-- `text_sizes::further_size` meets its contract: what is counted and what is left make up the whole. Assumes nothing.
+use mathlib.Core.Path.{◌≡◌}
+use Prim.Native.Nat.{◌+◌, ◌-◌, ◌*◌, ◌≤◌}
+use lib.ListN.{length, drop}
+use Rattle.text_decimal.specs.Text.{further}
+use Rattle.text_sizes.proofs.further_size.Given as goal
+
+abbrev pub invariant-loop-i : goal.invariant-loop-i
+invariant-loop-i l = (l.i ≤ length l.values) × (l.size + length (further (drop l.i l.values)) ≡ length (further l.values)) × (l.size ≤ 21 * l.i)
+
+abbrev pub decreases-loop-i : goal.decreases-loop-i
+decreases-loop-i l = length l.values - l.i
