@@ -1,22 +1,25 @@
 // Polishes the round on standard input and writes the answer.
 #![tactic(auto)]
 
-ghost use Rattle.std.specs.Prelude.{IfSome, OnOk, take};
+ghost use Rattle.std.specs.Prelude.{IfSome, OnErr, OnOk, take};
 ghost use Rattle.std.specs.Io.KnownBytes.{Appends};
+ghost use Rattle.lent_bytes.specs.Lent.{WritesPart};
 ghost use Rattle.text.specs.Program.{program};
 
 use std::io::{self, Read, Write};
 
-// Reads a text and writes its answer. One byte more than a text may have is read, so that a longer one is known.
+// Reads a text and writes its answer. One byte more than a text may have is read, so that a longer one is known. Where a read or a write fails, a first part of the answer was written,
+// none before all is read.
 fn answer_text<R: Read, W: Write>(reader: &mut R, writer: &mut W) -> io::Result<()>
-    ensures { OnOk result (IfSome (R.remaining reader.old) (λ text. Appends (W.contents writer.old) (W.contents writer.new) (program (take 60001 text)))) }
+    ensures answered { OnOk result (IfSome (R.remaining reader.old) (λ text. Appends (W.contents writer.old) (W.contents writer.new) (program (take 60001 text)))) }
+    ensures part { OnErr result (IfSome (R.remaining reader.old) (λ text. WritesPart (W.contents writer.old) (W.contents writer.new) (program (take 60001 text)))) }
 {
     let mut input = [0u8; 60001];
-    let got = lent_reading::read_full(reader, &mut input)?;
+    let got = lent_bytes::read_full(reader, &mut input)?;
     let answer = text::polish_text(&input[..got]);
     let bytes = answer.bytes;
     let length = answer.length;
-    writer.write_all(&bytes[..length])
+    lent_bytes::write_full(writer, &bytes[..length])
 }
 
 fn main(rt: HostRuntime) -> io::Result<()> {

@@ -1,22 +1,25 @@
 // Reports on the blocks on standard input.
 #![tactic(auto)]
 
-ghost use Rattle.std.specs.Prelude.{IfSome, OnOk, take};
+ghost use Rattle.std.specs.Prelude.{IfSome, OnErr, OnOk, take};
 ghost use Rattle.std.specs.Io.KnownBytes.{Appends};
+ghost use Rattle.lent_bytes.specs.Lent.{WritesPart};
 ghost use Rattle.season_report.specs.Report.{report};
 
 use std::io::{self, Read, Write};
 
-// Reads blocks and writes the report on them. One byte more than a report's input may have is read, so that a longer one is known.
+// Reads blocks and writes the report on them. One byte more than a report's input may have is read, so that a longer one is known. Where a read or a write fails, a first part of the report was written,
+// none before all is read.
 fn report_blocks<R: Read, W: Write>(reader: &mut R, writer: &mut W) -> io::Result<()>
-    ensures { OnOk result (IfSome (R.remaining reader.old) (λ text. Appends (W.contents writer.old) (W.contents writer.new) (report (take 60001 text)))) }
+    ensures reported { OnOk result (IfSome (R.remaining reader.old) (λ text. Appends (W.contents writer.old) (W.contents writer.new) (report (take 60001 text)))) }
+    ensures part { OnErr result (IfSome (R.remaining reader.old) (λ text. WritesPart (W.contents writer.old) (W.contents writer.new) (report (take 60001 text)))) }
 {
     let mut input = [0u8; 60001];
-    let got = lent_reading::read_full(reader, &mut input)?;
+    let got = lent_bytes::read_full(reader, &mut input)?;
     let report = season_report::report_season(&input[..got]);
     let bytes = report.bytes;
     let length = report.length;
-    writer.write_all(&bytes[..length])
+    lent_bytes::write_full(writer, &bytes[..length])
 }
 
 fn main(rt: HostRuntime) -> io::Result<()> {

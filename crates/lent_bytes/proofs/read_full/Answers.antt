@@ -1,8 +1,8 @@
 use Rattle.std.proofs.Common.{rules, sym, subst}
 use Rattle.std.specs.Io.KnownBytes.{Consumes}
 use Rattle.std.proofs.KnownBytes.{Consumes-trans}
-use Rattle.lent_reading.proofs.Reading.{take_read}
-use Rattle.lent_reading.proofs.read_full.Goals as goal
+use Rattle.lent_bytes.proofs.Parts.{take_read}
+use Rattle.lent_bytes.proofs.read_full.Goals as goal
 
 pub loop-done-preserved : goal.loop-done-preserved
 loop-done-preserved g c =

@@ -1,2 +1,2 @@
-mod Reading
+mod Parts
 pub mod Answering
