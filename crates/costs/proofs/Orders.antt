@@ -11,7 +11,7 @@ use Rattle.theory.specs.Tables.{ForK}
 use Rattle.theory.proofs.Moves.{total_ones, length_upfrom}
 use Rattle.theory.proofs.Orders.{in_range}
 use Rattle.costs.specs.RouteCosts.{Middle}
-use Rattle.theory.proofs.Index.{take_upfrom, getD_upfrom, mem_getD}
+use Rattle.theory.proofs.Index.{take_upfrom, get_or_upfrom, mem_get_or}
 
 -- ---- a pattern's order
 
@@ -28,7 +28,7 @@ module _ (k : ℕ) (order : List ℕ) (mask : ℕ) (two : 2 ≤ k) (f : ForK k o
   at_place zero h l = absurd (omega arith)
   at_place (suc p) h l =
       let i : p < length f.middle = omega (arith, length_middle) in
-      rw (f.order_is, get_or-append f.middle (k ∷ []) 0 p i) (in_range f.middle 1 (k - 1) f.once (get_or f.middle p 0) (mem_getD f.middle p 0 i))
+      rw (f.order_is, get_or-append f.middle (k ∷ []) 0 p i) (in_range f.middle 1 (k - 1) f.once (get_or f.middle p 0) (mem_get_or f.middle p 0 i))
 
   pub pattern_middle : Middle k order
   pattern_middle =
@@ -45,7 +45,7 @@ standing = 0 ∷ 1 ∷ 2 ∷ 3 ∷ 4 ∷ 5 ∷ []
 
 standing_at : (p : ℕ) → p < 6 → get_or standing p 0 ≡ p
 unfolding upfrom
-standing_at p h = getD_upfrom 0 6 p 0 h ∙ zero-add p
+standing_at p h = get_or_upfrom 0 6 p 0 h ∙ zero-add p
 
 pub standing_middle : (k : ℕ) → 2 ≤ k → k ≤ 5 → slice 1 k standing ≡ upfrom 1 (k - 1)
 unfolding upfrom

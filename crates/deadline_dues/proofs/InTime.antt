@@ -15,7 +15,7 @@ use Rattle.theory.specs.Route.{Timetable, clock, path, segments, placed, on_time
 use Rattle.theory.specs.Costs.{last_of, first_of, inner}
 use Rattle.theory.specs.Tables.{Tables, timetable_by, clock_by, CutSet, ForK}
 use Rattle.theory.proofs.Clock.{path_step}
-use Rattle.theory.proofs.Index.{get_d_map}
+use Rattle.theory.proofs.Index.{get_or_map}
 use Rattle.theory.proofs.Orders.{in_range}
 use Rattle.costs.proofs.Orders.{middle_is, pattern_middle}
 use Rattle.deadlines.proofs.Along.{path_in, on_time_append}
@@ -89,7 +89,7 @@ module _ (k : ℕ) (order rows : List ℕ) (mask i : ℕ) (two : 2 ≤ k) (most 
       let stands : get_or rows c 0 ≡ get_or (slice (4 * i) (4 * i + (k - 1)) rows) j 0 =
       sym (get_or-drop (4 * i) (take (4 * i + (k - 1)) rows) j 0 ∙ ap (λ n. get_or (take (4 * i + (k - 1)) rows) n 0) at ∙ get_or-take (4 * i + (k - 1)) rows c 0 m) in
       let is : get_or rows c 0 ≡ state_of mask (get_or o j 0) =
-      stands ∙ ap (λ s. get_or s j 0) row_states ∙ get_d_map (state_of mask) o j 0 0 (omega (arith, length-slice 1 k order long)) in
+      stands ∙ ap (λ s. get_or s j 0) row_states ∙ get_or_map (state_of mask) o j 0 0 (omega (arith, length-slice 1 k order long)) in
       let place : get_or o j 0 ≡ get_or order (1 + j) 0 = get_or-drop 1 (take k order) j 0 ∙ get_or-take k order (1 + j) 0 (omega arith) in
       let middle = pattern_middle k order mask two f in
       let b = state_below k mask (get_or order (1 + j) 0) (middle.least (1 + j) (omega arith) (omega arith)) (middle.most (1 + j) (omega arith) (omega arith)) in

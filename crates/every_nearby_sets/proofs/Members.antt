@@ -9,7 +9,7 @@ use native.Mathlib.Numerals.{add-one}
 use native.Mathlib.Omega.{arith}
 use lib.ListN.{length}
 use lib.Ieee.{Float}
-use Rattle.theory.proofs.Moves.{of_flatMap, mem_flatMap, upfrom_range}
+use Rattle.theory.proofs.Moves.{of_flat_map, mem_flat_map, upfrom_range}
 use Rattle.theory.proofs.Orders.{listed_number}
 use Rattle.nearby_nearest.specs.Neighbours.{eligible}
 use Rattle.nearby_from_cut.proofs.Turns.{kept_range}
@@ -32,7 +32,7 @@ module _ (own : ℕ → ℕ → List ℕ) where
   unfolding every
   of_every zero list s i = let t = Memᴰ.of_map (λ p. p ∷ []) list i in subst (Begun 0 list) t.2 (refl, t.1, tt)
   of_every (suc b) list s i =
-      let t = of_flatMap (λ p. map (λ s. p ∷ s) (every own b (own (suc b) p))) list i in
+      let t = of_flat_map (λ p. map (λ s. p ∷ s) (every own b (own (suc b) p))) list i in
       let u = Memᴰ.of_map (λ s. t.0 ∷ s) (every own b (own (suc b) t.0)) t.2 in
       subst (Begun (suc b) list) u.2 (begun_under b t.0 list u.0 t.1 (of_every b (own (suc b) t.0) u.0 u.1))
 
@@ -44,7 +44,7 @@ module _ (own : ℕ → ℕ → List ℕ) where
   in_every (suc b) list (c ∷ []) h = absurd (omega (arith, h.0))
   in_every (suc b) list (c ∷ d ∷ cs) h =
       let e : length cs ≡ b = omega (arith, h.0) in
-      mem_flatMap (λ p. map (λ s. p ∷ s) (every own b (own (suc b) p))) h.1
+      mem_flat_map (λ p. map (λ s. p ∷ s) (every own b (own (suc b) p))) h.1
       (Memᴰ.map (λ s. c ∷ s) (in_every b (own (suc b) c) (d ∷ cs) (e, subst (λ (j : ℕ). Memᴰ d (own (suc j) c)) e h.2.0, h.2.1)))
 
   module _ (n k m : ℕ) (least : 2 ≤ k) where
@@ -63,7 +63,7 @@ module _ (own : ℕ → ℕ → List ℕ) where
     listed_under (f ∷ []) h = absurd (omega (arith, h.0))
     listed_under (f ∷ c ∷ cs) h =
         let e : suc (length cs) ≡ k - 1 = omega (arith, h.0) in
-        mem_flatMap sets_of (listed_number f m (n + 1 - (k + 1) * m) h.1 (omega (arith, h.1, h.2, add-one k, suc-mul k m)))
+        mem_flat_map sets_of (listed_number f m (n + 1 - (k + 1) * m) h.1 (omega (arith, h.1, h.2, add-one k, suc-mul k m)))
         (Memᴰ.map (λ s. f ∷ s) (in_every (k - 2) (own (k - 1) f) (c ∷ cs) (omega arith, subst (λ (j : ℕ). Memᴰ c (own j f)) e h.3.0, h.3.1)))
 
     -- "A set is in it exactly if the first cut lies from m to n − k·m and each further cut is in the kept neighbour list of the one before."
@@ -73,7 +73,7 @@ module _ (own : ℕ → ℕ → List ℕ) where
       where
         there : Memᴰ s (flat_map sets_of (first_positions n k m)) → Nearby own n k m s
         there i =
-            let t = of_flatMap sets_of (first_positions n k m) i in
+            let t = of_flat_map sets_of (first_positions n k m) i in
             let u = Memᴰ.of_map (λ s. t.0 ∷ s) (every own (k - 2) (own (k - 1) t.0)) t.2 in
             subst (Nearby own n k m) u.2 (nearby_under t.0 u.0 t.1 (of_every (k - 2) (own (k - 1) t.0) u.0 u.1))
 

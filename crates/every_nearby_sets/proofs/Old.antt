@@ -40,10 +40,10 @@ within_map f (x ∷ xs) [] h = absurd h
 within_map f (x ∷ xs) (y ∷ ys) (inl h) = inl (ap f h.0, within_map f xs ys h.1)
 within_map f (x ∷ xs) (y ∷ ys) (inr h) = inr (within_map f (x ∷ xs) ys h)
 
-within_flatMap : {A B : Type 0} (f g : A → List B) → ((x : A) → Within (f x) (g x)) → (l : List A) → Within (flat_map f l) (flat_map g l)
+within_flat_map : {A B : Type 0} (f g : A → List B) → ((x : A) → Within (f x) (g x)) → (l : List A) → Within (flat_map f l) (flat_map g l)
 unfolding flat_map
-within_flatMap f g h [] = tt
-within_flatMap f g h (x ∷ l) = within_append (f x) (g x) (flat_map f l) (flat_map g l) (h x) (within_flatMap f g h l)
+within_flat_map f g h [] = tt
+within_flat_map f g h (x ∷ l) = within_append (f x) (g x) (flat_map f l) (flat_map g l) (h x) (within_flat_map f g h l)
 
 -- ---- the walk skips, and adds nothing
 
@@ -85,7 +85,7 @@ walk_within own n k m = go (ltb n ((k + 1) * m)) refl
     go true e = tt
     go false e =
         rw (same_firsts n k m (ltb-false n ((k + 1) * m) e))
-        (within_flatMap (λ f. map (λ s. f ∷ s) (branch own (k - 2) (own (k - 1) f))) (λ f. map (λ s. f ∷ s) (every own (k - 2) (own (k - 1) f)))
+        (within_flat_map (λ f. map (λ s. f ∷ s) (branch own (k - 2) (own (k - 1) f))) (λ f. map (λ s. f ∷ s) (every own (k - 2) (own (k - 1) f)))
         (λ f. within_map (λ s. f ∷ s) (branch own (k - 2) (own (k - 1) f)) (every own (k - 2) (own (k - 1) f)) (branch_within own (k - 2) (own (k - 1) f)))
         (first_positions n k m))
 

@@ -10,7 +10,7 @@ use lib.Dec.{eqb}
 use lib.ListN.{length}
 use lib.Ieee.{Float}
 use borrow.Author.Tests.{eqb-true, eq-eqb}
-use Rattle.theory.proofs.Moves.{of_flatMap}
+use Rattle.theory.proofs.Moves.{of_flat_map}
 use Rattle.theory.proofs.Distinct.{Distinct}
 use Rattle.theory.proofs.Dictionary.{Ascending, ascending_upfrom}
 use Rattle.nearby_nearest.specs.Neighbours.{eligible}
@@ -33,13 +33,13 @@ module _ {A B : Type 0} (before : A → A → Type 0) (before' : B → B → Typ
   ascending_map f (x ∷ xs) h a =
       (λ y i. let t = Memᴰ.of_map f xs i in subst (before' (f x)) t.2 (h x t.0 (Memᴰ.head refl) (a.0 t.0 t.1)), ascending_map f xs (λ y z i. h y z (Memᴰ.tail i)) a.1)
 
-  ascending_flatMap : (f : A → List B) (l : List A) → Ascending before l → ((x : A) → Ascending before' (f x)) →
+  ascending_flat_map : (f : A → List B) (l : List A) → Ascending before l → ((x : A) → Ascending before' (f x)) →
       ((x y : A) (u v : B) → before x y → Memᴰ u (f x) → Memᴰ v (f y) → before' u v) → Ascending before' (flat_map f l)
   unfolding flat_map
-  ascending_flatMap f [] a e h = tt
-  ascending_flatMap f (x ∷ xs) a e h =
-      ascending_append before' (f x) (flat_map f xs) (e x) (ascending_flatMap f xs a.1 e h)
-      (λ u v i j. let t = of_flatMap f xs j in h x t.0 u v (a.0 t.0 t.1) i t.2)
+  ascending_flat_map f [] a e h = tt
+  ascending_flat_map f (x ∷ xs) a e h =
+      ascending_append before' (f x) (flat_map f xs) (e x) (ascending_flat_map f xs a.1 e h)
+      (λ u v i j. let t = of_flat_map f xs j in h x t.0 u v (a.0 t.0 t.1) i t.2)
 
 ascending_distinct : {A : Type 0} (before : A → A → Type 0) → ((x : A) → before x x → ⊥) → (l : List A) → Ascending before l → Distinct l
 ascending_distinct before h [] a = tt
@@ -86,7 +86,7 @@ module _ (own : ℕ → ℕ → List ℕ) (distinct_own : (missing cut : ℕ) �
   unfolding every
   every_sooner zero list d = ascending_map (λ p q. rank p list < rank q list) (Sooner own list) (λ p. p ∷ []) list (λ x y i h. inl h) (by_rank list d)
   every_sooner (suc b) list d =
-      ascending_flatMap (λ p q. rank p list < rank q list) (Sooner own list) (λ p. map (λ s. p ∷ s) (every own b (own (suc b) p))) list (by_rank list d)
+      ascending_flat_map (λ p q. rank p list < rank q list) (Sooner own list) (λ p. map (λ s. p ∷ s) (every own b (own (suc b) p))) list (by_rank list d)
       (λ p.
       ascending_map (Sooner own (own (suc b) p)) (Sooner own list) (λ s. p ∷ s) (every own b (own (suc b) p))
       (λ s t i h. inr (refl, subst (λ (j : ℕ). Sooner own (own j p) s t) (sym (sized b (own (suc b) p) s i)) h))
@@ -102,7 +102,7 @@ module _ (own : ℕ → ℕ → List ℕ) (distinct_own : (missing cut : ℕ) �
   pub over_in_order : (n k m : ℕ) → 2 ≤ k → Ascending (Earlier own) (every_over own n k m)
   unfolding every_over
   over_in_order n k m least =
-      ascending_flatMap ◌<◌ (Earlier own) (λ f. map (λ s. f ∷ s) (every own (k - 2) (own (k - 1) f))) (first_positions n k m) (ascending_upfrom m (n + 1 - (k + 1) * m))
+      ascending_flat_map ◌<◌ (Earlier own) (λ f. map (λ s. f ∷ s) (every own (k - 2) (own (k - 1) f))) (first_positions n k m) (ascending_upfrom m (n + 1 - (k + 1) * m))
       (λ f.
       ascending_map (Sooner own (own (k - 1) f)) (Earlier own) (λ s. f ∷ s) (every own (k - 2) (own (k - 1) f))
       (λ s t i h.

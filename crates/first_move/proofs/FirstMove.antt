@@ -14,9 +14,9 @@ use borrow.Author.Tests.{eq-eqb, eqb-true}
 use Rattle.theory.specs.Moves.{upfrom, Pattern, Move, patterns, cut_sets, candidates}
 use Rattle.theory.specs.Route.{reconnected}
 use Rattle.theory.specs.Polish.{move_at}
-use Rattle.theory.proofs.Moves.{mem_flatMap, of_flatMap, cuts_listed, listed_cuts, upfrom_range}
+use Rattle.theory.proofs.Moves.{mem_flat_map, of_flat_map, cuts_listed, listed_cuts, upfrom_range}
 use Rattle.theory.proofs.Orders.{listed_number}
-use Rattle.theory.proofs.Index.{mem_getD}
+use Rattle.theory.proofs.Index.{mem_get_or}
 use Rattle.first_move.specs.FirstMove.{same_route, numbered, turns_into, first_move, move_values, in_front, handed_move, NoMove, FoundFirst, Told}
 use Rattle.first_move.proofs.First.{first_none, none_passes, found}
 
@@ -63,12 +63,12 @@ numbered_are ps (cs ∷ css) =
 -- A numbered candidate is a cut set and an index.
 pub numbered_has : (count : ℕ) (css : List (List ℕ)) (cs : List ℕ) (i : ℕ) → Memᴰ cs css → i < count → Memᴰ (cs, i) (numbered count css)
 unfolding numbered
-numbered_has count css cs i m h = mem_flatMap _ m (mathlib.Core.List.Memᴰ.map (λ i. (cs, i)) (listed_number i 0 count (omega arith) (omega arith)))
+numbered_has count css cs i m h = mem_flat_map _ m (mathlib.Core.List.Memᴰ.map (λ i. (cs, i)) (listed_number i 0 count (omega arith) (omega arith)))
 
 pub numbered_from : (count : ℕ) (css : List (List ℕ)) (c : List ℕ × ℕ) → Memᴰ c (numbered count css) → Memᴰ c.0 css × (c.1 < count)
 unfolding numbered
 numbered_from count css c m =
-    let t = of_flatMap _ css m in
+    let t = of_flat_map _ css m in
     let u = mathlib.Core.List.Memᴰ.of_map _ (upfrom 0 count) t.2 in
     rw (← u.2) (t.1, omega (arith, upfrom_range u.0 0 count u.1))
 
@@ -94,7 +94,7 @@ module _ (k : ℕ) (old wanted : List ℕ) where
         let q = numbered_from (length (patterns k)) (cut_sets k (length old)) c m in
         let l = listed_cuts (length old) (suc (length old)) 0 k c.0 (omega arith) q.0 in
         other_route (reconnected (move_at (patterns k) c.0 c.1) old) wanted
-        (h c.0 l.0 l.1 (get_or (patterns k) c.1 (record { order = []; mask = 0 })) (mem_getD (patterns k) c.1 (record { order = []; mask = 0 }) q.1))),
+        (h c.0 l.0 l.1 (get_or (patterns k) c.1 (record { order = []; mask = 0 })) (mem_get_or (patterns k) c.1 (record { order = []; mask = 0 }) q.1))),
   )
 
   abbrev at : List ℕ × ℕ → Move

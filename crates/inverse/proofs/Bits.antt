@@ -14,7 +14,7 @@ use borrow.Author.Tests.{eq-eqb, ne_eqb}
 use Rattle.theory.specs.Moves.{upfrom}
 use Rattle.theory.specs.Route.{reverses}
 use Rattle.theory.proofs.Delta.{straight}
-use Rattle.theory.proofs.Index.{get_d_map}
+use Rattle.theory.proofs.Index.{get_or_map}
 use Rattle.inverse.specs.WayBack.{EachOnce, place, inverse_order, from_bits, inverse_mask}
 use Rattle.inverse.proofs.Places.{place_below, at_place, each_stands, long_order, same_map, shift_map}
 
@@ -79,7 +79,7 @@ none_turned o = no_bits o
 -- "Turning a piece on the way back exactly if it arrived turned."
 pub turned_back : (o : List ℕ) (mask j : ℕ) → j < length o → reverses (inverse_mask o mask) j ≡ reverses mask (get_or o j 0)
 unfolding inverse_mask
-turned_back o mask j h = bit_of_bits (map (reverses mask) o) j ∙ get_d_map (reverses mask) o j 0 false h
+turned_back o mask j h = bit_of_bits (map (reverses mask) o) j ∙ get_or_map (reverses mask) o j 0 false h
 
 -- The mask on the way back of the way back.
 pub mask_back : (k : ℕ) (o : List ℕ) (mask : ℕ) → EachOnce k o → mask < 2 ^ suc k → inverse_mask (inverse_order o) (inverse_mask o mask) ≡ mask
@@ -91,4 +91,4 @@ mask_back k o mask once small =
     one : (i : ℕ) → i < length o → reverses (from_bits (map (reverses mask) o)) (place i o) ≡ reverses mask i
     one i h =
         let m = each_stands k o once i (omega (arith, long_order k o once)) in
-        bit_of_bits (map (reverses mask) o) (place i o) ∙ get_d_map (reverses mask) o (place i o) 0 false (place_below i o m) ∙ ap (reverses mask) (at_place i o m)
+        bit_of_bits (map (reverses mask) o) (place i o) ∙ get_or_map (reverses mask) o (place i o) 0 false (place_below i o m) ∙ ap (reverses mask) (at_place i o m)

@@ -9,7 +9,7 @@ use Rattle.theory.specs.Moves.{Pattern, Move, Rising, arrangements, patterns}
 use Rattle.theory.specs.Route.{reverses, reconnected}
 use Rattle.theory.specs.Polish.{move_at}
 use Rattle.theory.proofs.Moves.{pattern_shape, rearranges}
-use Rattle.theory.proofs.Index.{mem_getD, length_pattern, pattern_mask}
+use Rattle.theory.proofs.Index.{mem_get_or, length_pattern, pattern_mask}
 use Rattle.inverse.specs.WayBack.{EachOnce, inverse_cuts, way_back}
 use Rattle.inverse.specs.PatternIndex.{index_of}
 use Rattle.inverse.specs.GoesBack.{move_back, GoesBack}
@@ -53,7 +53,7 @@ module _ (m pattern n : ℕ) (cuts : List ℕ) (many : length cuts ≡ suc m) (r
   index = index_of (suc m) back.pattern
 
   listed : Memᴰ first.pattern (patterns (suc m))
-  listed = mem_getD (patterns (suc m)) pattern (record { order = []; mask = 0 }) known
+  listed = mem_get_or (patterns (suc m)) pattern (record { order = []; mask = 0 }) known
 
   once : EachOnce (suc m) first.pattern.order
   once = rearranges m first.pattern listed

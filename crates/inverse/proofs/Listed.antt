@@ -13,7 +13,7 @@ use Rattle.theory.specs.Route.{reverses}
 use Rattle.theory.proofs.Moves.{length_upfrom, total_ones, total_append, pattern_shape, rearranges}
 use Rattle.theory.proofs.Orders.{patterns_complete}
 use Rattle.theory.proofs.Distinct.{patterns_distinct}
-use Rattle.theory.proofs.Index.{getD_upfrom}
+use Rattle.theory.proofs.Index.{get_or_upfrom}
 use Rattle.theory.proofs.Delta.{even_head, small_tail, upfrom_snoc}
 use Rattle.inverse.specs.WayBack.{EachOnce, place, inverse_order, from_bits, inverse_mask}
 use Rattle.inverse.proofs.Places.{long_order, place_at, inverse_is, order_back}
@@ -72,7 +72,7 @@ unchanged_back m =
     let o = unchanged_order m in
     let once : (g : ℕ → ℕ) → total g (unchanged_order m) ≡ total g (upfrom 0 (suc (suc m))) = λ g. ap (total g) (unchanged_is m) in
     inverse_is o o refl (λ j l.
-    let e : get_or o j 0 ≡ j = ap (λ r. get_or r j 0) (unchanged_is m) ∙ getD_upfrom 0 (suc (suc m)) j 0 (omega (arith, long_order (suc m) o once)) ∙ zero-add j in
+    let e : get_or o j 0 ≡ j = ap (λ r. get_or r j 0) (unchanged_is m) ∙ get_or_upfrom 0 (suc (suc m)) j 0 (omega (arith, long_order (suc m) o once)) ∙ zero-add j in
     ap (λ i. place i o) (sym e) ∙ place_at (suc m) o once j l ∙ sym e)
 
 module _ (m t : ℕ) (mid : List ℕ) (few : t < 2 ^ m) (sums : (g : ℕ → ℕ) → total g mid ≡ total g (upfrom 1 m))

@@ -11,7 +11,7 @@ use Rattle.theory.specs.Moves.{upfrom, orders, factorial, Pattern, patterns, Ris
 use Rattle.theory.proofs.Moves.{length_upfrom, length_patterns, pattern_shape}
 use Rattle.theory.proofs.Orders.{arrangements_first}
 use Rattle.theory.proofs.Distinct.{Distinct, patterns_distinct}
-use Rattle.theory.proofs.Index.{arranged, arrangement_at, pattern_at, mem_getD}
+use Rattle.theory.proofs.Index.{arranged, arrangement_at, pattern_at, mem_get_or}
 use Rattle.inverse.specs.PatternIndex.{rank, arrangement_of, index_of}
 use Rattle.inverse.proofs.Listed.{length_of}
 use Rattle.inverse.proofs.Rank.{ranked}
@@ -25,8 +25,8 @@ upfrom_rises f (suc n) top h = (omega arith, omega arith, upfrom_rises (suc f) n
 one_place : {A : Type 0} (l : List A) (i j : ℕ) (d : A) → Distinct l → i < length l → j < length l → get_or l i d ≡ get_or l j d → i ≡ j
 one_place [] i j d t h k e = absurd (omega arith)
 one_place (x ∷ l) zero zero d t h k e = refl
-one_place (x ∷ l) zero (suc j) d t h k e = absurd (t.0 (Memᴰ.cast e (mem_getD l j d (omega arith))))
-one_place (x ∷ l) (suc i) zero d t h k e = absurd (t.0 (Memᴰ.cast (sym e) (mem_getD l i d (omega arith))))
+one_place (x ∷ l) zero (suc j) d t h k e = absurd (t.0 (Memᴰ.cast e (mem_get_or l j d (omega arith))))
+one_place (x ∷ l) (suc i) zero d t h k e = absurd (t.0 (Memᴰ.cast (sym e) (mem_get_or l i d (omega arith))))
 one_place (x ∷ l) (suc i) (suc j) d t h k e = ap suc (one_place l i j d t.1 (omega arith) (omega arith) e)
 
 pub record Indexed (k : ℕ) (p : Pattern) : Type 0 where
@@ -69,5 +69,5 @@ indexed m p i =
 pub index_there : (m i : ℕ) (d : Pattern) → i < length (patterns (suc m)) → index_of (suc m) (get_or (patterns (suc m)) i d) ≡ i
 index_there m i d h =
     let p = get_or (patterns (suc m)) i d in
-    let t = indexed m p (mem_getD (patterns (suc m)) i d h) in
+    let t = indexed m p (mem_get_or (patterns (suc m)) i d h) in
     one_place (patterns (suc m)) (index_of (suc m) p) i d (patterns_distinct m).0 t.known h (t.there d)

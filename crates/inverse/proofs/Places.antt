@@ -15,7 +15,7 @@ use Rattle.theory.specs.Moves.{upfrom, total}
 use Rattle.theory.specs.Route.{count}
 use Rattle.theory.proofs.Moves.{length_upfrom, total_ones}
 use Rattle.theory.proofs.Orders.{mem_count, count_mem, count_other, in_range, listed_number}
-use Rattle.theory.proofs.Index.{get_d_map, mem_getD, getD_upfrom}
+use Rattle.theory.proofs.Index.{get_or_map, mem_get_or, get_or_upfrom}
 use Rattle.inverse.specs.WayBack.{EachOnce, place, inverse_order}
 
 pub place_below : (i : ℕ) (o : List ℕ) → Memᴰ i o → place i o < length o
@@ -55,7 +55,7 @@ unfolding count total
 count_twice [] x s t h l e f = absurd (omega arith)
 count_twice (y ∷ o) x zero zero h l e f = absurd (omega arith)
 count_twice (y ∷ o) x zero (suc t) h l e f =
-    rw (eq-eqb x y (sym e)) (omega (arith, count_mem x o (rw f at (mem_getD o t 0 (omega arith)))))
+    rw (eq-eqb x y (sym e)) (omega (arith, count_mem x o (rw f at (mem_get_or o t 0 (omega arith)))))
 count_twice (y ∷ o) x (suc s) zero h l e f = absurd (omega arith)
 count_twice (y ∷ o) x (suc s) (suc t) h l e f = omega (arith, count_twice o x s t (omega arith) (omega arith) e f)
 
@@ -83,7 +83,7 @@ module _ (k : ℕ) (o : List ℕ) (once : EachOnce k o) where
       omega (arith, count_twice o (get_or o t 0) s t h l e refl, once (λ y. cond (eqb (get_or o t 0) y) 1 0), count_once (get_or o t 0) 0 (suc k))
 
   pub entry_within : (j : ℕ) → j < length o → get_or o j 0 < length o
-  entry_within j h = omega (arith, in_range o 0 (suc k) once (get_or o j 0) (mem_getD o j 0 h), long_order)
+  entry_within j h = omega (arith, in_range o 0 (suc k) once (get_or o j 0) (mem_get_or o j 0 h), long_order)
 
   pub place_at : (j : ℕ) → j < length o → place (get_or o j 0) o ≡ j
   place_at j h = place_of (get_or o j 0) o j h refl (λ s i e. apart s j i h e)
@@ -98,13 +98,13 @@ module _ (k : ℕ) (o : List ℕ) (once : EachOnce k o) where
       (λ s l e. let s_below : s < length o = omega (arith, entry_within j h) in omega (arith, at_place s o (each_stands k o once s (omega (arith, long_order))), ap (λ p. get_or o p 0) (sym (at s s_below) ∙ e)))
     where
       at : (s : ℕ) → s < length o → get_or (map (λ i. place i o) (upfrom 0 (length o))) s 0 ≡ place s o
-      at s l = get_d_map (λ i. place i o) (upfrom 0 (length o)) s 0 0 (rw length_upfrom l) ∙ ap (λ i. place i o) (getD_upfrom 0 (length o) s 0 l ∙ zero-add s)
+      at s l = get_or_map (λ i. place i o) (upfrom 0 (length o)) s 0 0 (rw length_upfrom l) ∙ ap (λ i. place i o) (get_or_upfrom 0 (length o) s 0 l ∙ zero-add s)
 
-map_getD : (f : ℕ → ℕ) (o : List ℕ) (from : ℕ) → ((j : ℕ) → j < length o → f (from + j) ≡ get_or o j 0) → map f (upfrom from (length o)) ≡ o
+map_get_or : (f : ℕ → ℕ) (o : List ℕ) (from : ℕ) → ((j : ℕ) → j < length o → f (from + j) ≡ get_or o j 0) → map f (upfrom from (length o)) ≡ o
 unfolding upfrom
-map_getD f [] from h = refl
-map_getD f (x ∷ o) from h =
-    ap₂ ◌∷◌ (ap f (sym (add-zero from)) ∙ h 0 (omega arith)) (map_getD f o (suc from) (λ j l. ap f (omega arith) ∙ h (suc j) (omega arith)))
+map_get_or f [] from h = refl
+map_get_or f (x ∷ o) from h =
+    ap₂ ◌∷◌ (ap f (sym (add-zero from)) ∙ h 0 (omega arith)) (map_get_or f o (suc from) (λ j l. ap f (omega arith) ∙ h (suc j) (omega arith)))
 
 pub length_inverse : (o : List ℕ) → length (inverse_order o) ≡ length o
 unfolding inverse_order
@@ -112,7 +112,7 @@ length_inverse o = length-map (upfrom 0 (length o)) (λ i. place i o) ∙ length
 
 pub inverse_is : (o i : List ℕ) → length i ≡ length o → ((j : ℕ) → j < length o → place j i ≡ get_or o j 0) → inverse_order i ≡ o
 unfolding inverse_order
-inverse_is o i e h = ap (λ n. map (λ j. place j i) (upfrom 0 n)) e ∙ map_getD (λ j. place j i) o 0 (λ j l. ap (λ t. place t i) (zero-add j) ∙ h j l)
+inverse_is o i e h = ap (λ n. map (λ j. place j i) (upfrom 0 n)) e ∙ map_get_or (λ j. place j i) o 0 (λ j l. ap (λ t. place t i) (zero-add j) ∙ h j l)
 
 -- Of an order without repeats the inverse's inverse is the order.
 pub order_back : (k : ℕ) (o : List ℕ) → EachOnce k o → inverse_order (inverse_order o) ≡ o

@@ -15,7 +15,7 @@ use Rattle.theory.specs.Moves.{total, picks, orders, factorial, Rising}
 use Rattle.theory.specs.Route.{count}
 use Rattle.theory.proofs.Moves.{total_ones, total_picks, length_picks, length_rest, length_orders}
 use Rattle.theory.proofs.Orders.{mem_count, count_mem}
-use Rattle.theory.proofs.Index.{getD_flatMap, get_d_map, mem_getD, picks_at}
+use Rattle.theory.proofs.Index.{get_or_flat_map, get_or_map, mem_get_or, picks_at}
 use Rattle.inverse.specs.WayBack.{place}
 use Rattle.inverse.specs.PatternIndex.{below, rank}
 use Rattle.inverse.proofs.Places.{place_below, at_place}
@@ -74,7 +74,7 @@ module _ (n low top : ℕ) (l : List ℕ) (x : ℕ) (o : List ℕ) (rising : Ris
 
   taken_listed : Memᴰ taken (picks l)
   unfolding taken
-  taken_listed = mem_getD (picks l) (place x l) (0, []) (rw length_picks at_first)
+  taken_listed = mem_get_or (picks l) (place x l) (0, []) (rw length_picks at_first)
 
   first_taken : taken.0 ≡ x
   unfolding taken
@@ -102,8 +102,8 @@ module _ (n low top : ℕ) (l : List ℕ) (x : ℕ) (o : List ℕ) (rising : Ris
         few = rw is (digits_lt (rw long at at_first) r.few);
         there =
             ap (λ i. get_or (orders (suc n) l) i []) is
-            ∙ getD_flatMap f (factorial n) (0, []) [] (picks l) (λ p i. length-map (orders n p.1) (λ o. p.0 ∷ o) ∙ size p i) (place x l) (rank o) (rw length_picks at_first) r.few
-            ∙ get_d_map (λ o. taken.0 ∷ o) (orders n taken.1) (rank o) [] [] (rw (size taken taken_listed) r.few)
+            ∙ get_or_flat_map f (factorial n) (0, []) [] (picks l) (λ p i. length-map (orders n p.1) (λ o. p.0 ∷ o) ∙ size p i) (place x l) (rank o) (rw length_picks at_first) r.few
+            ∙ get_or_map (λ o. taken.0 ∷ o) (orders n taken.1) (rank o) [] [] (rw (size taken taken_listed) r.few)
             ∙ ap₂ (λ a b. a ∷ b) first_taken r.there;
       }
 

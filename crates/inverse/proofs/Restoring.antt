@@ -10,7 +10,7 @@ use lib.Seq.{drop-cons}
 use Rattle.theory.specs.Moves.{upfrom, Move, Rising}
 use Rattle.theory.specs.Route.{segments, reverses, reverse_if, placed, joined, reconnected}
 use Rattle.theory.proofs.Route.{flatten_segments, length_segments}
-use Rattle.theory.proofs.Index.{get_d_map}
+use Rattle.theory.proofs.Index.{get_or_map}
 use Rattle.inverse.specs.WayBack.{EachOnce, place, inverse_order, inverse_mask, way_back}
 use Rattle.inverse.proofs.Places.{place_below, at_place, each_stands, long_order}
 use Rattle.inverse.proofs.Bits.{turned_back}
@@ -30,7 +30,7 @@ module _ (o : List ℕ) (mask : ℕ) (ps : List (List ℕ)) (each : (i : ℕ) �
       let l = place_below i o m in
       rw (
         turned_back o mask (place i o) l,
-        get_d_map (λ s. reverse_if (reverses mask s) (get_or ps s [])) o (place i o) 0 [] l,
+        get_or_map (λ s. reverse_if (reverses mask s) (get_or ps s [])) o (place i o) 0 [] l,
         at_place i o m,
       )
       (reverse_if_twice (reverses mask i) (get_or ps i []))

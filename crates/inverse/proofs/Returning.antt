@@ -7,7 +7,7 @@ use native.Mathlib.Nat.{zero-add}
 use lib.ListN.{length, get_or, length-map}
 use Rattle.theory.specs.Moves.{upfrom, total, Pattern, Move, Rising}
 use Rattle.theory.proofs.Route.{total_shift}
-use Rattle.theory.proofs.Index.{get_d_map}
+use Rattle.theory.proofs.Index.{get_or_map}
 use Rattle.inverse.specs.WayBack.{EachOnce, place, inverse_order, segment_size, ends, inverse_cuts, way_back}
 use Rattle.inverse.proofs.Places.{place_below, at_place, each_stands, long_order, order_back, same_map, shift_map}
 use Rattle.inverse.proofs.Bits.{mask_back}
@@ -77,7 +77,7 @@ cuts_back k n m many rising once =
         let mem = each_stands k m.pattern.order once i (omega (arith, long_order k m.pattern.order once)) in
         let low = place_below i m.pattern.order mem in
         size_arrived n (map (segment_size m.cuts n) m.pattern.order) (place i m.pattern.order) (sizes_sum k n m.cuts m.pattern.order many rising once) (rw (length-map m.pattern.order _) low)
-        ∙ get_d_map (segment_size m.cuts n) m.pattern.order (place i m.pattern.order) 0 0 low
+        ∙ get_or_map (segment_size m.cuts n) m.pattern.order (place i m.pattern.order) 0 0 low
         ∙ ap (segment_size m.cuts n) (at_place i m.pattern.order mem)
 
 -- "Applying the way back of the way back gives the first move's cuts and index again."

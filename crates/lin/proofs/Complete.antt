@@ -11,7 +11,7 @@ use Rattle.theory.proofs.Moves.{pattern_shape, rearranges}
 use Rattle.theory.proofs.Route.{total_reconnected}
 use Rattle.theory.proofs.Links.{exchanged}
 use Rattle.lin.specs.Lin.{SameStops, Differs, OpenComplete, ClosedComplete, Sound}
-use Rattle.lin.proofs.Counts.{same_length, inside, inside_reverseAux}
+use Rattle.lin.proofs.Counts.{same_length, inside, inside_reverse_aux}
 use Rattle.lin.proofs.Gone.{gone, as_many_links, link_append, differs_gone}
 use Rattle.lin.proofs.Open.{open_reached}
 use Rattle.lin.proofs.Parted.{length_links}
@@ -62,4 +62,4 @@ same_tour P back s x y = rw back (turned P.depot)
     turned a =
         unfold inside links link_count in
         let e : reverse_aux (s ++ (a ∷ [])) (a ∷ []) ≡ a ∷ (reverse s ++ (a ∷ [])) = reverse_aux-append s (a ∷ []) (a ∷ []) ∙ ap (λ l. a ∷ l) (reverse_aux-eq s (a ∷ [])) in
-        omega (arith, ap (λ l. link_count x y (inside l)) e, inside_reverseAux x y (s ++ (a ∷ [])) a [])
+        omega (arith, ap (λ l. link_count x y (inside l)) e, inside_reverse_aux x y (s ++ (a ∷ [])) a [])

@@ -119,15 +119,15 @@ unfolding inside link_count
 inside_ends x y [] h = absurd (omega arith)
 inside_ends x y (a ∷ l) h = ends x y a l h
 
-pub inside_reverseAux : (x y : ℕ) (l : List ℕ) (a : ℕ) (r : List ℕ) → link_count x y (inside (reverse_aux l (a ∷ r))) ≡ link_count x y (links a l) + link_count x y (links a r)
+pub inside_reverse_aux : (x y : ℕ) (l : List ℕ) (a : ℕ) (r : List ℕ) → link_count x y (inside (reverse_aux l (a ∷ r))) ≡ link_count x y (links a l) + link_count x y (links a r)
 unfolding inside links link_count
-inside_reverseAux x y [] a r = omega arith
-inside_reverseAux x y (b ∷ l) a r = omega (arith, inside_reverseAux x y l b (a ∷ r), link_turned x y a b)
+inside_reverse_aux x y [] a r = omega arith
+inside_reverse_aux x y (b ∷ l) a r = omega (arith, inside_reverse_aux x y l b (a ∷ r), link_turned x y a b)
 
 pub inside_reverse : (x y : ℕ) (l : List ℕ) → link_count x y (inside (reverse l)) ≡ link_count x y (inside l)
 unfolding inside links link_count
 inside_reverse x y [] = refl
-inside_reverse x y (a ∷ l) = omega (arith, inside_reverseAux x y l a [])
+inside_reverse x y (a ∷ l) = omega (arith, inside_reverse_aux x y l a [])
 
 -- A link that does not touch a stop stands where that stop is left out.
 pub past_first : (x y a : ℕ) (l : List ℕ) → (x ≡ a → ⊥) → (y ≡ a → ⊥) → 0 < link_count x y (links a l) → 0 < link_count x y (inside l)

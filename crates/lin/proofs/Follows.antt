@@ -11,7 +11,7 @@ use Rattle.theory.specs.Route.{count, reverse_if}
 use Rattle.theory.specs.Links.{links, link_count}
 use Rattle.theory.proofs.Orders.{count_other}
 use Rattle.lin.specs.Lin.{AllDifferent}
-use Rattle.lin.proofs.Counts.{count_append, count_reverse, count_cons, count_head, count_more, first_or_later, link_self, inside, ends, inside_reverseAux, inside_reverse, past_first, Among}
+use Rattle.lin.proofs.Counts.{count_append, count_reverse, count_cons, count_head, count_more, first_or_later, link_self, inside, ends, inside_reverse_aux, inside_reverse, past_first, Among}
 
 pub count_none : (x : ℕ) → 0 < count x [] → ⊥
 unfolding count total
@@ -73,8 +73,8 @@ count_around z x p l = rw (reverse_aux-eq p (x ∷ l), count_append, count_rever
 module _ (q : List ℕ) (x : ℕ) (s : List ℕ) (d : AllDifferent q) (e : AllDifferent (x ∷ s)) (k : Among (inside q) (links x s)) where
   both_ways : (p l : List ℕ) → q ≡ reverse_aux p (x ∷ l) → ((t : List ℕ) × (s ≡ p ++ t)) × ((t : List ℕ) × (s ≡ l ++ t))
   both_ways p l i = (
-    follows x p s (λ z. omega (arith, d z, c z, count_cons z x p, count_cons z x l)) e (λ u v g. k u v (rw i (rw inside_reverseAux (omega arith)))),
-    follows x l s (λ z. omega (arith, d z, c z)) e (λ u v g. k u v (rw i (rw inside_reverseAux (omega arith)))),
+    follows x p s (λ z. omega (arith, d z, c z, count_cons z x p, count_cons z x l)) e (λ u v g. k u v (rw i (rw inside_reverse_aux (omega arith)))),
+    follows x l s (λ z. omega (arith, d z, c z)) e (λ u v g. k u v (rw i (rw inside_reverse_aux (omega arith)))),
   )
     where
       c : (z : ℕ) → count z q ≡ count z p + count z (x ∷ l)

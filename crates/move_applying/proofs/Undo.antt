@@ -10,7 +10,7 @@ use Rattle.theory.specs.Moves.{Pattern, patterns, total, upfrom}
 use Rattle.theory.specs.Route.{count}
 use Rattle.theory.specs.Polish.{move_at}
 use Rattle.theory.proofs.Moves.{rearranges}
-use Rattle.theory.proofs.Index.{mem_getD}
+use Rattle.theory.proofs.Index.{mem_get_or}
 use Rattle.theory.proofs.Route.{total_reconnected}
 use Rattle.theory.proofs.Stops.{as_many}
 use Rattle.move_applying.specs.Applying.{Appliable, Applied, Undoable, Undone}
@@ -26,7 +26,7 @@ module _ (k pattern : ℕ) (positions route journal route' journal' : List ℕ) 
       let m = move_at (patterns k) positions pattern in
       let s = ok.cut_set in
       ap (total g) done.route_after
-      ∙ total_reconnected g (length route) m route s.rising (λ f. rw s.many (once k m.pattern (mem_getD (patterns k) pattern _ ok.listed) s.least f))
+      ∙ total_reconnected g (length route) m route s.rising (λ f. rw s.many (once k m.pattern (mem_get_or (patterns k) pattern _ ok.listed) s.least f))
 
   -- Each stop stands in the route as often as before.
   pub apply_keeps_stops : (x : ℕ) → count x route' ≡ count x route

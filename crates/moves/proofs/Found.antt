@@ -10,7 +10,7 @@ use Rattle.theory.specs.Moves.{Pattern, patterns}
 use Rattle.theory.specs.Tables.{CutSet, Order, ForK}
 use Rattle.theory.specs.declared.KOptReconnection.{KOptReconnection}
 use Rattle.theory.proofs.Moves.{rearranges}
-use Rattle.theory.proofs.Index.{mem_getD, length_pattern}
+use Rattle.theory.proofs.Index.{mem_get_or, length_pattern}
 use Rattle.theory.proofs.ForK.{pattern_for_k}
 use Rattle.patterns.specs.Enumeration.{pattern, HoldsPattern}
 use Rattle.moves.specs.Moves.{pattern_values}
@@ -26,7 +26,7 @@ listed_once (suc m) p i h = record { once = rearranges m p i }
 
 module _ (k index : ℕ) (known : index < length (patterns k)) (found : KOptReconnection) (holds : HoldsPattern k (pattern k index) found) where
   member : Memᴰ (pattern k index) (patterns k)
-  member = mem_getD (patterns k) index (record { order = []; mask = 0 }) known
+  member = mem_get_or (patterns k) index (record { order = []; mask = 0 }) known
 
   size : length (pattern k index).order ≡ k + 1
   size = length_pattern k (pattern k index) member ∙ sym (add-one k)

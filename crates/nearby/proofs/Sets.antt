@@ -14,7 +14,7 @@ use lib.Ieee.{Float, lt}
 use borrow.Author.Tests.{not-true, eqb-false, ltb-false}
 use Rattle.theory.specs.Moves.{upfrom}
 use Rattle.theory.specs.Refusals.{any}
-use Rattle.theory.proofs.Moves.{of_flatMap, upfrom_range}
+use Rattle.theory.proofs.Moves.{of_flat_map, upfrom_range}
 use Rattle.theory.proofs.Distinct.{Distinct, distinct_upfrom, distinct_append}
 use Rattle.nearby_nearest.specs.Neighbours.{passing, nearest, nearest_first, neighbours, eligible, distance}
 use Rattle.nearby_nearest.proofs.Passing.{of_passing}
@@ -77,7 +77,7 @@ module _ (distances : List Float) (n m count : ℕ) where
           Memᴰ s (cond b [] (flat_map (λ f. map (λ s. f ∷ s) (branch own (k - 2) (own (k - 1) f))) (upfrom m (n - k * m + 1 - m)))) → (length s ≡ k) × Spaced m 0 s n
       go true e i = absurd (Memᴰ.not-nil i)
       go false e i =
-          let t = of_flatMap those_of (upfrom m (n - k * m + 1 - m)) i in
+          let t = of_flat_map those_of (upfrom m (n - k * m + 1 - m)) i in
           let f = t.0 in
           let r = upfrom_range f m (n - k * m + 1 - m) t.1 in
           let w = Memᴰ.of_map (λ s. f ∷ s) (branch own (k - 2) (own (k - 1) f)) t.2 in
@@ -176,7 +176,7 @@ module _ (own : ℕ → ℕ → List ℕ) (distinct_own : (missing cut : ℕ) �
       distinct_append (of f) (flat_map of fs) (distinct_map (λ s. f ∷ s) (λ x y e. tail-eq_of_cons-eq e) (branch own (k - 2) (own (k - 1) f)) (branch_distinct (k - 2) (own (k - 1) f) (distinct_own (k - 1) f))) (firsts_distinct k fs d.1)
       (λ z i j.
       let t = Memᴰ.of_map (λ s. f ∷ s) (branch own (k - 2) (own (k - 1) f)) i in
-      let u = of_flatMap of fs j in
+      let u = of_flat_map of fs j in
       let w = Memᴰ.of_map (λ s. u.0 ∷ s) (branch own (k - 2) (own (k - 1) u.0)) u.2 in
       d.0 (Memᴰ.cast (ap (λ (r : List ℕ). get_or r 0 0) (t.2 ∙ sym w.2)) u.1))
     where

@@ -12,7 +12,7 @@ use lib.Seq.{take-suc-set, drop-cons}
 use lib.Ieee.{Float}
 use borrow.Author.Tests.{leb-true}
 use Rattle.theory.proofs.Judged.{and_true}
-use Rattle.theory.proofs.Index.{mem_getD}
+use Rattle.theory.proofs.Index.{mem_get_or}
 use Rattle.nearby_nearest.specs.Neighbours.{eligible, neighbours}
 use Rattle.nearby_nearest.proofs.Passing.{of_passing}
 use Rattle.nearby_last_cut.specs.Pouring.{pour}
@@ -41,7 +41,7 @@ kept_range distances n m count missing cut p i =
 pub kept_below : (distances : List Float) (n m count missing cut : ℕ) (list : List ℕ) → list ≡ eligible distances n m count missing cut → 1 ≤ m → 0 < missing → cut < n →
     (i : ℕ) → i < length list → get_or list i 0 < n
 kept_below distances n m count missing cut list e h k l i w =
-    let r = kept_range distances n m count missing cut (get_or list i 0) (subst (λ (l : List ℕ). Memᴰ (get_or list i 0) l) e (mem_getD list i 0 w)) in
+    let r = kept_range distances n m count missing cut (get_or list i 0) (subst (λ (l : List ℕ). Memᴰ (get_or list i 0) l) e (mem_get_or list i 0 w)) in
     let z : 0 < m * missing = mul-pos h k in
     omega arith
 

@@ -14,7 +14,7 @@ use lib.Pow.{pow_mono}
 use Rattle.theory.specs.Moves.{Pattern, total, upfrom}
 use Rattle.theory.specs.Tables.{pattern_rows}
 use Rattle.theory.specs.Refusals.{any}
-use Rattle.theory.proofs.Index.{mem_getD}
+use Rattle.theory.proofs.Index.{mem_get_or}
 use Rattle.theory.proofs.Moves.{total_ones, length_upfrom}
 use Rattle.theory.proofs.Rows.{length_rows, row_at}
 use Rattle.pattern_lists.specs.Lists.{fine_row, no_row, row}
@@ -118,7 +118,7 @@ module _ {t : List ℕ} {k : ℕ} {ps : List Pattern} {orders masks : List ℕ} 
     taking_misfit : 2 ≤ k → k ≤ 5 → ((p : Pattern) (r : List ℕ) → row_of (drop at t) ≡ some (p, r) → Fits (k + 1) p → ⊥) → any (λ p. not (fine_row k p)) ps ≡ true
     taking_misfit least most n =
         let f = row_in_front (60000 - i) (drop at t) (get_or ps i no_row) (drop (suc i) ps) (g.left ∙ ap some next_row) in
-        some_listed (λ p. not (fine_row k p)) ps (get_or ps i no_row) (mem_getD ps i no_row (omega arith)) (misfit k (get_or ps i no_row) least most (n (get_or ps i no_row) f.0 f.1))
+        some_listed (λ p. not (fine_row k p)) ps (get_or ps i no_row) (mem_get_or ps i no_row (omega arith)) (misfit k (get_or ps i no_row) least most (n (get_or ps i no_row) f.0 f.1))
 
     taking_on : (order : List ℕ) (mask next : ℕ) → length orders ≡ length masks * suc k → length order ≡ k + 1 →
         row_of (drop at t) ≡ some (record { order = order; mask = mask }, drop next t) → Taking t k ps (put_row orders k i order) (set masks i mask) (i + 1) next

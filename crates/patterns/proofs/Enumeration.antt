@@ -9,7 +9,7 @@ use native.Mathlib.Omega.{arith}
 use lib.ListN.{length, take, drop, set, length-map}
 use lib.Seq.{sets, drop-cons, drop-length, take_at}
 use Rattle.theory.specs.Moves.{orders, upfrom, patterns}
-use Rattle.theory.proofs.Index.{length_pattern, mem_getD, take_upfrom}
+use Rattle.theory.proofs.Index.{length_pattern, mem_get_or, take_upfrom}
 use Rattle.pattern_orders.specs.Rows.{rows, permutations}
 use Rattle.patterns.specs.Enumeration.{CutCount, no_pattern, pattern, orders_of, masks_of}
 use Rattle.patterns.specs.Turn.{middle_orders}
@@ -50,7 +50,7 @@ module _ (k : ℕ) where
         sets (sets out (index * (k + 1)) (pattern k index).order) ((index + 1) * (k + 1)) (orders_of (drop (index + 1) (patterns k))) ≡ sets out (index * (k + 1)) (orders_of (drop index (patterns k)))
     unfolding flatten
     next_orders out =
-        let e : suc index * (k + 1) ≡ index * (k + 1) + length (pattern k index).order = omega (arith, suc-mul index (k + 1), length_pattern k (pattern k index) (mem_getD (patterns k) index no_pattern known)) in
+        let e : suc index * (k + 1) ≡ index * (k + 1) + length (pattern k index).order = omega (arith, suc-mul index (k + 1), length_pattern k (pattern k index) (mem_get_or (patterns k) index no_pattern known)) in
         rw (add-one index, e, drop-cons (patterns k) index no_pattern known) (sym (sets_append out (index * (k + 1)) (pattern k index).order (orders_of (drop (suc index) (patterns k)))))
 
     pub next_masks : (out : List ℕ) → sets (set out index (pattern k index).mask) (index + 1) (masks_of (drop (index + 1) (patterns k))) ≡ sets out index (masks_of (drop index (patterns k)))

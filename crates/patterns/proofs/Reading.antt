@@ -9,7 +9,7 @@ use lib.Seq.{sets, take_at}
 use Rattle.theory.specs.Moves.{patterns}
 use Rattle.theory.specs.Answers.{pattern_of}
 use Rattle.theory.specs.declared.KOptReconnection.{KOptReconnection}
-use Rattle.theory.proofs.Index.{length_pattern, mem_getD, get_d_map}
+use Rattle.theory.proofs.Index.{length_pattern, mem_get_or, get_or_map}
 use Rattle.patterns.specs.Enumeration.{Listed, no_pattern, pattern, masks_of, Enumerated, HoldsPattern}
 use Rattle.pattern_orders.proofs.Stores.{sets_first}
 use Rattle.patterns.proofs.Strides.{row_at}
@@ -22,7 +22,7 @@ drop_replicate (suc m) (suc n) a = drop_replicate m n a ∙ ap (λ (i : ℕ). re
 
 module _ (k index : ℕ) (listed : Listed k index) where
   pub length_listed : length (pattern k index).order ≡ k + 1
-  length_listed = omega (arith, length_pattern k (pattern k index) (mem_getD (patterns k) index no_pattern listed.known))
+  length_listed = omega (arith, length_pattern k (pattern k index) (mem_get_or (patterns k) index no_pattern listed.known))
 
   -- The struct holds the pattern.
   pub held : (r : KOptReconnection) → HoldsPattern k (pattern k index) r → pattern_of r ≡ pattern k index
@@ -36,13 +36,13 @@ module _ (k index : ℕ) (listed : Listed k index) where
     row_of =
         rw e.orders
         (row_at (k + 1) (map (λ p. p.order) (patterns k)) (each_order k) index (rw length-map listed.known) (drop (length (patterns k) * (k + 1)) orders₀)
-        ∙ get_d_map (λ p. p.order) (patterns k) index no_pattern [] listed.known)
+        ∙ get_or_map (λ p. p.order) (patterns k) index no_pattern [] listed.known)
 
     pub mask_of : get_or masks index 0 ≡ (pattern k index).mask
     mask_of =
         rw e.masks
         (get_or-append (masks_of (patterns k)) (drop (length (patterns k)) masks₀) 0 index (rw length-map listed.known)
-        ∙ get_d_map (λ p. p.mask) (patterns k) index no_pattern 0 listed.known)
+        ∙ get_or_map (λ p. p.mask) (patterns k) index no_pattern 0 listed.known)
 
     -- The row in the first of six places.
     pub row_in_six : (six : List ℕ) → six ≡ sets (replicate 6 0) 0 (take (index * (k + 1) + (k + 1) - index * (k + 1)) (drop (index * (k + 1)) orders)) →

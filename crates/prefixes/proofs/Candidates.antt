@@ -17,7 +17,7 @@ use Rattle.theory.proofs.Moves.{Shape, length_upfrom, total_ones}
 use Rattle.theory.proofs.Orders.{in_range, count_other}
 use Rattle.theory.proofs.Cuts.{rising_below}
 use Rattle.theory.proofs.Delta.{length_reverse_if, joined_split, even_head, small_tail, straight}
-use Rattle.reconnection.proofs.Reversal.{get_d_reverse}
+use Rattle.reconnection.proofs.Reversal.{get_or_reverse}
 use Rattle.standing.specs.Places.{Has}
 use Rattle.standing.specs.Standing.{Stands, TailSet}
 use Rattle.prefixes.specs.Ways.{size_of, known_size, Laid, Way}
@@ -62,7 +62,7 @@ stands_there old wanted front back a b true h l e =
     let x : length (slice a b old) - 1 - i ≡ j = omega (arith, n, s) in
     ap (λ w. get_or w (length front + i) 0) e
     ∙ within_at front q back i (omega (arith, n, m, s))
-    ∙ get_d_reverse (slice a b old) i (omega (arith, n, s))
+    ∙ get_or_reverse (slice a b old) i (omega (arith, n, s))
     ∙ ap (λ z. get_or (slice a b old) z 0) x
     ∙ part_at a b old j (omega arith))
 
@@ -240,7 +240,7 @@ module _ (m n j tail : ℕ) (old wanted cs : List ℕ) (p : Pattern) (shape : Sh
   -- The goal holds each place that lies before a place of the tail by the stops of the known ones.
   pub way_of : (goal : ℕ) → 1 ≤ j → j ≤ suc m → ((g : ℕ) → Has tail (get_or cs (j - 1) 0 - get_or cs 0 0 + g) → Has goal g) →
       Way n (suc m) j old wanted cs 0 (suc m - j) m goal (get_or cs 0 0) shape.middle
-  way_of goal some_Known few lower =
+  way_of goal some_known few lower =
       record {
         many = omega (arith, total_ones shape.middle, shape.once (λ x. 1), total_ones (upfrom 1 m), length_upfrom 1 m);
         within = inside;
@@ -250,7 +250,7 @@ module _ (m n j tail : ℕ) (old wanted cs : List ℕ) (p : Pattern) (shape : Sh
         end = placed_end;
         laid = laid_middle;
         ends = λ g e.
-            let sizes = sizes_from n (suc m) cs many rising j few 1 m (omega arith) some_Known (omega arith) in
+            let sizes = sizes_from n (suc m) cs many rising j few 1 m (omega arith) some_known (omega arith) in
             let z : get_or cs (j - 1) 0 - get_or cs 0 0 + g ≡ placed_end = omega (arith, e, sizes, shape.once (known_size j cs)) in
             lower g (rw z (tails.marked placed_end (omega (arith, end_is, rising_below n 0 cs m rising (omega (arith, many)))) tail_same));
       }

@@ -11,7 +11,7 @@ use Rattle.theory.specs.Moves.{patterns, Rising}
 use Rattle.theory.specs.Route.{reconnected}
 use Rattle.theory.specs.Polish.{move_at}
 use Rattle.theory.proofs.Moves.{pattern_shape}
-use Rattle.theory.proofs.Index.{mem_getD}
+use Rattle.theory.proofs.Index.{mem_get_or}
 use Rattle.theory.proofs.Cuts.{rising_below}
 use Rattle.theory.proofs.Delta.{gap}
 use Rattle.first_move.specs.FirstMove.{turns_into}
@@ -87,7 +87,7 @@ module _ (m known n : ℕ) (old wanted cuts stands ends parts : List ℕ) (head 
       (i : ℕ) → i < length (patterns (suc m)) → turns_into (suc m) old wanted (cs, i) ≡ false
   nothing_there ahead row goal places setting starts lower nowhere i h =
       let p = get_or (patterns (suc m)) i (record { order = []; mask = 0 }) in
-      let shape = pattern_shape m p (mem_getD (patterns (suc m)) i (record { order = []; mask = 0 }) h) in
+      let shape = pattern_shape m p (mem_get_or (patterns (suc m)) i (record { order = []; mask = 0 }) h) in
       let c = get_or cs 0 0 in
       let low : c ≤ n = rising_below n 0 cs 0 rising_n (omega (arith, setting.many)) in
       other_route (reconnected (move_at (patterns (suc m)) cs i) old) wanted

@@ -9,9 +9,9 @@ use lib.ListN.{length, get_or, length-reverse, get_or-append}
 use lib.Seq.{get_or_at}
 use borrow.Author.Tests.{ltb-true, ltb-false}
 
-pub get_d_reverse : (l : List ℕ) (i : ℕ) → i < length l → get_or (reverse l) i 0 ≡ get_or l (length l - 1 - i) 0
-get_d_reverse [] i h = absurd (omega arith)
-get_d_reverse (x ∷ l) i h = rw reverse-cons (go (ltb i (length l)) refl (get_d_reverse l i))
+pub get_or_reverse : (l : List ℕ) (i : ℕ) → i < length l → get_or (reverse l) i 0 ≡ get_or l (length l - 1 - i) 0
+get_or_reverse [] i h = absurd (omega arith)
+get_or_reverse (x ∷ l) i h = rw reverse-cons (go (ltb i (length l)) refl (get_or_reverse l i))
   where
     go : (b : Bool) → ltb i (length l) ≡ b → (i < length l → get_or (reverse l) i 0 ≡ get_or l (length l - 1 - i) 0) → get_or (reverse l ++ (x ∷ [])) i 0 ≡ get_or (x ∷ l) (suc (length l) - 1 - i) 0
     go true e ih =

@@ -12,7 +12,7 @@ use Rattle.theory.specs.Route.{segments, reverses, reverse_if, placed, joined, r
 use Rattle.theory.proofs.Moves.{total_ones}
 use Rattle.theory.proofs.Orders.{in_range}
 use Rattle.theory.proofs.Route.{total_reconnected}
-use Rattle.theory.proofs.Index.{mem_getD}
+use Rattle.theory.proofs.Index.{mem_get_or}
 use Rattle.theory.proofs.Delta.{length_reverse_if}
 use Rattle.theory.proofs.Stores.{drop_take}
 use Rattle.reconnection.specs.Segments.{bound, Reconnectable}
@@ -98,7 +98,7 @@ module _ (r cs o out₀ : List ℕ) (mask : ℕ) (ready : Reconnectable r cs o o
 
   -- A place of the order names a segment.
   pub named : (i : ℕ) → i < length o → get_or o i 0 ≤ length cs
-  named i h = omega (arith, in_range o 0 (suc (length cs)) ready.once.once (get_or o i 0) (mem_getD o i 0 h))
+  named i h = omega (arith, in_range o 0 (suc (length cs)) ready.once.once (get_or o i 0) (mem_get_or o i 0 h))
 
   -- One turn: the segment at `position` lies at a..b, and goes into `out` at `at`.
   module _ (out : List ℕ) (at position a b : ℕ) (flip : Bool) (more : position < length o)

@@ -65,7 +65,7 @@ fn put_segment(route: &[u32], a: usize, b: usize, flip: bool, out: &mut [u32], a
 // The route after the pattern is applied at the cuts, into out.
 pub fn reconnect(route: &[u32], cuts: &[usize], order: &[u8], mask: u8, out: &mut [u32])
     requires { Reconnectable route.now cuts.now order.now out.old }
-    ensures { out.new ≡ reconnected (record { cuts = cuts.entry.now; pattern = record { order = order.entry.now; mask = mask } }) route.now }
+    ensures { out.new ≡ reconnected (record { cuts = cuts.now; pattern = record { order = order.now; mask = mask } }) route.now }
 {
     let n = route.len();
     let mut at = 0;

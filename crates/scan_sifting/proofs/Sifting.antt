@@ -11,7 +11,7 @@ use lib.ListN.{length, get_or, set, take, drop, length-append, length-set, lengt
 use lib.Seq.{slice, get_or-drop, get_or-take, take-set-le, length-take-le, sets-eq, take_at, drop_at}
 use borrow.Author.Tests.{eq-eqb, ne_eqb}
 use Rattle.theory.specs.Moves.{Pattern}
-use Rattle.theory.proofs.Index.{get_d_map}
+use Rattle.theory.proofs.Index.{get_or_map}
 use Rattle.scan_joints.specs.States.{row, no_pattern, Patterned}
 use Rattle.scan_joints.proofs.Rows.{row_read}
 use Rattle.scan_shared.specs.Filling.{open_by}
@@ -143,7 +143,7 @@ sifted_length ps ns = length-map ns _
 
 pub sifted_at : (ps : List Pattern) (ns : List ℕ) (j : ℕ) → j < length ns → get_or (sifted_list ps ns) j no_pattern ≡ get_or ps (get_or ns j 0) no_pattern
 unfolding sifted_list
-sifted_at ps ns j h = get_d_map (λ i. get_or ps i no_pattern) ns j 0 no_pattern h
+sifted_at ps ns j h = get_or_map (λ i. get_or ps i no_pattern) ns j 0 no_pattern h
 
 pub sifted_patterned : {o : ℕ → Bool} {k : ℕ} {ps : List Pattern} {rows hand : List ℕ} {count limit : ℕ} → Sifted o rows count hand → limit ≤ count → count ≤ 383 → limit ≤ length ps →
     Patterned k ps rows → Patterned k (sifted_list ps (opens o limit)) hand

@@ -38,9 +38,9 @@ use Rattle.scan_step.proofs.Closing.{shut_idle}
 use Rattle.scan_step.proofs.Ends.{ends_told}
 use Rattle.scan_step.proofs.Counting.{count_to, count_next, count_least, up_to}
 
-decBool : (b : Bool) → (b ≡ true) ⊎ (b ≡ false)
-decBool true = inl refl
-decBool false = inr refl
+dec_bool : (b : Bool) → (b ≡ true) ⊎ (b ≡ false)
+dec_bool true = inl refl
+dec_bool false = inr refl
 
 -- ---- the last cut as the array has it
 
@@ -194,7 +194,7 @@ module _ {T : Trip} {members rows chains : List ℕ} {patterns : ℕ} {signs : L
           ∙ and-false (feasible (problem T) (reconnected (move_at ps (first_cuts first ++ (t ∷ [])) x) r))
 
       no_gain : (t x : ℕ) → last_cut cuts ≤ t → t < hit → x < length ps → improves_at (problem T) ps r first t x ≡ false
-      no_gain t x h l i = by (decBool some) (decBool (open_by signs blocked x))
+      no_gain t x h l i = by (dec_bool some) (dec_bool (open_by signs blocked x))
         where
           by : (some ≡ true) ⊎ (some ≡ false) → (open_by signs blocked x ≡ true) ⊎ (open_by signs blocked x ≡ false) → improves_at (problem T) ps r first t x ≡ false
           by s (inr e) = closed_idle t x h l i e

@@ -16,7 +16,7 @@ use Rattle.theory.specs.Moves.{Pattern, Move, upfrom, cut_sets, next_cuts, candi
 use Rattle.theory.specs.Polish.{move_at}
 use Rattle.theory.specs.Refusals.{cut_count, stop_count}
 use Rattle.theory.proofs.Moves.{listed_cuts, cuts_listed, length_candidates}
-use Rattle.theory.proofs.Index.{mem_getD, get_d_map, getD_flatMap}
+use Rattle.theory.proofs.Index.{mem_get_or, get_or_map, get_or_flat_map}
 use Rattle.theory.proofs.Distinct.{Distinct, cut_sets_distinct}
 use Rattle.theory.proofs.Dictionary.{Before, Ascending, cut_sets_ascending}
 use Rattle.theory.proofs.Walk.{onward, combinations_first, After, next_after, rest, rest_first, rest_none, rest_cons, rest_split, rest_next, rest_last}
@@ -64,7 +64,7 @@ sets_at (s ∷ css) d zero h = here s css
 sets_at (s ∷ css) d (suc q) h = behind s (get_or css q []) css (other (same_cuts s (get_or css q [])) refl) ∙ ap suc (sets_at css d.1 q (omega arith))
   where
     other : (b : Bool) → same_cuts s (get_or css q []) ≡ b → b ≡ false
-    other true e = absurd (d.0 (rw (same_is s (get_or css q []) e) (mem_getD css q [] (omega arith))))
+    other true e = absurd (d.0 (rw (same_is s (get_or css q []) e) (mem_get_or css q [] (omega arith))))
     other false e = refl
 
 -- A listed set stands at its number.
@@ -90,7 +90,7 @@ before_asym (x ∷ xs) (y ∷ ys) (inr h) (inr i) = before_asym xs ys h.1 i.1
 ascending_at : (l : List (List ℕ)) → Ascending Before l → (x y : ℕ) → x < y → y < length l → Before (get_or l x []) (get_or l y [])
 ascending_at [] a x y h b = absurd (omega arith)
 ascending_at (s ∷ l) a x zero h b = absurd (omega arith)
-ascending_at (s ∷ l) a zero (suc y) h b = a.0 (get_or l y []) (mem_getD l y [] (omega arith))
+ascending_at (s ∷ l) a zero (suc y) h b = a.0 (get_or l y []) (mem_get_or l y [] (omega arith))
 ascending_at (s ∷ l) a (suc x) (suc y) h b = ascending_at l a.1 x y (omega arith) (omega arith)
 
 module _ (ps : List Pattern) (k n : ℕ) where
@@ -121,7 +121,7 @@ module _ (ps : List Pattern) (k n : ℕ) where
     pub place_known : IsPlace ps k n (place_of ps k n x)
     unfolding place_of cut_sets
     place_known =
-        let l = listed_cuts n (suc n) 0 k (get_or (cut_sets k n) (x / length ps) []) (omega arith) (mem_getD (cut_sets k n) (x / length ps) [] set_of) in
+        let l = listed_cuts n (suc n) 0 k (get_or (cut_sets k n) (x / length ps) []) (omega arith) (mem_get_or (cut_sets k n) (x / length ps) [] set_of) in
         record { many = l.0; rising = l.1; known = mod-lt x some_patterns }
 
   -- ---- and a place has one number
@@ -151,8 +151,8 @@ module _ (ps : List Pattern) (k n : ℕ) where
     unfolding candidates number_of
     candidate_at d =
         let t = at_number (cut_sets k n) p.cuts listed in
-        getD_flatMap (λ cs. map (λ q. record { cuts = cs; pattern = q }) ps) (length ps) [] d (cut_sets k n) (λ cs i. length-map ps _) (sets_before p.cuts (cut_sets k n)) p.index t.0 is.known
-        ∙ get_d_map _ ps p.index (record { order = []; mask = 0 }) d is.known
+        get_or_flat_map (λ cs. map (λ q. record { cuts = cs; pattern = q }) ps) (length ps) [] d (cut_sets k n) (λ cs i. length-map ps _) (sets_before p.cuts (cut_sets k n)) p.index t.0 is.known
+        ∙ get_or_map _ ps p.index (record { order = []; mask = 0 }) d is.known
         ∙ ap (λ cs. move_at ps cs p.index) t.1
 
     pub fits : k ≤ suc n

@@ -18,7 +18,7 @@ use Rattle.theory.specs.Route.{Problem, count}
 use Rattle.theory.specs.Polish.{search_of, move_at, KOptimal, ForCuts}
 use Rattle.theory.proofs.Scan.{Run}
 use Rattle.theory.proofs.Moves.{length_candidates, length_cut_sets}
-use Rattle.theory.proofs.Index.{mem_getD}
+use Rattle.theory.proofs.Index.{mem_get_or}
 use Rattle.theory.proofs.Dictionary.{Before}
 use Rattle.theory.proofs.Route.{feasible_iff}
 use Rattle.slices.specs.Places.{Place, first_place, IsPlace, number_of, place_of, from_place, before_place}
@@ -145,7 +145,7 @@ module _ (P : Problem) (ps : List Pattern) (k : ℕ) (p : Place) (r : List ℕ) 
         let l : y < x = (in_order ps k (length r) p' p is' is).1 e in
         let z = move_at ps [] 0 in
         let g : get_or (take x moves) y z ≡ move_at ps p'.cuts p'.index = get_or-take x moves y z l ∙ candidate_at ps k (length r) p' is' z in
-        h (move_at ps p'.cuts p'.index) (Memᴰ.cast (sym g) (mem_getD (take x moves) y z (omega (arith, short)))),
+        h (move_at ps p'.cuts p'.index) (Memᴰ.cast (sym g) (mem_get_or (take x moves) y z (omega (arith, short)))),
     λ h m i.
         let z = move_at ps [] 0 in
         let v = in_list (take x moves) z m i in

@@ -11,7 +11,7 @@ use Rattle.theory.specs.Moves.{Pattern, upfrom, total, next_cuts}
 use Rattle.theory.specs.Route.{Problem, reconnected}
 use Rattle.theory.specs.Polish.{search_of, move_at, ForCuts}
 use Rattle.theory.specs.Tables.{CutSet}
-use Rattle.theory.proofs.Index.{mem_getD}
+use Rattle.theory.proofs.Index.{mem_get_or}
 use Rattle.theory.proofs.Route.{total_reconnected}
 use Rattle.theory.proofs.Stops.{as_many}
 use Rattle.theory.proofs.Cuts.{first_set, next_set, enough}
@@ -63,7 +63,7 @@ module _ (P : Problem) (ps : List Pattern) (k A : ℕ) (p₀ : Place) (r₀ : Li
           cut_set = first_set k (length r₀) s.least s.most s.short fits;
           known = omega (arith, few);
           same = λ g.
-              total_reconnected g (length r₀) (move_at ps (pre ++ ((t + h) ∷ [])) x) r q.rising (λ f. rw q.many (good (move_at ps (pre ++ ((t + h) ∷ [])) x).pattern (mem_getD ps x _ few) f))
+              total_reconnected g (length r₀) (move_at ps (pre ++ ((t + h) ∷ [])) x) r q.rising (λ f. rw q.many (good (move_at ps (pre ++ ((t + h) ∷ [])) x).pattern (mem_get_or ps x _ few) f))
               ∙ now.same g;
           counted = omega (arith, now.counted);
         }

@@ -98,15 +98,15 @@ module _ (t : List ℕ) {r : List ℕ} {k : ℕ} (k_read : value (ascii "k=") t 
         unfolding header bind
         end_missing e = rw (k_read, allowance_read, locations_read, depot_read, e)
 
-        module _ {w : List ℕ} {end : ℕ} (EndRead : value (ascii "end=") v ≡ some (end, w)) where
+        module _ {w : List ℕ} {end : ℕ} (end_read : value (ascii "end=") v ≡ some (end, w)) where
           pub no_location : locations < 1 → header t ≡ none
           unfolding header bind
-          no_location h = rw (k_read, allowance_read, locations_read, depot_read, EndRead, lt-leb 1 locations h)
+          no_location h = rw (k_read, allowance_read, locations_read, depot_read, end_read, lt-leb 1 locations h)
 
           pub many_locations : 96 < locations → header t ≡ none
           unfolding header bind
-          many_locations h = rw (k_read, allowance_read, locations_read, depot_read, EndRead, le-leb 1 locations (omega arith), lt-leb locations 96 h)
+          many_locations h = rw (k_read, allowance_read, locations_read, depot_read, end_read, le-leb 1 locations (omega arith), lt-leb locations 96 h)
 
           pub header_read : 1 ≤ locations → locations ≤ 96 → header t ≡ some (record { k = k; allowance = allowance; locations = locations; depot = depot; end = end }, w)
           unfolding header bind
-          header_read h m = rw (k_read, allowance_read, locations_read, depot_read, EndRead, le-leb 1 locations h, le-leb locations 96 m)
+          header_read h m = rw (k_read, allowance_read, locations_read, depot_read, end_read, le-leb 1 locations h, le-leb locations 96 m)

@@ -8,7 +8,7 @@ use Prim.Native.Nat.{ℕ, zero, suc, ◌^◌, ◌<◌}
 use native.Mathlib.Omega.{arith}
 use lib.ListN.{length}
 use Rattle.theory.specs.Moves.{upfrom, picks, orders, Pattern, arrangements, patterns, combinations, cut_sets, Move, candidates, Rising}
-use Rattle.theory.proofs.Moves.{of_flatMap, upfrom_range, cuts_listed, listed_cuts, Shape, pattern_shape}
+use Rattle.theory.proofs.Moves.{of_flat_map, upfrom_range, cuts_listed, listed_cuts, Shape, pattern_shape}
 use Rattle.theory.proofs.Orders.{patterns_complete}
 use Rattle.theory.proofs.Distinct.{picks_keys, picks_sub, patterns_distinct}
 
@@ -51,13 +51,13 @@ module _ {A B : Type 0} (before : A → A → Type 0) (before' : B → B → Typ
   ascending_of_map f h (x ∷ xs) a = (λ y i. h x y (a.0 (f y) (Memᴰ.map f i)), ascending_of_map f h xs a.1)
 
   -- Lists that are put one after the other, by the order of what they were made from.
-  ascending_flatMap : (f : A → List B) (l : List A) → Ascending before l → ((x : A) → Memᴰ x l → Ascending before' (f x)) →
+  ascending_flat_map : (f : A → List B) (l : List A) → Ascending before l → ((x : A) → Memᴰ x l → Ascending before' (f x)) →
       ((x y : A) (u v : B) → before x y → Memᴰ u (f x) → Memᴰ v (f y) → before' u v) → Ascending before' (flat_map f l)
   unfolding flat_map
-  ascending_flatMap f [] a e h = tt
-  ascending_flatMap f (x ∷ xs) a e h =
-      ascending_append before' (f x) (flat_map f xs) (e x (Memᴰ.head refl)) (ascending_flatMap f xs a.1 (λ y i. e y (Memᴰ.tail i)) h)
-      (λ u v i j. let t = of_flatMap f xs j in h x t.0 u v (a.0 t.0 t.1) i t.2)
+  ascending_flat_map f [] a e h = tt
+  ascending_flat_map f (x ∷ xs) a e h =
+      ascending_append before' (f x) (flat_map f xs) (e x (Memᴰ.head refl)) (ascending_flat_map f xs a.1 (λ y i. e y (Memᴰ.tail i)) h)
+      (λ u v i j. let t = of_flat_map f xs j in h x t.0 u v (a.0 t.0 t.1) i t.2)
 
 pub ascending_upfrom : (f n : ℕ) → Ascending ◌<◌ (upfrom f n)
 unfolding upfrom
@@ -121,7 +121,7 @@ pub orders_ascending : (n : ℕ) (l : List ℕ) → Ascending ◌<◌ l → Asce
 unfolding orders
 orders_ascending zero l a = (λ y i. absurd (Memᴰ.not-nil i), tt)
 orders_ascending (suc n) l a =
-    ascending_flatMap (λ p q. p.0 < q.0) Before (λ p. map (λ o. p.0 ∷ o) (orders n p.1)) (picks l)
+    ascending_flat_map (λ p q. p.0 < q.0) Before (λ p. map (λ o. p.0 ∷ o) (orders n p.1)) (picks l)
     (ascending_of_map (λ p q. p.0 < q.0) ◌<◌ (λ p. p.0) (λ p q h. h) (picks l) (rw picks_keys a))
     (λ p i. ascending_map Before Before (λ o. p.0 ∷ o) (λ s t b. inr (refl, b)) (orders n p.1) (orders_ascending n p.1 (picks_ascending l p i a)))
     (λ p q u v h i j.
@@ -133,7 +133,7 @@ orders_ascending (suc n) l a =
 pub arrangements_ascending : (m : ℕ) → Ascending PatternBefore (arrangements (suc m))
 unfolding arrangements
 arrangements_ascending m =
-    ascending_flatMap Before PatternBefore _ (orders m (upfrom 1 m)) (orders_ascending m (upfrom 1 m) (ascending_upfrom 1 m))
+    ascending_flat_map Before PatternBefore _ (orders m (upfrom 1 m)) (orders_ascending m (upfrom 1 m) (ascending_upfrom 1 m))
     (λ o i. ascending_map ◌<◌ PatternBefore _ (λ s t h. inr (refl, omega arith)) (upfrom 0 (2 ^ m)) (ascending_upfrom 0 (2 ^ m)))
     (λ o o' p q b i j.
     let s = Memᴰ.of_map _ (upfrom 0 (2 ^ m)) i in
@@ -148,7 +148,7 @@ patterns_ascending m = ascending_tail PatternBefore (arrangements (suc m)) (arra
 pub candidates_ascending : (ps : List Pattern) (k n : ℕ) → Ascending PatternBefore ps → Ascending MoveBefore (candidates ps (cut_sets k n))
 unfolding candidates
 candidates_ascending ps k n a =
-    ascending_flatMap Before MoveBefore _ (cut_sets k n) (cut_sets_ascending k n)
+    ascending_flat_map Before MoveBefore _ (cut_sets k n) (cut_sets_ascending k n)
     (λ cs i. ascending_map PatternBefore MoveBefore _ (λ p q b. inr (refl, b)) ps a)
     (λ cs cs' x y b i j.
     let s = Memᴰ.of_map _ ps i in

@@ -5,7 +5,7 @@ use mathlib.Core.List.{List, [], ◌∷◌, ◌++◌, map, flat_map, Memᴰ, tai
 use Prim.Native.Nat.{ℕ, zero, suc, ◌+◌, ◌^◌}
 use native.Mathlib.Omega.{arith}
 use Rattle.theory.specs.Moves.{upfrom, picks, orders, arrangements, patterns, combinations}
-use Rattle.theory.proofs.Moves.{of_flatMap, listed_cuts, upfrom_range}
+use Rattle.theory.proofs.Moves.{of_flat_map, listed_cuts, upfrom_range}
 use Rattle.theory.proofs.Orders.{arrangements_first}
 
 abbrev pub Distinct : {A : Type 0} → List A → Type 0
@@ -23,13 +23,13 @@ module _ {A B : Type 0} where
   distinct_map f h (x ∷ xs) d =
       (λ i. let t = mathlib.Core.List.Memᴰ.of_map f xs i in d.0 (mathlib.Core.List.Memᴰ.cast (h x t.0 (sym t.2)) t.1), distinct_map f h xs d.1)
 
-  distinct_flatMap : {K : Type 0} (f : A → List B) (key : A → K) (of : B → K) (l : List A) → Distinct (map key l) →
+  distinct_flat_map : {K : Type 0} (f : A → List B) (key : A → K) (of : B → K) (l : List A) → Distinct (map key l) →
       ((x : A) → Memᴰ x l → Distinct (f x)) → ((x : A) (y : B) → Memᴰ y (f x) → of y ≡ key x) → Distinct (flat_map f l)
   unfolding flat_map
-  distinct_flatMap f key of [] d e h = tt
-  distinct_flatMap f key of (x ∷ xs) d e h =
-      distinct_append (f x) (flat_map f xs) (e x (mathlib.Core.List.Memᴰ.head refl)) (distinct_flatMap f key of xs d.1 (λ y i. e y (mathlib.Core.List.Memᴰ.tail i)) h)
-      (λ z i j. let t = of_flatMap f xs j in d.0 (mathlib.Core.List.Memᴰ.cast (sym (h x z i) ∙ h t.0 z t.2) (mathlib.Core.List.Memᴰ.map key t.1)))
+  distinct_flat_map f key of [] d e h = tt
+  distinct_flat_map f key of (x ∷ xs) d e h =
+      distinct_append (f x) (flat_map f xs) (e x (mathlib.Core.List.Memᴰ.head refl)) (distinct_flat_map f key of xs d.1 (λ y i. e y (mathlib.Core.List.Memᴰ.tail i)) h)
+      (λ z i j. let t = of_flat_map f xs j in d.0 (mathlib.Core.List.Memᴰ.cast (sym (h x z i) ∙ h t.0 z t.2) (mathlib.Core.List.Memᴰ.map key t.1)))
 
 pub distinct_upfrom : (f n : ℕ) → Distinct (upfrom f n)
 unfolding upfrom
@@ -68,14 +68,14 @@ pub orders_distinct : (n : ℕ) (l : List ℕ) → Distinct l → Distinct (orde
 unfolding orders head_d
 orders_distinct zero l d = (mathlib.Core.List.Memᴰ.not-nil, tt)
 orders_distinct (suc n) l d =
-    distinct_flatMap (λ p. map (λ o. p.0 ∷ o) (orders n p.1)) (λ p. p.0) (λ o. head_d o 0) (picks l) (rw picks_keys d)
+    distinct_flat_map (λ p. map (λ o. p.0 ∷ o) (orders n p.1)) (λ p. p.0) (λ o. head_d o 0) (picks l) (rw picks_keys d)
     (λ p i. distinct_map (λ o. p.0 ∷ o) (λ x y. tail-eq_of_cons-eq) (orders n p.1) (orders_distinct n p.1 (picks_distinct l p i d)))
     (λ p o i. let t = mathlib.Core.List.Memᴰ.of_map (λ o. p.0 ∷ o) (orders n p.1) i in ap (λ o. head_d o 0) (sym t.2))
 
 pub arrangements_distinct : (m : ℕ) → Distinct (arrangements (suc m))
 unfolding arrangements
 arrangements_distinct m =
-    distinct_flatMap _ (λ o. 0 ∷ (o ++ (suc m ∷ []))) (λ p. p.order) (orders m (upfrom 1 m))
+    distinct_flat_map _ (λ o. 0 ∷ (o ++ (suc m ∷ []))) (λ p. p.order) (orders m (upfrom 1 m))
     (distinct_map (λ o. 0 ∷ (o ++ (suc m ∷ []))) (λ x y e. append_cancel_right x y (suc m ∷ []) (tail-eq_of_cons-eq e)) (orders m (upfrom 1 m)) (orders_distinct m (upfrom 1 m) (distinct_upfrom 1 m)))
     (λ o i. distinct_map _ (λ x y e. let f = ap (λ p. p.mask) e in omega arith) (upfrom 0 (2 ^ m)) (distinct_upfrom 0 (2 ^ m)))
     (λ o p i. let t = mathlib.Core.List.Memᴰ.of_map _ (upfrom 0 (2 ^ m)) i in ap (λ p. p.order) (sym t.2))

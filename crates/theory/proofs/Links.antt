@@ -47,15 +47,15 @@ count_tour x y P r = count_links x y P.depot (r ++ (P.end ∷ []))
 -- ---- the legs inside a part do not depend on its direction
 
 module _ (d : ℕ → ℕ → ℕ) (both : (a b : ℕ) → d a b ≡ d b a) where
-  inner_reverseAux : (l : List ℕ) (a : ℕ) (r : List ℕ) → inner d (reverse_aux l (a ∷ r)) ≡ path d a l + path d a r
+  inner_reverse_aux : (l : List ℕ) (a : ℕ) (r : List ℕ) → inner d (reverse_aux l (a ∷ r)) ≡ path d a l + path d a r
   unfolding inner path
-  inner_reverseAux [] a r = omega arith
-  inner_reverseAux (x ∷ l) a r = omega (arith, inner_reverseAux l x (a ∷ r), both x a)
+  inner_reverse_aux [] a r = omega arith
+  inner_reverse_aux (x ∷ l) a r = omega (arith, inner_reverse_aux l x (a ∷ r), both x a)
 
   inner_reverse_if : (b : Bool) (l : List ℕ) → inner d (reverse_if b l) ≡ inner d l
   unfolding inner path reverse_if
   inner_reverse_if true [] = refl
-  inner_reverse_if true (x ∷ l) = omega (arith, inner_reverseAux l x [])
+  inner_reverse_if true (x ∷ l) = omega (arith, inner_reverse_aux l x [])
   inner_reverse_if false l = refl
 
 -- A way through parts: the links between them, and the legs inside them, whose sum no placing changes.
@@ -186,10 +186,10 @@ links_exchanged P cs r m many rising o mask once h t x y =
       ap (link_count x y) (old_joints P cs r m many rising),
     )
 
-dropLast_snoc : (l : List ℕ) (x : ℕ) → drop_last (l ++ (x ∷ [])) ≡ l
-dropLast_snoc [] x = refl
-dropLast_snoc (y ∷ []) x = refl
-dropLast_snoc (y ∷ z ∷ l) x = ap (λ t. y ∷ t) (dropLast_snoc (z ∷ l) x)
+drop_last_snoc : (l : List ℕ) (x : ℕ) → drop_last (l ++ (x ∷ [])) ≡ l
+drop_last_snoc [] x = refl
+drop_last_snoc (y ∷ []) x = refl
+drop_last_snoc (y ∷ z ∷ l) x = ap (λ t. y ∷ t) (drop_last_snoc (z ∷ l) x)
 
 length_joints : (a : ℕ) (ps : List (List ℕ)) (e : ℕ) → length (joints a ps e) ≡ suc (length ps)
 unfolding joints
@@ -209,9 +209,9 @@ exchanged P cs r m many rising p s =
     rw s.is
     (record {
       dropped = length-map cs (cut_link P r) ∙ many;
-      added = rw (dropLast_snoc s.middle (suc m)) (length_new _ _ m (2 * s.bits) (segments 0 cs r) s.middle s.once);
+      added = rw (drop_last_snoc s.middle (suc m)) (length_new _ _ m (2 * s.bits) (segments 0 cs r) s.middle s.once);
       stood = λ x y. cut_links_stood x y P r 0 cs rising;
-      exchange = λ x y. rw (dropLast_snoc s.middle (suc m), many) (links_exchanged P cs r m many rising s.middle (2 * s.bits) s.once (even_head s.bits) tail_stays x y);
+      exchange = λ x y. rw (drop_last_snoc s.middle (suc m), many) (links_exchanged P cs r m many rising s.middle (2 * s.bits) s.once (even_head s.bits) tail_stays x y);
     })
 
 -- Each candidate of the scan is such an exchange.

@@ -18,20 +18,20 @@ length_upfrom f zero = refl
 length_upfrom f (suc n) = ap suc (length_upfrom (suc f) n)
 
 module _ {A B : Type 0} where
-  pub length_flatMap : (f : A → List B) (n : ℕ) (l : List A) → ((x : A) → Memᴰ x l → length (f x) ≡ n) → length (flat_map f l) ≡ length l * n
+  pub length_flat_map : (f : A → List B) (n : ℕ) (l : List A) → ((x : A) → Memᴰ x l → length (f x) ≡ n) → length (flat_map f l) ≡ length l * n
   unfolding flat_map
-  length_flatMap f n [] h = omega arith
-  length_flatMap f n (x ∷ xs) h = simp length-append (omega (arith, h x (Memᴰ.head refl), length_flatMap f n xs (λ y i. h y (Memᴰ.tail i))))
+  length_flat_map f n [] h = omega arith
+  length_flat_map f n (x ∷ xs) h = simp length-append (omega (arith, h x (Memᴰ.head refl), length_flat_map f n xs (λ y i. h y (Memᴰ.tail i))))
 
-  pub mem_flatMap : (f : A → List B) {x : A} {y : B} {l : List A} → Memᴰ x l → Memᴰ y (f x) → Memᴰ y (flat_map f l)
+  pub mem_flat_map : (f : A → List B) {x : A} {y : B} {l : List A} → Memᴰ x l → Memᴰ y (f x) → Memᴰ y (flat_map f l)
   unfolding flat_map
-  mem_flatMap f (Memᴰ.head p) j = Memᴰ.append_left _ (rw p at j)
-  mem_flatMap f (Memᴰ.tail {x = z} i) j = Memᴰ.append_right (f z) (mem_flatMap f i j)
+  mem_flat_map f (Memᴰ.head p) j = Memᴰ.append_left _ (rw p at j)
+  mem_flat_map f (Memᴰ.tail {x = z} i) j = Memᴰ.append_right (f z) (mem_flat_map f i j)
 
-  pub of_flatMap : (f : A → List B) {y : B} (l : List A) → Memᴰ y (flat_map f l) → (x : A) × Memᴰ x l × Memᴰ y (f x)
+  pub of_flat_map : (f : A → List B) {y : B} (l : List A) → Memᴰ y (flat_map f l) → (x : A) × Memᴰ x l × Memᴰ y (f x)
   unfolding flat_map
-  of_flatMap f [] i = absurd (Memᴰ.not-nil i)
-  of_flatMap f (x ∷ xs) i = ⊎_elim (λ j. (x, Memᴰ.head refl, j)) (λ j. let t = of_flatMap f xs j in (t.0, Memᴰ.tail t.1, t.2)) (Memᴰ.append_cases (f x) i)
+  of_flat_map f [] i = absurd (Memᴰ.not-nil i)
+  of_flat_map f (x ∷ xs) i = ⊎_elim (λ j. (x, Memᴰ.head refl, j)) (λ j. let t = of_flat_map f xs j in (t.0, Memᴰ.tail t.1, t.2)) (Memᴰ.append_cases (f x) i)
 
 pub total_append : (g : ℕ → ℕ) (s t : List ℕ) → total g (s ++ t) ≡ total g s + total g t
 unfolding total
@@ -65,7 +65,7 @@ unfolding orders total
 total_orders g zero [] h o i = rw (Memᴰ.eq_of_singleton i)
 total_orders g zero (x ∷ xs) h o i = absurd (omega arith)
 total_orders g (suc n) l h o i =
-    let t = of_flatMap (λ p. map (λ o. p.0 ∷ o) (orders n p.1)) (picks l) i in
+    let t = of_flat_map (λ p. map (λ o. p.0 ∷ o) (orders n p.1)) (picks l) i in
     let u = Memᴰ.of_map (λ o. t.0.0 ∷ o) (orders n t.0.1) t.2 in
     rw (← u.2) (omega (arith, total_picks g l t.0 t.1, total_orders g n t.0.1 (length_rest n l h t.0 t.1) u.0 u.1))
 
@@ -73,13 +73,13 @@ pub length_orders : (n : ℕ) (l : List ℕ) → length l ≡ n → length (orde
 unfolding orders factorial
 length_orders zero l h = refl
 length_orders (suc n) l h =
-    length_flatMap _ (factorial n) (picks l) (λ p i. length-map (orders n p.1) _ ∙ length_orders n p.1 (length_rest n l h p i))
+    length_flat_map _ (factorial n) (picks l) (λ p i. length-map (orders n p.1) _ ∙ length_orders n p.1 (length_rest n l h p i))
     ∙ ap (λ m. m * factorial n) (length_picks l ∙ h)
 
 pub length_arrangements : (m : ℕ) → length (arrangements (suc m)) ≡ factorial m * 2 ^ m
 unfolding arrangements
 length_arrangements m =
-    length_flatMap _ (2 ^ m) (orders m (upfrom 1 m)) (λ o i. length-map (upfrom 0 (2 ^ m)) _ ∙ length_upfrom 0 (2 ^ m))
+    length_flat_map _ (2 ^ m) (orders m (upfrom 1 m)) (λ o i. length-map (upfrom 0 (2 ^ m)) _ ∙ length_upfrom 0 (2 ^ m))
     ∙ ap (λ x. x * 2 ^ m) (length_orders m (upfrom 1 m) (length_upfrom 1 m))
 
 length_tail : {A : Type 0} (l : List A) → length (tail l) ≡ length l - 1
@@ -111,7 +111,7 @@ pub record Shape (m : ℕ) (p : Pattern) : Type 0 where
 pub shaped : (m : ℕ) (p : Pattern) → Memᴰ p (arrangements (suc m)) → Shape m p
 unfolding arrangements
 shaped m p i =
-    let t = of_flatMap _ (orders m (upfrom 1 m)) i in
+    let t = of_flat_map _ (orders m (upfrom 1 m)) i in
     let u = Memᴰ.of_map _ (upfrom 0 (2 ^ m)) t.2 in
     record {
       middle = t.0;
@@ -154,7 +154,7 @@ length_cut_sets k n = length_combinations (upfrom 0 (suc n)) k ∙ ap (λ m. bin
 
 pub length_candidates : (ps : List Pattern) (css : List (List ℕ)) → length (candidates ps css) ≡ length css * length ps
 unfolding candidates
-length_candidates ps css = length_flatMap _ (length ps) css (λ cs i. length-map ps _)
+length_candidates ps css = length_flat_map _ (length ps) css (λ cs i. length-map ps _)
 
 -- Every rising set of cuts is listed, and only those are.
 pub cuts_listed : (n m low : ℕ) (cs : List ℕ) → low + m ≡ suc n → Rising low cs n → Memᴰ cs (combinations (upfrom low m) (length cs))

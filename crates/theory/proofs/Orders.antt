@@ -13,7 +13,7 @@ use lib.Pow.{pow_pos}
 use borrow.Author.Tests.{eq-eqb, ne_eqb}
 use Rattle.theory.specs.Moves.{upfrom, total, picks, orders, Pattern, arrangements, patterns}
 use Rattle.theory.specs.Route.{count}
-use Rattle.theory.proofs.Moves.{total_picks, total_ones, length_rest, length_upfrom, mem_flatMap, upfrom_range}
+use Rattle.theory.proofs.Moves.{total_picks, total_ones, length_rest, length_upfrom, mem_flat_map, upfrom_range}
 
 count_self : (x : ℕ) (l : List ℕ) → 0 < count x (x ∷ l)
 unfolding count total
@@ -63,7 +63,7 @@ orders_complete zero l (x ∷ o) h s = absurd (omega (arith, s (λ z. 1), total_
 orders_complete (suc n) l [] h s = absurd (omega (arith, s (λ z. 1), total_ones l))
 orders_complete (suc n) l (x ∷ o) h s =
     let t = pick_out x l (unfold count in omega (arith, s (λ z. cond (eqb x z) 1 0), count_self x o)) in
-    mem_flatMap (λ p. map (λ o. p.0 ∷ o) (orders n p.1)) t.1
+    mem_flat_map (λ p. map (λ o. p.0 ∷ o) (orders n p.1)) t.1
     (Memᴰ.map (λ o. x ∷ o) (orders_complete n t.0 o (length_rest n l h (x, t.0) t.1) (λ g. omega (arith, s g, total_picks g l (x, t.0) t.1))))
 
 -- The first order is the list itself, and so the first arrangement changes nothing.
@@ -103,7 +103,7 @@ arrangements_complete : (m : ℕ) (o : List ℕ) (t : ℕ) → ((g : ℕ → ℕ
     Memᴰ (record { order = 0 ∷ (o ++ (suc m ∷ [])); mask = 2 * t }) (arrangements (suc m))
 unfolding arrangements
 arrangements_complete m o t s h =
-    mem_flatMap _ (orders_complete m (upfrom 1 m) o (length_upfrom 1 m) s)
+    mem_flat_map _ (orders_complete m (upfrom 1 m) o (length_upfrom 1 m) s)
     (Memᴰ.map (λ t. record { order = 0 ∷ (o ++ (suc m ∷ [])); mask = 2 * t }) (listed_number t 0 (2 ^ m) (omega arith) (omega arith)))
 
 pub patterns_complete : (m : ℕ) (o : List ℕ) (t : ℕ) → ((g : ℕ → ℕ) → total g o ≡ total g (upfrom 1 m)) → t < 2 ^ m →

@@ -13,7 +13,7 @@ use Rattle.theory.specs.Moves.{Pattern, Move, patterns, cut_sets, candidates, Ri
 use Rattle.theory.specs.Route.{Problem, reconnected, tour_length, feasible, Feasible, count}
 use Rattle.theory.specs.Polish.{search_of, polish_with, polish, KOptimal, ForCuts, Demand3}
 use Rattle.theory.proofs.Scan.{searched, scan_preserves}
-use Rattle.theory.proofs.Moves.{mem_flatMap, of_flatMap, cuts_listed, listed_cuts, length_candidates, length_cut_sets, total_ones, rearranges}
+use Rattle.theory.proofs.Moves.{mem_flat_map, of_flat_map, cuts_listed, listed_cuts, length_candidates, length_cut_sets, total_ones, rearranges}
 use Rattle.theory.proofs.Route.{total_reconnected, feasible_iff}
 
 -- ---- the candidates are the moves of k rising cuts and a listed pattern
@@ -23,7 +23,7 @@ pub listed : (ps : List Pattern) (k n : ℕ) (cs : List ℕ) (p : Pattern) → l
 unfolding candidates cut_sets
 listed ps k n cs p h r i =
     let c : Memᴰ cs (cut_sets k n) = rw h at (cuts_listed n (suc n) 0 cs (omega arith) r) in
-    mem_flatMap _ c (mathlib.Core.List.Memᴰ.map (λ p. record { cuts = cs; pattern = p }) i)
+    mem_flat_map _ c (mathlib.Core.List.Memᴰ.map (λ p. record { cuts = cs; pattern = p }) i)
 
 pub record Legal (ps : List Pattern) (k n : ℕ) (m : Move) : Type 0 where
   pub many : length m.cuts ≡ k
@@ -33,7 +33,7 @@ pub record Legal (ps : List Pattern) (k n : ℕ) (m : Move) : Type 0 where
 pub legal : (ps : List Pattern) (k n : ℕ) (m : Move) → Memᴰ m (candidates ps (cut_sets k n)) → Legal ps k n m
 unfolding candidates cut_sets
 legal ps k n m i =
-    let t = of_flatMap _ (cut_sets k n) i in
+    let t = of_flat_map _ (cut_sets k n) i in
     let u = mathlib.Core.List.Memᴰ.of_map _ ps t.2 in
     let v = listed_cuts n (suc n) 0 k t.0 (omega arith) t.1 in
     rw (← u.2) (record { many = v.0; rising = v.1; known = u.1 })

@@ -18,14 +18,14 @@ use Rattle.theory.proofs.Pairs.{pairs_kept_says, says_pairs_kept}
 
 -- ---- reconnecting keeps every sum over the stops
 
-total_reverseAux : (g : ℕ → ℕ) (l r : List ℕ) → total g (reverse_aux l r) ≡ total g l + total g r
+total_reverse_aux : (g : ℕ → ℕ) (l r : List ℕ) → total g (reverse_aux l r) ≡ total g l + total g r
 unfolding total
-total_reverseAux g [] r = omega arith
-total_reverseAux g (x ∷ l) r = omega (arith, total_reverseAux g l (x ∷ r))
+total_reverse_aux g [] r = omega arith
+total_reverse_aux g (x ∷ l) r = omega (arith, total_reverse_aux g l (x ∷ r))
 
 pub total_reverse_if : (g : ℕ → ℕ) (b : Bool) (l : List ℕ) → total g (reverse_if b l) ≡ total g l
 unfolding reverse_if total
-total_reverse_if g true l = omega (arith, total_reverseAux g l [])
+total_reverse_if g true l = omega (arith, total_reverse_aux g l [])
 total_reverse_if g false l = refl
 
 total_flatten : (g : ℕ → ℕ) (f : ℕ → List ℕ) (o : List ℕ) → total g (flatten (map f o)) ≡ total (λ i. total g (f i)) o

@@ -9,7 +9,7 @@ use lib.ListN.{length, get_or, take, drop}
 use lib.Seq.{take_at, drop_at, drop-drop}
 use Rattle.theory.specs.Moves.{Pattern}
 use Rattle.theory.specs.Tables.{pattern_rows, PatternRows, ForK}
-use Rattle.theory.proofs.Index.{mem_getD}
+use Rattle.theory.proofs.Index.{mem_get_or}
 
 pub length_rows : (k : ℕ) (orders masks : List ℕ) → length (pattern_rows k orders masks) ≡ length masks
 unfolding pattern_rows
@@ -43,7 +43,7 @@ lent_within k orders masks i long h =
 
 pub listed_for_k : (k : ℕ) (orders masks : List ℕ) → PatternRows k orders masks → (i : ℕ) (d : Pattern) → i < length masks →
     ForK k (get_or (pattern_rows k orders masks) i d).order (get_or (pattern_rows k orders masks) i d).mask
-listed_for_k k orders masks rows i d h = rows.each _ (mem_getD (pattern_rows k orders masks) i d (omega (arith, length_rows k orders masks)))
+listed_for_k k orders masks rows i d h = rows.each _ (mem_get_or (pattern_rows k orders masks) i d (omega (arith, length_rows k orders masks)))
 
 -- The rows of a list of patterns, whatever stands behind them.
 pub rows_of : (k : ℕ) (ps : List Pattern) (more : List ℕ) → ((p : Pattern) → Memᴰ p ps → length p.order ≡ suc k) →

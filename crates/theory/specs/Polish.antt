@@ -32,7 +32,7 @@ abbrev pub ForCuts : ℕ → List Pattern → Type 0
 ForCuts k ps = (p : Pattern) → Memᴰ p ps → (g : ℕ → ℕ) → total g p.order ≡ total g (upfrom 0 (suc k))
 
 -- Demand 3, of the reply q to the route r. "When the polisher reports finished, .." (optimal). "Given that it finished, it reports no change exactly when
--- the same is true of a rival who holds the round handed in" (exactly). "A changed round holds the same stops, each as often" (same-stops), "keeps every
+-- the same is true of a rival who holds the round handed in" (exactly). "A changed round holds the same stops, each as often" (same_stops), "keeps every
 -- deadline and is strictly shorter" (changed); "without a change the round handed back is the one handed in" (unchanged). "Spent is reported only at the
 -- allowance" (spent), which the count never exceeds (within). "With n stops, the candidates examined are at most (1 + seconds saved) × patterns ×
 -- C(n + 1, k)" (bound).

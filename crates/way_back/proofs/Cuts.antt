@@ -8,7 +8,7 @@ use native.Mathlib.Omega.{arith}
 use lib.ListN.{length, get_or, take, drop, set, length-map, drop_of_length-le, get_or-append}
 use lib.Seq.{drop-cons, take-suc-set, take_all, append_snoc, get_or-append-add}
 use Rattle.theory.specs.Moves.{total, Rising}
-use Rattle.theory.proofs.Index.{mem_getD, get_d_map}
+use Rattle.theory.proofs.Index.{mem_get_or, get_or_map}
 use Rattle.theory.proofs.Orders.{in_range}
 use Rattle.inverse.specs.WayBack.{segment_size, ends}
 use Rattle.inverse.proofs.Places.{long_order}
@@ -56,10 +56,10 @@ module _ (cuts : List ℕ) (n : ℕ) (order out₀ : List ℕ) (p : CutPlaces cu
   as_many = long_order (length cuts) order p.once
 
   pub known : (i : ℕ) → i < length order → get_or order i 0 ≤ length cuts
-  known i h = omega (arith, in_range order 0 (suc (length cuts)) p.once (get_or order i 0) (mem_getD order i 0 h))
+  known i h = omega (arith, in_range order 0 (suc (length cuts)) p.once (get_or order i 0) (mem_get_or order i 0 h))
 
   size_at : (i : ℕ) → i ≤ length cuts → get_or (sizes_of cuts n order) i 0 ≡ segment_size cuts n (get_or order i 0)
-  size_at i h = get_d_map (segment_size cuts n) order i 0 0 (omega (arith, as_many))
+  size_at i h = get_or_map (segment_size cuts n) order i 0 0 (omega (arith, as_many))
 
   pub placed_none : (out : List ℕ) → Placed cuts n order out 0 0
   placed_none out = record { left = zero-add _ ∙ sizes_sum (length cuts) n cuts order refl p.cut_set.rising p.once; stand = refl }

@@ -9,7 +9,7 @@ use lib.Seq.{take_at}
 use Rattle.theory.specs.Moves.{Pattern, patterns}
 use Rattle.theory.specs.Refusals.{refusal}
 use Rattle.theory.specs.declared.KOptReconnection.{KOptReconnection}
-use Rattle.theory.proofs.Index.{mem_getD, length_pattern}
+use Rattle.theory.proofs.Index.{mem_get_or, length_pattern}
 use Rattle.theory.proofs.Refusals.{known}
 use Rattle.theory.proofs.Judged.{pattern_fine, cuts_fine, room_fine}
 use Rattle.theory.proofs.Taken.{refused_kept, taken_done, taken_passes}
@@ -27,7 +27,7 @@ module _ (k index n : ℕ) (cuts result : List ℕ) (v : Invertible k index n cu
   order = take (k + 1) found.segment_order
 
   member : Memᴰ (pattern k index) (patterns k)
-  member = mem_getD (patterns k) index (record { order = []; mask = 0 }) v.listed
+  member = mem_get_or (patterns k) index (record { order = []; mask = 0 }) v.listed
 
   size : length (pattern k index).order ≡ k + 1
   size = length_pattern k (pattern k index) member ∙ sym (add-one k)

@@ -99,7 +99,7 @@ fn rank_of(order: &[u8]) -> usize
 // The index of the inverse of a pattern: after the masks of all orders before its own, the arrangement that changes nothing left out.
 fn inverse_index(k: usize, order: &[u8], mask: u8) -> usize
     requires { ListedPattern k order.now mask }
-    ensures { result ≡ index_of k (record { order = inverse_order order.entry.now; mask = inverse_mask order.entry.now mask }) }
+    ensures { result ≡ index_of k (record { order = inverse_order order.now; mask = inverse_mask order.now mask }) }
 {
     let mut back = [0u8; 6];
     let segments = k + 1;

@@ -4,7 +4,7 @@ use mathlib.Core.List.{reverse}
 use lib.ListN.{length, length-set, length-reverse}
 use lib.Seq.{paste-suc, paste-zero, take-length}
 use native.Mathlib.Numerals.{add-one}
-use Rattle.reconnection.proofs.Reversal.{get_d_reverse}
+use Rattle.reconnection.proofs.Reversal.{get_or_reverse}
 use native.Mathlib.Omega.{arith}
 use Rattle.reconnection.proofs.reverse_in.Goals as goal
 
@@ -17,7 +17,7 @@ loop-i-preserved c =
     let l = c.loop-i in (
       omega arith,
       simp length-set l.invariant.1,
-      rw (← get_d_reverse c.args.src.now l.i (omega arith), add-one, l.invariant.2)
+      rw (← get_or_reverse c.args.src.now l.i (omega arith), add-one, l.invariant.2)
           (paste-suc c.args.dst.now c.args.at (reverse c.args.src.now) l.i 0 (omega arith) (simp length-reverse (omega arith))),
     )
 
