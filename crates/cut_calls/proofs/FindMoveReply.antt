@@ -1,14 +1,14 @@
 -- The replies of the entry `find_move` and of its C function, over plain values. Assumes nothing.
 use mathlib.Core.Path.{◌≡◌, refl, sym, ◌∙◌, subst}
 use mathlib.Core.List.{List}
-use mathlib.Core.Option.{Option, none}
+use mathlib.Core.Option.{none}
 use Prim.Native.Nat.{ℕ, ◌+◌}
 use lib.ListN.{length}
 use Rattle.theory.specs.Refusals.{Rule, refusal}
 use Rattle.theory.proofs.Refusals.{known}
 use Rattle.theory.proofs.Judged.{cut_count_fine, room_fine}
 use Rattle.theory.proofs.Taken.{refused_kept, taken_done, taken_passes}
-use Rattle.first_move.specs.FirstMove.{first_move, found_move, move_values, in_front, handed_move, Told}
+use Rattle.first_move.specs.FirstMove.{first_move, found_move, move_values, in_front, Told}
 use Rattle.first_move.specs.declared.FoundMove.{FoundMove}
 use Rattle.first_move.proofs.FirstMove.{told, told_back}
 use Rattle.find_move.specs.Search.{Sought, Finds}

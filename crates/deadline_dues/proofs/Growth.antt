@@ -2,7 +2,7 @@
 use mathlib.Core.Path.{◌≡◌, refl, sym, ap, ◌∙◌}
 use mathlib.Core.Bool.{Bool, true, false, ◌&&◌, and-true}
 use mathlib.Core.List.{List, [], ◌∷◌, ◌++◌, reverse, reverse-append}
-use Prim.Native.Nat.{ℕ, suc, ◌+◌, ◌-◌, ◌*◌, ◌^◌, ◌≤◌, ◌<◌, min}
+use Prim.Native.Nat.{ℕ, suc, ◌+◌, ◌-◌, ◌≤◌, ◌<◌, min}
 use native.Mathlib.Numerals.{add-one}
 use native.Mathlib.Decide.{dec_lt}
 use native.Mathlib.Omega.{arith}
@@ -12,7 +12,7 @@ use lib.Seq.{slice, slice-cons, slice_empty, take-suc, drop-append-le, length-ta
 use borrow.Author.Tests.{lt-ltb, le-ltb, le-leb, lt-leb}
 use Rattle.theory.specs.Moves.{total}
 use Rattle.theory.specs.Route.{Clock, path, reverse_if, on_time}
-use Rattle.theory.specs.Costs.{last_of, inner, backward}
+use Rattle.theory.specs.Costs.{last_of, inner}
 use Rattle.theory.specs.Tables.{Tables, timetable_by, clock_by}
 use Rattle.theory.proofs.Clock.{path_step}
 use Rattle.theory.proofs.Costs.{path_append, backward_inner}

@@ -1,14 +1,13 @@
 -- When the head is left: when its last stop is. Assumes nothing.
-use mathlib.Core.Path.{◌≡◌, sym, ap, ◌∙◌}
+use mathlib.Core.Path.{◌≡◌, sym, ◌∙◌}
 use mathlib.Core.List.{List}
-use Prim.Native.Nat.{ℕ, ◌+◌, ◌-◌, ◌≤◌, ◌<◌}
+use Prim.Native.Nat.{ℕ, ◌+◌, ◌-◌, ◌≤◌}
 use native.Mathlib.Omega.{arith}
 use lib.ListN.{length, get_or, take}
 use Rattle.theory.specs.Moves.{total}
 use Rattle.theory.specs.Route.{path}
 use Rattle.theory.specs.Tables.{Tables, CutSet, timetable_by, clock_by}
 use Rattle.theory.proofs.Clock.{path_step}
-use Rattle.costs.specs.RouteCosts.{leg}
 use Rattle.costs.proofs.Segments.{cut_below, head_at}
 use Rattle.deadlines.specs.Lateness.{LeftAt}
 use Rattle.deadlines.specs.Stays.{Stays}

@@ -4,7 +4,6 @@ use Rattle.std.proofs.Math.Seq.{slice}
 use Rattle.theory.specs.Moves.{total}
 use Rattle.theory.specs.Route.{Clock}
 use Rattle.theory.specs.Tables.{Tables, CutSet, clock_by}
-use Rattle.deadlines.specs.Stays.{Stays}
 use Rattle.deadline_dues.specs.Due.{Due, SegmentDues, DuesRead}
 use Rattle.scan_joints.specs.States.{state_count, placed_in}
 use Rattle.scan_joints.specs.JointTable.{Padded, cell}

@@ -1,5 +1,5 @@
 -- A candidate part by part: the head, the middle segments as the pattern places them, the tail.
-use Rattle.std.specs.Prelude.{◌≡◌, ℕ, ◌+◌, ◌*◌, ◌≤◌, ◌<◌, length, get_or}
+use Rattle.std.specs.Prelude.{◌≡◌, ℕ, ◌+◌, ◌*◌, ◌≤◌, length, get_or}
 use mathlib.Core.List.{List, [], flatten}
 use Rattle.std.proofs.Math.Seq.{slice}
 use Rattle.theory.specs.Route.{path, segments, placed}

@@ -1,14 +1,14 @@
 -- The lateness from the last stop back to the first, and the longest head with it. Assumes nothing.
-use mathlib.Core.Path.{◌≡◌, refl, sym, ap, ◌∙◌}
+use mathlib.Core.Path.{◌≡◌, refl, sym, ◌∙◌}
 use mathlib.Core.Logic.{◌⊎◌, inl, inr}
 use mathlib.Core.List.{List}
-use Prim.Native.Nat.{ℕ, suc, min, max, ◌+◌, ◌-◌, ◌*◌, ◌≤◌, ◌<◌}
+use Prim.Native.Nat.{ℕ, suc, min, max, ◌-◌, ◌*◌, ◌≤◌, ◌<◌}
 use native.Mathlib.Decide.{dec_lt, ℕ_discrete}
 use native.Mathlib.Omega.{arith}
-use lib.ListN.{length, get_or, set, take, length-set}
+use lib.ListN.{length, get_or, set, length-set}
 use lib.Seq.{get_or-set_same, get_or-set_other}
-use Rattle.theory.specs.Route.{Clock, path, left}
-use Rattle.deadlines.specs.Lateness.{late_by, lateness, TooLate, LongestHead, Latenesses, LatenessFilled}
+use Rattle.theory.specs.Route.{Clock, left}
+use Rattle.deadlines.specs.Lateness.{late_by, lateness, TooLate, LatenessFilled}
 use Rattle.deadlines.proofs.Lateness.{lateness_end, lateness_step}
 
 -- The latest second of a stop from position c on.

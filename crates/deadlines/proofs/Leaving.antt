@@ -1,14 +1,14 @@
 -- When a stop is left: the leg to the first stop, the running sum at its own place, and the service up to and with it. Assumes nothing.
-use mathlib.Core.Path.{◌≡◌, sym, ap, ◌∙◌}
+use mathlib.Core.Path.{◌≡◌, ap}
 use mathlib.Core.Bool.{false}
 use mathlib.Core.List.{List}
-use Prim.Native.Nat.{ℕ, suc, ◌+◌, ◌≤◌, ◌<◌}
+use Prim.Native.Nat.{ℕ, suc, ◌+◌}
 use native.Mathlib.Numerals.{add-one}
 use native.Mathlib.Omega.{arith}
-use lib.ListN.{length, get_or, take}
+use lib.ListN.{get_or, take}
 use lib.Seq.{length-take-le}
 use Rattle.theory.specs.Route.{path, reverse_if}
-use Rattle.theory.specs.Costs.{first_of, inner, forward}
+use Rattle.theory.specs.Costs.{first_of, forward}
 use Rattle.costs.specs.RouteCosts.{leg, Leg}
 use Rattle.costs.proofs.Segments.{first_placed}
 use Rattle.deadlines.specs.Lateness.{LeftAsked, LeftAt}

@@ -1,16 +1,15 @@
 -- What the answer says of two lists, in words, and that no other answer says it. Assumes nothing.
-use mathlib.Core.Path.{◌≡◌, refl, sym, ap, ◌∙◌}
+use mathlib.Core.Path.{◌≡◌, refl, sym, ◌∙◌}
 use mathlib.Core.Bool.{Bool, true, false, cond, ◌&&◌, true≢false}
-use mathlib.Core.List.{List, []}
-use Prim.Native.Nat.{ℕ, zero, suc, ◌≤◌, ◌<◌}
+use mathlib.Core.List.{List}
+use Prim.Native.Nat.{ℕ, zero, suc, ◌≤◌}
 use native.Mathlib.Omega.{arith}
-use lib.Dec.{leb, eqb}
-use lib.ListN.{length}
+use lib.Dec.{leb}
 use borrow.Author.Tests.{leb-true, leb-false}
 use Rattle.theory.specs.Route.{Problem, tour_length, feasible, Feasible}
 use Rattle.theory.specs.Tables.{Trip, problem}
 use Rattle.theory.proofs.Route.{feasible_iff}
-use Rattle.desks.specs.Desks.{shorter, which, taken, desk, Chosen}
+use Rattle.desks.specs.Desks.{which, taken, desk, Chosen}
 
 module _ (P : Problem) (first second : List ℕ) where
   does : (list : List ℕ) → feasible P list ≡ true → Feasible P list

@@ -1,13 +1,13 @@
 -- Two lists judged at once, and what is then known of them. Assumes nothing.
 use mathlib.Core.Path.{◌≡◌, refl, sym, ap, ap₂, ◌∙◌}
-use mathlib.Core.Bool.{Bool, true, false, ◌&&◌, and-eq-true_iff}
+use mathlib.Core.Bool.{Bool, true, ◌&&◌, and-eq-true_iff}
 use mathlib.Core.List.{List}
 use Prim.Native.Nat.{ℕ, zero, suc}
 use native.Mathlib.Omega.{arith}
 use lib.Dec.{eqb}
 use lib.ListN.{length}
 use borrow.Author.Tests.{eqb-true, ne_eqb}
-use Rattle.theory.specs.Tables.{Tables, Trip, Clocked, Timed}
+use Rattle.theory.specs.Tables.{Tables, Trip}
 use Rattle.theory.specs.Refusals.{either, number, refusal, table_rules, known_stops, known_end, pair_list, stop_count, paired_rules}
 use Rattle.theory.proofs.Refusals.{Passes, known, accepted}
 use Rattle.theory.proofs.Judged.{clocked}

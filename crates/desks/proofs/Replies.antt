@@ -1,8 +1,8 @@
 -- The answers of the parts, over plain values. Assumes nothing.
-use mathlib.Core.Path.{◌≡◌, refl, sym, ap, ◌∙◌}
-use mathlib.Core.Bool.{Bool, true, false, cond, ◌&&◌}
+use mathlib.Core.Path.{◌≡◌, refl, sym, ◌∙◌}
+use mathlib.Core.Bool.{Bool, true, false, ◌&&◌}
 use mathlib.Core.List.{List, [], ◌∷◌}
-use Prim.Native.Nat.{ℕ, zero, suc, ◌≤◌, ◌<◌}
+use Prim.Native.Nat.{ℕ, ◌≤◌, ◌<◌}
 use native.Mathlib.Omega.{arith}
 use lib.ListN.{length}
 use denote.Ref.{Bor}
@@ -10,7 +10,7 @@ use borrow.Author.Tests.{le-leb, lt-leb}
 use Rattle.theory.specs.Route.{Problem, timetable_of, tour_length, timely, feasible}
 use Rattle.theory.specs.Pairs.{pairs_of, all, pairs_kept}
 use Rattle.theory.specs.Tables.{Trip, problem, legs_only}
-use Rattle.desks.specs.Desks.{shorter, which, taken, desk, WhichDesk, WhichOfTwo}
+use Rattle.desks.specs.Desks.{shorter, which, taken, WhichDesk, WhichOfTwo}
 
 -- ---- deadlines and pairs
 

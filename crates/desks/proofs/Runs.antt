@@ -2,7 +2,7 @@
 use mathlib.Core.Path.{◌≡◌, refl}
 use mathlib.Core.List.{List, [], ◌∷◌, map}
 use Prim.Native.Nat.{ℕ}
-use lib.ListN.{length, replicate}
+use lib.ListN.{replicate}
 use Rattle.theory.specs.Pairs.{pairs_of, pairs_kept}
 use Rattle.theory.specs.Route.{tour_length, timely}
 use Rattle.theory.specs.Tables.{Trip, trip}

@@ -7,7 +7,7 @@ use native.Mathlib.Omega.{arith}
 use lib.Dec.{eqb}
 use lib.ListN.{length, drop, set}
 use borrow.Author.Tests.{lt-ltb, le-ltb}
-use Rattle.theory.specs.Refusals.{either, number, room}
+use Rattle.theory.specs.Refusals.{either}
 use Rattle.theory.specs.Answers.{reply, refused}
 use Rattle.theory.proofs.Refusals.{either_zero}
 use Rattle.entry_results.specs.Handed.{Handed}

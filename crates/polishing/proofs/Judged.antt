@@ -3,13 +3,13 @@ use mathlib.Core.Path.{◌≡◌, refl}
 use mathlib.Core.Bool.{Bool, false, not, ◌||◌}
 use mathlib.Core.Logic.{inl, inr}
 use mathlib.Core.List.{List, []}
-use Prim.Native.Nat.{ℕ, zero, suc, ◌%◌, ◌≤◌, ◌<◌}
+use Prim.Native.Nat.{ℕ, zero, suc, ◌%◌, ◌≤◌}
 use native.Mathlib.Omega.{arith}
 use lib.Dec.{leb, ltb, eqb}
 use lib.ListN.{length, get_or, replicate}
 use borrow.Author.Tests.{ltb-false, leb-false, eqb-true, not-false}
 use Rattle.theory.specs.Pairs.{pairs_of}
-use Rattle.theory.specs.Tables.{Tables, Trip, Timed}
+use Rattle.theory.specs.Tables.{Trip, Timed}
 use Rattle.theory.specs.Refusals.{any, pair_list, trip_rules, paired_rules}
 use Rattle.theory.specs.Question.{Question, question_rules, paired_question_rules}
 use Rattle.theory.proofs.Refusals.{Passes}

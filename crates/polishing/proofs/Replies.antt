@@ -3,7 +3,7 @@ use mathlib.Core.Path.{◌≡◌, refl, sym, ap, ◌∙◌}
 use mathlib.Core.Bool.{true, false, false≢true}
 use mathlib.Core.Logic.{inl, inr}
 use mathlib.Core.List.{List, [], ◌∷◌}
-use Prim.Native.Nat.{ℕ, suc, ◌+◌, ◌≤◌, ◌<◌}
+use Prim.Native.Nat.{ℕ, ◌+◌, ◌≤◌, ◌<◌}
 use native.Mathlib.Omega.{arith}
 use lib.ListN.{length, replicate}
 use Rattle.theory.specs.Moves.{Pattern, total}
@@ -11,7 +11,6 @@ use Rattle.theory.specs.Pairs.{pairs_of}
 use Rattle.theory.specs.Route.{Problem, tour_length, late_position}
 use Rattle.theory.specs.Polish.{ForCuts, polish_with}
 use Rattle.theory.proofs.Rows.{length_rows}
-use Rattle.theory.specs.Scan.{Reply}
 use Rattle.theory.specs.Tables.{problem, timetable_by, legs_only, Measurable, pattern_rows, Trip}
 use Rattle.theory.specs.Answers.{Polishes}
 use Rattle.theory.specs.declared.Counts.{Counts}
@@ -21,7 +20,7 @@ use Rattle.theory.proofs.ForK.{rows_for_cuts}
 use Rattle.theory.proofs.Polish.{polish_with_demand3}
 use Rattle.theory.proofs.Cuts.{first_set}
 use Rattle.theory.proofs.Stops.{stops_rearranged}
-use Rattle.slices.specs.Places.{IsPlace, first_place}
+use Rattle.slices.specs.Places.{first_place}
 use Rattle.slices.specs.Slices.{slice}
 use Rattle.slices.proofs.Slices.{from_the_first, nowhere, same_total}
 use Rattle.deadlines.specs.Lateness.{LateAsked}
@@ -33,7 +32,7 @@ use Rattle.scan_loop.specs.Loop.{place_held, Scannable, ScanAsked, Scans}
 use Rattle.scan_loop.proofs.Scanning as Scanning
 use Rattle.scan_loop.specs.declared.Scanned.{Scanned}
 use Rattle.polishing.specs.declared.Sliced.{Sliced}
-use Rattle.polishing.specs.Loop.{PairedScan, PolishableRows, Started, SliceableRows, ScannedWith, SlicedRows}
+use Rattle.polishing.specs.Loop.{PairedScan, PolishableRows, SliceableRows, ScannedWith, SlicedRows}
 
 -- ---- what closed rows are found by
 

@@ -2,21 +2,20 @@
 use mathlib.Core.Path.{◌≡◌, refl, sym, ap, ◌∙◌}
 use mathlib.Core.Bool.{Bool, true, false, cond, not, ◌&&◌, ◌||◌, false≢true, true≢false}
 use mathlib.Core.List.{List, [], ◌∷◌, ◌++◌}
-use Prim.Native.Nat.{ℕ, zero, suc, ◌+◌, ◌*◌, ◌<◌, ◌≤◌}
+use Prim.Native.Nat.{ℕ, zero, suc, ◌+◌, ◌*◌, ◌<◌}
 use native.Mathlib.Omega.{arith}
 use lib.Dec.{eqb}
 use lib.Bits.{bit_and, bit_or}
-use lib.ListN.{length, get_or, take}
-use lib.Seq.{slice, take-length}
-use borrow.Author.Tests.{eqb-true, eq-eqb, ne_eqb}
+use lib.ListN.{length, get_or}
+use lib.Seq.{take-length}
+use borrow.Author.Tests.{eqb-true, eq-eqb}
 use Rattle.theory.specs.Pairs.{visited, pair_kept, all}
 use Rattle.precedence.specs.declared.Marks.{Marks}
 use Rattle.precedence.specs.Words.{marks, Members, MarksGrown}
-use Rattle.precedence.proofs.Words.{marks_same, marks_or, marks_and, no_marks, none_marked, disjoint_is}
+use Rattle.precedence.proofs.Words.{marks_same, marks_or, marks_and, no_marks, disjoint_is}
 use Rattle.precedence.proofs.Kept.{visited_append, visited_one}
-use Rattle.precedence.proofs.Growth.{slice_more}
 use Rattle.precedence_contradictions.specs.Contrary.{Contrary, second_of, behind_another, FirstsIf}
-use Rattle.precedence_contradictions.proofs.Circle.{Circle, circle_broken}
+use Rattle.precedence_contradictions.proofs.Circle.{circle_broken}
 
 abbrev at : List (ℕ × ℕ) → ℕ → ℕ × ℕ
 at ps q = get_or ps q (0, 0)

@@ -1,23 +1,22 @@
 -- The words of the middle segments in their places, segment by segment, are those of the states. Assumes nothing.
-use mathlib.Core.Path.{◌≡◌, refl, sym, ap, ◌∙◌}
-use mathlib.Core.Bool.{Bool, true, false, cond, not}
+use mathlib.Core.Path.{◌≡◌, sym, ap, ◌∙◌}
+use mathlib.Core.Bool.{Bool, true, false, cond}
 use mathlib.Core.Logic.{◌⊎◌, inl, inr}
-use mathlib.Core.List.{List, [], ◌∷◌, ◌++◌, reverse}
-use Prim.Native.Nat.{ℕ, zero, suc, ◌+◌, ◌-◌, ◌*◌, ◌/◌, ◌%◌, ◌≤◌, ◌<◌}
+use mathlib.Core.List.{List, [], ◌∷◌, ◌++◌}
+use Prim.Native.Nat.{ℕ, ◌+◌, ◌-◌, ◌*◌, ◌/◌, ◌%◌, ◌≤◌, ◌<◌}
 use native.Mathlib.Decide.{ℕ_discrete}
 use native.Mathlib.Omega.{arith}
 use lib.Dec.{eqb}
-use lib.ListN.{length, get_or, set, take, length-set, get_or-append}
-use lib.Seq.{slice, slice_empty, get_or-take, get_or-append_seam, get_or-set_same, get_or-set_other}
-use Rattle.theory.specs.Route.{reverse_if, segments}
+use lib.ListN.{length, get_or, set, length-set, get_or-append}
+use lib.Seq.{slice, get_or-take, get_or-append_seam, get_or-set_same, get_or-set_other}
+use Rattle.theory.specs.Route.{reverse_if}
 use Rattle.theory.specs.Tables.{CutSet}
 use Rattle.costs.specs.RouteCosts.{first_cuts}
 use Rattle.costs.proofs.Segments.{segment_is, segment_filled, cuts_parted, first_many, last_cut}
 use Rattle.scan_joints.specs.States.{state_count, placed_in}
 use Rattle.scan_joints.proofs.States.{part_at, halves}
 use Rattle.precedence.specs.declared.Marks.{Marks}
-use Rattle.theory.specs.Pairs.{visited, pair_kept}
-use Rattle.precedence.specs.Words.{marks, Members, PartMarks, marks_of, MarksGrown}
+use Rattle.precedence.specs.Words.{Members, PartMarks, marks_of, MarksGrown}
 use Rattle.precedence.proofs.Words.{marks_same}
 use Rattle.precedence.proofs.Kept.{visited_reverse}
 use Rattle.precedence_marks.specs.Held.{Putting, SegmentsMarked, MarksReach, MarksHeld, MarksReachable, MarksStretched, MarksReached}

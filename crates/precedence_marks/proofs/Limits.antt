@@ -1,13 +1,13 @@
 -- Where a route may be cut, with pairs or without. Assumes nothing.
-use mathlib.Core.Path.{◌≡◌, refl, sym, ap, ◌∙◌}
+use mathlib.Core.Path.{◌≡◌}
 use mathlib.Core.Bool.{true}
-use mathlib.Core.Logic.{◌⊎◌, inl, inr, ⊎_elim}
+use mathlib.Core.Logic.{inl, inr, ⊎_elim}
 use mathlib.Core.List.{List, []}
-use Prim.Native.Nat.{ℕ, ◌≤◌, ◌<◌}
+use Prim.Native.Nat.{ℕ}
 use native.Mathlib.Omega.{arith}
 use lib.ListN.{length}
 use Rattle.theory.specs.Pairs.{all, pairs_kept}
-use Rattle.precedence.specs.Words.{PairsLent, Readable, FrontReach, BackSince, FrontFound, BackFound}
+use Rattle.precedence.specs.Words.{PairsLent, Readable, FrontFound, BackFound}
 use Rattle.precedence_marks.specs.Held.{RouteTellable, HeadLimit, TailSince}
 use Rattle.precedence_marks.proofs.Judged.{kept_reach, kept_since}
 

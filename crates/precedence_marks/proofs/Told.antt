@@ -1,13 +1,13 @@
 -- The words of a cut set's segments, with pairs or without. Assumes nothing.
-use mathlib.Core.Path.{◌≡◌, refl, sym, ◌∙◌}
-use mathlib.Core.Logic.{◌⊎◌, inl, inr, ⊎_elim}
+use mathlib.Core.Path.{◌≡◌}
+use mathlib.Core.Logic.{inl, inr, ⊎_elim}
 use mathlib.Core.List.{List, []}
-use Prim.Native.Nat.{ℕ, ◌+◌, ◌-◌, ◌*◌, ◌≤◌, ◌<◌}
+use Prim.Native.Nat.{ℕ, ◌+◌, ◌-◌, ◌*◌}
 use native.Mathlib.Omega.{arith}
 use lib.ListN.{length, get_or}
 use Rattle.costs.specs.RouteCosts.{first_cuts}
-use Rattle.precedence.specs.Words.{marks, Members, PairsLent}
-use Rattle.precedence_marks.specs.Held.{SegmentsMarked, MarksHeld, MarksAsked, MarksReached, MarksKept, MarksTellable, MarksTold}
+use Rattle.precedence.specs.Words.{marks, PairsLent}
+use Rattle.precedence_marks.specs.Held.{SegmentsMarked, MarksAsked, MarksReached, MarksKept, MarksTellable, MarksTold}
 use Rattle.precedence_marks.proofs.Filling.{reached_held}
 
 -- Of no pairs every word is 0.

@@ -2,9 +2,9 @@
 use mathlib.Core.Path.{◌≡◌, refl, ap}
 use mathlib.Core.Bool.{Bool, true, false, ◌||◌}
 use mathlib.Core.List.{List, [], ◌∷◌, ◌++◌}
-use Prim.Native.Nat.{ℕ, suc, ◌*◌, ◌^◌, ◌≤◌, ◌<◌}
+use Prim.Native.Nat.{ℕ, suc, ◌^◌, ◌≤◌, ◌<◌}
 use native.Mathlib.Omega.{arith}
-use lib.Dec.{ltb, eqb}
+use lib.Dec.{ltb}
 use lib.ListN.{length, get_or}
 use borrow.Author.Tests.{ltb-false, lt-ltb, le-ltb}
 use Rattle.theory.specs.Tables.{Tables}
@@ -14,7 +14,7 @@ use Rattle.theory.proofs.Refusals.{Passes, known, accepted, taken}
 use Rattle.theory.proofs.Judged.{or_false, cut_count_fine, table_fine, times_fine}
 use Rattle.text_decimal.specs.Text.{Small}
 use Rattle.text_tables.specs.Tables.{Sized}
-use Rattle.text_question.specs.Question.{text_of, HeldTables, Held}
+use Rattle.text_question.specs.Question.{text_of, Held}
 use Rattle.text_question.proofs.Texts.{text_of_injective}
 use Rattle.text_sizes.specs.Parts.{Sizeable}
 use Rattle.problem_calls.specs.Problems.{text_bounds, write_rules, Taken}

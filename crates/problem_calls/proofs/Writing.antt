@@ -2,14 +2,13 @@
 use mathlib.Core.Path.{◌≡◌, refl, sym, ap, ap₂, ◌∙◌}
 use mathlib.Core.Bool.{true, false}
 use mathlib.Core.List.{List, [], ◌∷◌, ◌++◌}
-use mathlib.Core.Option.{some}
-use Prim.Native.Nat.{ℕ, suc, ◌≤◌}
+use Prim.Native.Nat.{ℕ, ◌≤◌}
 use native.Mathlib.Omega.{arith}
 use lib.ListN.{length, get_or, take, drop, set}
 use lib.Seq.{take_at}
 use Rattle.theory.specs.Question.{Question, question_rules}
 use Rattle.theory.specs.Refusals.{Rule, number, either, refusal, room}
-use Rattle.theory.proofs.Refusals.{Passes, known, accepted, either_zero, either_assoc, applies_first, passed_over}
+use Rattle.theory.proofs.Refusals.{Passes, known, accepted, either_zero, either_assoc, applies_first}
 use Rattle.theory.proofs.Judged.{room_fine}
 use Rattle.theory.proofs.Taken.{refused_kept, taken_done}
 use Rattle.text_decimal.specs.Text.{Room, Put}

@@ -3,14 +3,14 @@ use mathlib.Core.Path.{◌≡◌, refl, sym, ap, ap₂, ◌∙◌}
 use mathlib.Core.Bool.{Bool, true, false, cond}
 use mathlib.Core.List.{List, [], ◌∷◌, ◌++◌}
 use mathlib.Core.Option.{Option, none, some}
-use Prim.Native.Nat.{ℕ, suc, ◌+◌, ◌*◌, ◌≤◌}
+use Prim.Native.Nat.{ℕ, ◌+◌, ◌*◌, ◌≤◌}
 use native.Mathlib.Omega.{arith}
 use lib.Dec.{eqb}
-use lib.ListN.{length, get_or, take, drop, set}
+use lib.ListN.{length, drop, set}
 use lib.Seq.{take_at}
 use borrow.Author.Tests.{eqb-true, eqb-false}
 use Rattle.theory.specs.Question.{Question, question_rules}
-use Rattle.theory.specs.Refusals.{Rule, number, either, refusal, if_taken, room}
+use Rattle.theory.specs.Refusals.{Rule, number, either, refusal, if_taken}
 use Rattle.theory.proofs.Refusals.{Passes, known, accepted, either_zero, either_assoc, applies_first, passed_over}
 use Rattle.theory.proofs.Judged.{room_fine}
 use Rattle.theory.proofs.Taken.{refused_kept, taken_done}
@@ -18,7 +18,7 @@ use Rattle.text_question.specs.Question.{text_of, Held}
 use Rattle.text_question.specs.Reading.{read}
 use Rattle.text_question.specs.declared.Header.{Header}
 use Rattle.text_question.proofs.Texts.{read_exactly}
-use Rattle.text_problem.specs.Judged.{Judged, refused, taken, judge, judge_read, judged}
+use Rattle.text_problem.specs.Judged.{refused, taken, judge_read, judged}
 use Rattle.problem_calls.specs.Problems.{numbers_of, list_rooms, read_rules, put_before, put_read, handed, ReadReply}
 use Rattle.problem_calls.proofs.Laws.{is_taken}
 use Rattle.problem_reading.specs.Handing.{headed, Roomy, Copied, HandedOver}

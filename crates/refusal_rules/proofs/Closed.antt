@@ -5,7 +5,7 @@ use mathlib.Core.List.{List, [], ◌∷◌, ◌++◌}
 use Prim.Native.Nat.{ℕ, ◌*◌}
 use lib.ListN.{length}
 use Rattle.theory.specs.Tables.{Tables, Fleet, fleet}
-use Rattle.theory.specs.Question.{Question, question, question_with_pairs}
+use Rattle.theory.specs.Question.{question, question_with_pairs}
 use Rattle.theory.specs.Refusals.{Rule, refusal, cut_count, leg_table, leg_sizes, stop_count, known_stops, known_end, known_rounds, known_ends, round_lists, end_list, room, table_rules}
 use Rattle.theory.proofs.Implied.{without_pairs, end_at_depot, ends_at_depots, ends_of_depots}
 use Rattle.refusal_rules.specs.Rules.{route_length_rules, route_length_to_end_rules, move_rules, delta_rules, delta_to_end_rules, polish_rules, polish_to_end_rules, polish_with_pairs_rules, run_rules, run_to_ends_rules, run_with_pairs_rules}

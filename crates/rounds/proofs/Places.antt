@@ -1,9 +1,9 @@
 -- Where the rounds handed in, their routes and their numbers stand. Assumes nothing.
-use mathlib.Core.Path.{◌≡◌, refl, sym, ap, ◌∙◌}
+use mathlib.Core.Path.{◌≡◌, refl, ap, ◌∙◌}
 use mathlib.Core.List.{List, [], ◌∷◌, ◌++◌, map, flat_map, append_assoc}
 use Prim.Native.Nat.{ℕ, zero, suc, ◌+◌, ◌*◌, ◌≤◌, ◌<◌}
 use native.Mathlib.Omega.{arith}
-use lib.ListN.{length, get_or, take, drop, length-map, length-take, length-drop, get_or-append, get_or-map}
+use lib.ListN.{length, get_or, take, length-map, length-take, length-drop, get_or-append, get_or-map}
 use lib.Seq.{take_at, drop_at, drop-drop, ext_get_or, get_or-append-add}
 use Rattle.theory.specs.Moves.{total, upfrom}
 use Rattle.theory.specs.Tables.{Tables, Fleet}

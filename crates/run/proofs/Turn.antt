@@ -1,5 +1,5 @@
 -- The loop over the rounds of a run: what holds between two turns, and that a turn keeps it. Assumes nothing.
-use mathlib.Core.Path.{◌≡◌, sym, ap, ◌∙◌}
+use mathlib.Core.Path.{◌≡◌, ◌∙◌}
 use mathlib.Core.List.{List, ◌++◌}
 use Prim.Native.Nat.{ℕ, ◌+◌, ◌-◌, ◌*◌, ◌≤◌, ◌<◌}
 use native.Mathlib.Omega.{arith}
@@ -14,7 +14,7 @@ use Rattle.precedence.specs.Words.{PairsLent}
 use Rattle.polishing.specs.Loop.{Polishable}
 use Rattle.run_numbers.specs.States.{examined_of}
 use Rattle.run_numbers.proofs.Values.{four_values}
-use Rattle.rounds.specs.Rounds.{Given, round_at, trip_of, given}
+use Rattle.rounds.specs.Rounds.{Given, round_at, trip_of}
 use Rattle.rounds.proofs.Places.{within}
 use Rattle.rounds.proofs.Loop.{back}
 use Rattle.rounds.proofs.Loop as Loop

@@ -1,5 +1,5 @@
 -- Document 01, "Run": the rounds one after the other, with one allowance for all of them.
-use Rattle.std.specs.Prelude.{◌≡◌, List, [], ◌∷◌, ◌++◌, ℕ, ◌+◌, ◌-◌, ◌*◌, ◌≤◌, ◌<◌, length, get_or, drop}
+use Rattle.std.specs.Prelude.{◌≡◌, List, [], ◌∷◌, ◌++◌, ℕ, ◌-◌, ◌*◌, ◌≤◌, ◌<◌, length, get_or, drop}
 use Rattle.theory.specs.Moves.{patterns, total}
 use Rattle.theory.specs.Pairs.{pairs_of}
 use Rattle.theory.specs.Route.{count}

@@ -1,5 +1,5 @@
 -- The test of a last cut.
-use Rattle.std.specs.Prelude.{◌≡◌, Bool, false, List, [], ℕ, ◌+◌, ◌-◌, ◌*◌, ◌^◌, ◌≤◌, ◌<◌, length, get_or}
+use Rattle.std.specs.Prelude.{◌≡◌, Bool, false, List, [], ℕ, ◌+◌, ◌*◌, ◌^◌, ◌≤◌, ◌<◌, length, get_or}
 use Rattle.theory.specs.Tables.{legs_only, LegTable}
 use Rattle.costs.specs.RouteCosts.{leg, head_end, first_cuts, last_cut}
 use Rattle.scan_shared.specs.Prepared.{Cut, Prepared, Places}

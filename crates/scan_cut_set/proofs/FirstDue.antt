@@ -1,5 +1,5 @@
 -- The steps of the loop over the rows that are left in time and keep their pairs. Assumes nothing.
-use mathlib.Core.Path.{◌≡◌, refl, sym, ap, ◌∙◌}
+use mathlib.Core.Path.{◌≡◌, refl, ap, ◌∙◌}
 use mathlib.Core.Bool.{Bool, true, false, ◌&&◌, and-false}
 use mathlib.Core.List.{List}
 use Prim.Native.Nat.{ℕ, ◌+◌, ◌*◌, ◌≤◌, ◌<◌}
@@ -10,7 +10,7 @@ use borrow.Author.Tests.{lt-ltb, le-ltb}
 use lib.Dec.{ltb}
 use lib.Seq.{slice}
 use Rattle.scan_chains.specs.Chains.{cost}
-use Rattle.deadline_dues.specs.Dues.{in_time, RowTimed}
+use Rattle.deadline_dues.specs.Dues.{in_time}
 use Rattle.precedence_marks.specs.Held.{in_order, RowOrdered}
 use Rattle.scan_cut_set.specs.Gain.{due_gain, Chains, NextShorter, RowJudged, DueRows, FirstDue, OrderRows}
 

@@ -37,7 +37,7 @@ use Rattle.precedence_visits.specs.Visits.{VisitsForgotten}
 use Rattle.scan_shared.proofs.Preparing.{no_table}
 use Rattle.scan_step.specs.Stepping.{ClosingKept}
 use Rattle.scan_step.proofs.Steps.{last_stored}
-use Rattle.scan_rest.specs.Rest.{RowsFrom, PartLent, PartLeft, PartScannable, PartScanned}
+use Rattle.scan_rest.specs.Rest.{PartLeft, PartScannable, PartScanned}
 use Rattle.candidates.specs.Candidate.{candidate, Candidate}
 use Rattle.scan_taking.specs.declared.Limits.{Limits}
 use Rattle.scan_taking.specs.Measure.{Measured, Cleared}

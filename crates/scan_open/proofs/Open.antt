@@ -3,7 +3,7 @@ use mathlib.Core.Path.{◌≡◌, refl, sym, ap, ◌∙◌}
 use mathlib.Core.Bool.{Bool, true, false, cond}
 use mathlib.Core.Logic.{◌⊎◌, inl, inr, ◌≢◌}
 use mathlib.Core.List.{List}
-use Prim.Native.Nat.{ℕ, zero, suc, ◌*◌, ◌≤◌, ◌<◌}
+use Prim.Native.Nat.{ℕ, zero, suc, ◌≤◌, ◌<◌}
 use native.Mathlib.Omega.{arith}
 use lib.Dec.{eqb}
 use borrow.Author.Tests.{ne_eqb}
@@ -21,7 +21,7 @@ use Rattle.scan_sifting.specs.Sifting.{opens, sifted_list, Sifted, Siftable, Ope
 use Rattle.scan_sifting.proofs.Opens.{opens_few, opens_below, opens_more, opens_all, opens_before, all_opens}
 use Rattle.scan_sifting.proofs.Sifting.{open_all, sifted_whole, sifted_patterned, sifted_at, sifted_length}
 use Rattle.scan_cut_set.specs.Gain.{FirstGain, Findable, Found}
-use Rattle.scan_open.specs.Open.{AtHand, HandKept, SiftAsked, SiftReady, LimitAsked, PatternAsked, OpenFindable, OpenFound}
+use Rattle.scan_open.specs.Open.{AtHand, SiftAsked, SiftReady, LimitAsked, PatternAsked, OpenFindable}
 
 -- ---- what is at hand
 

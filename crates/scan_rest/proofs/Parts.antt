@@ -1,9 +1,9 @@
 -- A part of the scan, over plain lists: the rows that it is scanned with, and what its end gives. Assumes nothing.
 use mathlib.Core.Path.{◌≡◌, refl, sym, ap, ◌∙◌}
-use mathlib.Core.Bool.{Bool, true, false, true≢false}
+use mathlib.Core.Bool.{Bool, true, false}
 use mathlib.Core.Logic.{inl, inr}
 use mathlib.Core.List.{List, [], ◌∷◌, ◌++◌}
-use Prim.Native.Nat.{ℕ, zero, suc, min, ◌+◌, ◌-◌, ◌*◌, ◌≤◌, ◌<◌}
+use Prim.Native.Nat.{ℕ, zero, suc, ◌+◌, ◌-◌, ◌*◌, ◌≤◌, ◌<◌}
 use native.Mathlib.Omega.{arith}
 use native.Mathlib.Nat.{suc-mul, mul-le-mul_right}
 use lib.ListN.{length, get_or, set, take, drop, length-drop}
@@ -11,7 +11,7 @@ use borrow.Author.Rules.{part_to_end}
 use Rattle.theory.specs.Moves.{Pattern}
 use Rattle.theory.specs.Pairs.{pairs_of}
 use Rattle.theory.specs.Scan.{improves}
-use Rattle.theory.specs.Polish.{search_of, move_at}
+use Rattle.theory.specs.Polish.{search_of}
 use Rattle.theory.specs.Tables.{problem, PatternRows, pattern_rows, Trip}
 use Rattle.theory.proofs.Rows.{length_rows}
 use Rattle.slices.proofs.RestRows.{rows_from, rest_rows, move_from}

@@ -1,15 +1,13 @@
 -- Rows that are closed: no candidate of them improves the route, from the last cut at hand on. Assumes nothing.
 use mathlib.Core.Path.{◌≡◌, refl, sym, ap, ◌∙◌}
 use mathlib.Core.Bool.{Bool, true, false, true≢false, ◌&&◌, and-false}
-use mathlib.Core.Logic.{◌⊎◌, inl, inr}
+use mathlib.Core.Logic.{inl, inr}
 use mathlib.Core.List.{List, [], ◌∷◌, ◌++◌}
-use Prim.Native.Nat.{ℕ, zero, suc, ◌+◌, ◌-◌, ◌≤◌, ◌<◌}
+use Prim.Native.Nat.{ℕ, zero, suc, ◌-◌, ◌≤◌, ◌<◌}
 use native.Mathlib.Omega.{arith}
-use native.Mathlib.Decide.{dec_lt}
 use lib.Bits.{bit_and, and_zero_r}
 use lib.Dec.{leb, ltb, eqb}
 use lib.ListN.{length, get_or, take, drop}
-use borrow.Author.Tests.{le-leb}
 use Rattle.theory.specs.Moves.{Pattern}
 use Rattle.theory.specs.Pairs.{pairs_of, visited, pair_kept, pairs_kept, front_kept, back_kept}
 use Rattle.theory.specs.Route.{reconnected, tour_length, timely}
@@ -17,15 +15,15 @@ use Rattle.theory.specs.Scan.{improves}
 use Rattle.theory.specs.Polish.{search_of, move_at}
 use Rattle.theory.specs.Tables.{problem, timetable_by, CutSet, ForK, Trip}
 use Rattle.costs.specs.RouteCosts.{first_cuts, last_cut}
-use Rattle.scan_joints.specs.States.{row, states, no_pattern, Patterned}
+use Rattle.scan_joints.specs.States.{states, no_pattern, Patterned}
 use Rattle.scan_shared.specs.Filling.{open_by}
 use Rattle.deadline_dues.specs.Parts.{middle}
-use Rattle.precedence.specs.Words.{BackSince, Readable}
+use Rattle.precedence.specs.Words.{BackSince}
 use Rattle.precedence.proofs.Words.{all_same}
 use Rattle.precedence_visits.specs.Visits.{VisitsAsked, VisitsReached}
-use Rattle.precedence_closing.specs.Closing.{sign, Signed, Shuts, ClosingAsked, ClosedBy}
+use Rattle.precedence_closing.specs.Closing.{sign, Shuts, ClosingAsked, ClosedBy}
 use Rattle.scan_cut_set.proofs.Kept.{candidate_kept}
-use Rattle.scan_step.specs.Stepping.{Listed, ClosingKept, Shutting, BlockAsked, BlockedAt, improves_at}
+use Rattle.scan_step.specs.Stepping.{ClosingKept, Shutting, BlockAsked, BlockedAt, improves_at}
 use Rattle.scan_step.proofs.LastCut.{first_below, long, at_cut}
 
 -- ---- what is blocked where nothing is

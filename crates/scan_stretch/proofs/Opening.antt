@@ -10,12 +10,11 @@ use Rattle.costs.specs.RouteCosts.{first_cuts}
 use Rattle.costs.proofs.Segments.{cut_below, first_many}
 use Rattle.scan_shared.specs.Bound.{opened}
 use Rattle.scan_shared.specs.Prepared.{Opened}
-use Rattle.scan_shared.specs.Filling.{Preparable, PreparedNow, Tabled, Sharing}
+use Rattle.scan_shared.specs.Filling.{Preparable, Sharing}
 use Rattle.scan_shared.proofs.Preparing.{first_of_cuts, last_of_cuts, long}
-use Rattle.scan_step.specs.declared.Stretch.{Stretch}
 use Rattle.scan_step.proofs.LastCut.{not_empty, opened_cut}
 use Rattle.scan_step.proofs.Steps.{last_stored}
-use Rattle.scan_stretch.specs.Stretch.{Openable, Stretched}
+use Rattle.scan_stretch.specs.Stretch.{Openable}
 
 opened_so : (pre : List ℕ) → 1 ≤ length pre → Opened (opened pre)
 opened_so pre h =

@@ -1,16 +1,16 @@
 -- A stretch, last cut by last cut: what its loop begins with, and what it goes on with. Assumes nothing.
-use mathlib.Core.Path.{◌≡◌, refl, sym, ap, ◌∙◌}
+use mathlib.Core.Path.{◌≡◌, refl, sym, ◌∙◌}
 use mathlib.Core.Bool.{Bool, false}
-use mathlib.Core.Logic.{◌⊎◌, inl, inr}
+use mathlib.Core.Logic.{inl, inr}
 use mathlib.Core.List.{List}
-use Prim.Native.Nat.{ℕ, ◌+◌, ◌-◌, ◌*◌, ◌≤◌, ◌<◌}
+use Prim.Native.Nat.{ℕ, ◌-◌, ◌*◌, ◌≤◌, ◌<◌}
 use native.Mathlib.Omega.{arith}
 use lib.ListN.{length, get_or, set, replicate}
 use Rattle.theory.specs.Moves.{Pattern}
 use Rattle.theory.specs.Pairs.{pairs_of}
 use Rattle.theory.specs.Tables.{problem, Trip}
 use Rattle.theory.proofs.Judged.{followed, to_end}
-use Rattle.costs.specs.RouteCosts.{first_cuts, last_cut}
+use Rattle.costs.specs.RouteCosts.{last_cut}
 use Rattle.scan_shared.specs.Prepared.{RowsFit}
 use Rattle.scan_shared.specs.Filling.{open_by, PreparedNow, Tabled, Lowerable, Relowered, Sharing}
 use Rattle.scan_shared.proofs.Preparing.{zero_at, prepared_anew}

@@ -1,5 +1,5 @@
 -- A stretch of the scan: the cut sets with the same first cuts, from one of them on.
-use Rattle.std.specs.Prelude.{◌≡◌, Bool, true, false, List, [], ◌∷◌, ◌++◌, ℕ, min, ◌+◌, ◌-◌, ◌*◌, ◌≤◌, ◌<◌, length}
+use Rattle.std.specs.Prelude.{◌≡◌, true, false, List, [], ◌∷◌, ◌++◌, ℕ, min, ◌+◌, ◌-◌, ◌*◌, ◌≤◌, ◌<◌, length}
 use Rattle.theory.specs.Moves.{Pattern}
 use Rattle.theory.specs.Pairs.{pairs_of}
 use Rattle.theory.specs.Route.{Problem}
@@ -8,7 +8,7 @@ use Rattle.deadlines.specs.Lateness.{LongestHead, Latenesses}
 use Rattle.scan_joints.specs.JointTable.{Padded}
 use Rattle.costs.specs.RouteCosts.{first_cuts, last_cut}
 use Rattle.scan_shared.specs.Prepared.{Cut, Places, RowsFit}
-use Rattle.scan_shared.specs.Filling.{Blank, Sharing}
+use Rattle.scan_shared.specs.Filling.{Blank}
 use Rattle.precedence_contradictions.specs.Contrary.{Heads}
 use Rattle.precedence.specs.Words.{PairsLent, FrontReach, BackSince}
 use Rattle.precedence_closing.specs.Closing.{Signed}

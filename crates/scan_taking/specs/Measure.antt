@@ -4,7 +4,7 @@ use Rattle.theory.specs.Moves.{total}
 use Rattle.theory.specs.Costs.{forward, backward}
 use Rattle.theory.specs.Tables.{Tables, clock_by, LegTable, Stops, Clocked}
 use Rattle.costs.specs.RouteCosts.{leg, Sums}
-use Rattle.deadlines.specs.Stays.{Stays, StaysFillable}
+use Rattle.deadlines.specs.Stays.{Stays}
 use Rattle.deadlines.specs.Lateness.{LongestHead, Latenesses}
 use Rattle.candidates.specs.Candidate.{candidate, Candidate}
 use Rattle.precedence.specs.Words.{PairsLent}

@@ -10,7 +10,7 @@ use lib.ListN.{length, get_or, take, drop, length-append, length-drop, drop_of_l
 use lib.Seq.{drop-cons, drop-drop, take-add, length-take-le}
 use borrow.Author.Tests.{lt-ltb, le-ltb, ltb-true, ltb-false}
 use Rattle.text_tokens.specs.Tokens.{after}
-use Rattle.season_blocks.specs.Blocks.{lines, separator, before_first, blocks_of, blocks, line_size, block_size}
+use Rattle.season_blocks.specs.Blocks.{lines, separator, blocks_of, blocks, line_size, block_size}
 use Rattle.season_blocks.proofs.Lines.{line_within, separated, not_separated}
 
 -- The blocks after one that ends at a place.

@@ -6,11 +6,11 @@ use Prim.Native.Nat.{ℕ, suc, ◌+◌, ◌-◌, ◌≤◌, ◌<◌}
 use native.Mathlib.Omega.{arith}
 use native.Mathlib.Numerals.{add-one}
 use lib.Dec.{ltb}
-use lib.ListN.{length, get_or, take, drop, set, length-append, length-drop, length-set}
-use lib.Seq.{drop-drop, length-take-le, take-suc-set, take-length}
+use lib.ListN.{length, get_or, take, drop, set, length-drop, length-set}
+use lib.Seq.{length-take-le, take-suc-set}
 use borrow.Author.Tests.{lt-ltb, le-ltb, ltb-true, le-leb, lt-leb}
 use Rattle.season_blocks.specs.Blocks.{blocks, block_size, parts, Ends, Parted}
-use Rattle.season_blocks.proofs.Blocks.{later, later_from, First, first}
+use Rattle.season_blocks.proofs.Blocks.{later, later_from, first}
 
 -- Where blocks that stand from a place on end.
 unfoldable pub ends_from : ℕ → List (List ℕ) → List ℕ

@@ -5,10 +5,10 @@ use mathlib.Core.Option.{Option, none, some}
 use Prim.Native.Nat.{ℕ, ◌+◌, ◌*◌, ◌≤◌}
 use native.Mathlib.Omega.{arith}
 use lib.ListN.{length}
-use Rattle.text_polishing.specs.Outcome.{Outcome, no, yes, outcome, outcome_told, lengths_of, lengths, answer_told, Tells}
+use Rattle.text_polishing.specs.Outcome.{outcome_told, lengths_of, lengths, Tells}
 use Rattle.text_polishing.specs.declared.TextAnswer.{TextAnswer}
 use Rattle.text_polishing.specs.declared.TextAnswer.TheVariants as T
-use Rattle.text_polishing.proofs.Bounds.{Lengths, kept_lengths}
+use Rattle.text_polishing.proofs.Bounds.{kept_lengths}
 use Rattle.theory.specs.Answers.{counts_of}
 use Rattle.theory.specs.declared.Polished.{Polished}
 use Rattle.theory.specs.declared.Polished.TheVariants.{Finished, Spent}

@@ -7,12 +7,11 @@ use native.Mathlib.Omega.{arith}
 use lib.Dec.{leb, ltb}
 use lib.ListN.{length, take, drop, length-append}
 use lib.Seq.{take_at, length-take-le}
-use borrow.Author.Tests.{lt-ltb, le-ltb, leb-true, leb-false}
+use borrow.Author.Tests.{lt-ltb, le-ltb, leb-false}
 use Rattle.theory.specs.Refusals.{either, rules_of, first_in, refusal}
 use Rattle.text_polishing.specs.Outcome.{lengths}
 use Rattle.text_printing.specs.Answer.{refusal_text, Printed}
-use Rattle.text_printing.proofs.Lengths.{refusal_length}
-use Rattle.season_blocks.specs.Blocks.{blocks, parts, Ends, Parted}
+use Rattle.season_blocks.specs.Blocks.{blocks, parts, Parted}
 use Rattle.season_numbers.specs.Season.{middle_of}
 use Rattle.season_numbers.specs.Adding.{Middling, Summed}
 use Rattle.season_numbers.specs.declared.Sums.{Sums}

@@ -4,7 +4,7 @@ use mathlib.Core.List.{List, [], ◌∷◌, ◌++◌, map, map-append}
 use Prim.Native.Nat.{ℕ, zero, suc, ◌+◌, ◌-◌, ◌≤◌, ◌<◌}
 use native.Mathlib.Omega.{arith}
 use native.Mathlib.Numerals.{add-one}
-use lib.ListN.{length, get_or, take, drop, replicate, length-take}
+use lib.ListN.{length, get_or, take, drop, length-take}
 use lib.Seq.{drop-cons, take_all}
 use Rattle.text_polishing.specs.Outcome.{lengths}
 use Rattle.season_blocks.specs.Blocks.{parts, Ends}

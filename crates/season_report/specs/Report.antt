@@ -1,5 +1,5 @@
 -- Request (xi): the season report from bytes to bytes.
-use Rattle.std.specs.Prelude.{◌≡◌, ◌||◌, cond, List, [], ◌∷◌, map, ℕ, ◌≤◌, ltb, length, take}
+use Rattle.std.specs.Prelude.{◌≡◌, ◌||◌, List, [], ◌∷◌, map, ℕ, ◌≤◌, ltb, length, take}
 use Rattle.theory.specs.Tables.{Tables}
 use Rattle.theory.specs.Refusals.{Rule, refusal, if_taken}
 use Rattle.text_problem.specs.Judged.{ProblemPlaces}

@@ -1,20 +1,17 @@
 -- What is promised of a round holds of its turn, by its definition alone. Assumes nothing.
-use mathlib.Core.Path.{◌≡◌, refl, ap, ◌∙◌}
+use mathlib.Core.Path.{◌≡◌, refl}
 use mathlib.Core.Bool.{cond}
 use mathlib.Core.List.{List}
-use Prim.Native.Nat.{ℕ, min, ◌≤◌}
+use Prim.Native.Nat.{ℕ, ◌≤◌}
 use native.Mathlib.Omega.{arith}
 use lib.Dec.{eqb}
-use lib.ListN.{length}
-use Rattle.theory.specs.Moves.{patterns}
 use Rattle.theory.specs.Route.{Problem, count}
-use Rattle.theory.specs.Polish.{polish}
 use Rattle.theory.specs.Tables.{problem}
 use Rattle.run_numbers.specs.States.{number_of, examined_of}
 use Rattle.rounds.specs.Rounds.{Given, Outcome}
 use Rattle.rounds.specs.Turn.{accepted_of}
 use Rattle.rounds.proofs.Turn.{Fine, turn_fine, turn_fair, started, of_nothing, passed_over}
-use Rattle.share_numbers.specs.Shares.{takes_part, turn_of}
+use Rattle.share_numbers.specs.Shares.{turn_of}
 use Rattle.share_numbers.specs.Shared.{RoundShared}
 
 module _ (k share given : ℕ) (g : Given) (least : 2 ≤ k) (most : k ≤ 5) (mine : share ≤ given) where

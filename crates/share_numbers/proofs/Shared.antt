@@ -1,7 +1,7 @@
 -- Where stops and result are the definition's, the rest of the promise follows. Assumes nothing.
-use mathlib.Core.Path.{◌≡◌, refl, sym, ap, ◌∙◌}
+use mathlib.Core.Path.{◌≡◌, sym, ap, ◌∙◌}
 use mathlib.Core.List.{List, ◌++◌, map}
-use Prim.Native.Nat.{ℕ, zero, suc, ◌+◌, ◌*◌, ◌≤◌, ◌<◌}
+use Prim.Native.Nat.{ℕ, ◌+◌, ◌*◌, ◌≤◌, ◌<◌}
 use native.Mathlib.Omega.{arith}
 use lib.ListN.{length, get_or, drop, length-map}
 use Rattle.theory.specs.Moves.{total, upfrom}
@@ -9,12 +9,12 @@ use Rattle.theory.specs.Tables.{Tables, Fleet, problem}
 use Rattle.theory.proofs.Moves.{length_upfrom}
 use Rattle.run_numbers.specs.States.{kept_values, number_of, examined_of}
 use Rattle.run_numbers.proofs.Values.{four_kept, kept_number, kept_examined, kept_accepted, kept_applied}
-use Rattle.rounds.specs.Rounds.{Given, unasked, Outcome, round_at, given, rounds, routes, rows, state_in, examined_at, accepted_at, applied_at, examined_in}
+use Rattle.rounds.specs.Rounds.{Given, unasked, Outcome, round_at, rounds, routes, rows, state_in, examined_at, accepted_at, applied_at, examined_in}
 use Rattle.rounds.specs.Turn.{accepted_of}
 use Rattle.rounds.proofs.Turn.{turn_length}
 use Rattle.rounds.proofs.Places.{none, value_at, number_at, route_at, listed_at, given_at, how_many, lengths_are, same_lengths}
-use Rattle.share_numbers.specs.Shares.{takers, each, remainder, share_of, turn_of, left_over, given_to, in_shares, own, shared_turn, left_after, dispatch}
-use Rattle.share_numbers.specs.Shared.{RoundShared, Shared}
+use Rattle.share_numbers.specs.Shares.{takers, each, remainder, share_of, turn_of, given_to, in_shares, own, shared_turn, left_after, dispatch}
+use Rattle.share_numbers.specs.Shared.{Shared}
 use Rattle.share_numbers.proofs.EachRound.{round_shared}
 use Rattle.share_numbers.proofs.Running.{dispatch_is}
 use Rattle.share_numbers.proofs.Sums.{total_upto, left_sum, examined_within}

@@ -1,7 +1,7 @@
 -- Who takes part, told by pins and lengths; and what the allowance is divided into. Assumes nothing.
-use mathlib.Core.Path.{◌≡◌, refl, sym, ap, ◌∙◌}
+use mathlib.Core.Path.{◌≡◌, refl, ◌∙◌}
 use mathlib.Core.Bool.{Bool, true, false, cond, ◌&&◌}
-use mathlib.Core.List.{List, [], ◌∷◌, map}
+use mathlib.Core.List.{List, map}
 use Prim.Native.Nat.{ℕ, zero, suc, ◌+◌, ◌/◌, ◌%◌, ◌≤◌, ◌<◌}
 use native.Mathlib.Numerals.{add-one}
 use native.Mathlib.Omega.{arith}
@@ -10,9 +10,9 @@ use lib.ListN.{length, get_or, length-take, length-drop}
 use borrow.Author.Tests.{eq-eqb, ne_eqb, lt-leb, le-leb}
 use Rattle.theory.specs.Moves.{total, upfrom}
 use Rattle.theory.specs.Tables.{Tables, Fleet}
-use Rattle.rounds.specs.Rounds.{Given, round_at, given, rounds}
+use Rattle.rounds.specs.Rounds.{round_at, given, rounds}
 use Rattle.rounds.proofs.Places.{within}
-use Rattle.share_numbers.specs.Shares.{takes_part, takers, each, remainder, own_by, takers_by, own}
+use Rattle.share_numbers.specs.Shares.{takers, each, remainder, own_by, takers_by, own}
 use Rattle.share_numbers.proofs.Sums.{total_last, total_upto}
 use Rattle.shares.specs.Dividing.{DividedInto}
 

@@ -1,10 +1,9 @@
 -- The loop over the rounds with their shares: what holds between two turns, and that a turn keeps it. Assumes nothing.
-use mathlib.Core.Path.{◌≡◌, refl, sym, ap, ◌∙◌}
+use mathlib.Core.Path.{◌≡◌, sym, ◌∙◌}
 use mathlib.Core.List.{List, ◌∷◌, ◌++◌}
 use Prim.Native.Nat.{ℕ, ◌+◌, ◌-◌, ◌*◌, ◌≤◌, ◌<◌}
 use native.Mathlib.Omega.{arith}
 use lib.ListN.{length, get_or, take, drop}
-use Rattle.theory.specs.Moves.{upfrom}
 use Rattle.theory.specs.Pairs.{pairs_of}
 use Rattle.theory.specs.Tables.{Tables, Fleet, problem}
 use Rattle.theory.specs.declared.RoundState.{RoundState}

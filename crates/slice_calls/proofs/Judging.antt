@@ -1,14 +1,13 @@
 -- What a slice is handed, judged in parts. Assumes nothing.
-use mathlib.Core.Path.{◌≡◌, refl, sym, ap, ap₂, ◌∙◌}
-use mathlib.Core.Bool.{true, false}
-use mathlib.Core.List.{List, [], ◌∷◌, ◌++◌}
+use mathlib.Core.Path.{◌≡◌, refl, sym, ap₂, ◌∙◌}
+use mathlib.Core.List.{List, ◌∷◌}
 use Prim.Native.Nat.{ℕ, suc, ◌+◌, ◌≤◌, ◌<◌}
 use native.Mathlib.Omega.{arith}
-use lib.ListN.{length, get_or, take}
+use lib.ListN.{length}
 use borrow.Author.Tests.{le-leb, lt-leb, ltb-false}
 use Rattle.theory.specs.Tables.{Trip}
-use Rattle.theory.specs.Refusals.{number, either, refusal, cut_count, room, paired_rules, pattern_index, cut_positions}
-use Rattle.theory.proofs.Refusals.{Passes, known, either_zero, either_assoc, applies_first, passed_over}
+use Rattle.theory.specs.Refusals.{number, either, refusal, cut_count, room, paired_rules}
+use Rattle.theory.proofs.Refusals.{known, either_zero, either_assoc, applies_first, passed_over}
 use Rattle.theory.proofs.Taken.{taken_passes}
 use Rattle.theory.proofs.Judged.{cut_count_fine}
 use Rattle.slices.specs.Places.{place_rules}

@@ -1,7 +1,7 @@
 -- The reply of a slice, over plain values. Assumes nothing.
 use mathlib.Core.Path.{◌≡◌, refl, sym, ap, ap₂, ◌∙◌}
 use mathlib.Core.List.{List, [], ◌∷◌, ◌++◌}
-use Prim.Native.Nat.{ℕ, zero, suc, ◌+◌, ◌≤◌}
+use Prim.Native.Nat.{ℕ, zero, suc, ◌≤◌}
 use native.Mathlib.Omega.{arith}
 use lib.ListN.{length, get_or, take, drop}
 use lib.Seq.{length-take-le}
@@ -12,7 +12,7 @@ use Rattle.theory.specs.Polish.{ForCuts}
 use Rattle.theory.specs.Tables.{problem, Trip}
 use Rattle.theory.specs.Refusals.{Rule, refusal}
 use Rattle.theory.specs.Question.{Question, paired_question_rules}
-use Rattle.theory.specs.Answers.{reply_of, handed_back, polish_values}
+use Rattle.theory.specs.Answers.{handed_back, polish_values}
 use Rattle.theory.specs.declared.Counts.{Counts}
 use Rattle.theory.specs.declared.Polished.{Polished}
 use Rattle.theory.proofs.Refusals.{Passes, known}

@@ -1,11 +1,11 @@
 -- The cuts before which two routes agree, from the start up, and those behind which they do, from the end down. Assumes nothing.
-use mathlib.Core.Path.{◌≡◌, refl, sym}
+use mathlib.Core.Path.{◌≡◌, sym}
 use mathlib.Core.List.{List}
-use Prim.Native.Nat.{ℕ, suc, ◌+◌, ◌-◌, ◌≤◌, ◌<◌}
+use Prim.Native.Nat.{ℕ, ◌+◌, ◌-◌, ◌≤◌, ◌<◌}
 use native.Mathlib.Omega.{arith}
 use native.Mathlib.Decide.{ℕ_discrete, dec_lt}
 use lib.Bits.{bit_or}
-use lib.ListN.{length, get_or}
+use lib.ListN.{get_or}
 use Rattle.standing.specs.Places.{Has, OnePlace}
 use Rattle.standing.specs.Standing.{HeadSet, TailSet}
 use Rattle.standing.proofs.Places.{has_first, has_second}

@@ -1,17 +1,17 @@
 -- The tables of ends, both ways together, and of the ends of later parts. Assumes nothing.
-use mathlib.Core.Path.{◌≡◌, refl, sym, ap, ◌∙◌}
+use mathlib.Core.Path.{◌≡◌, refl, ◌∙◌}
 use mathlib.Core.Logic.{⊎_elim}
 use mathlib.Core.List.{List}
-use Prim.Native.Nat.{ℕ, zero, suc, ◌+◌, ◌*◌, ◌≤◌, ◌<◌}
+use Prim.Native.Nat.{ℕ, suc, ◌+◌, ◌*◌, ◌≤◌, ◌<◌}
 use native.Mathlib.Omega.{arith}
 use native.Mathlib.Decide.{ℕ_discrete}
 use lib.Bits.{bit_or}
 use lib.ListN.{length, get_or, set}
 use lib.Seq.{get_or-set_same, get_or-set_other}
 use Rattle.standing.specs.Places.{Has}
-use Rattle.standing.specs.Standing.{Stands, Pair, EndsTable, PartsTable}
+use Rattle.standing.specs.Standing.{Pair, EndsTable, PartsTable}
 use Rattle.standing.proofs.Places.{has_first, has_second}
-use Rattle.standing_tables.specs.Filling.{SameTable, AlongFrom, AgainstFrom, AlongTable, AgainstTable, Merged, PartsGood, PartsFrom, PartsFilled}
+use Rattle.standing_tables.specs.Filling.{SameTable, AlongTable, AgainstTable, Merged, PartsGood, PartsFrom}
 
 -- One place more of two tables together; those behind it are as they were.
 module _ (along against table : List ℕ) (i : ℕ) (room : i < length table) (done : Merged i along against table) (rest : (j : ℕ) → i ≤ j → get_or table j 0 ≡ get_or along j 0) where

@@ -1,8 +1,8 @@
 -- A row of the table of where parts stand, one stop longer at a time. Assumes nothing.
-use mathlib.Core.Path.{◌≡◌, refl, sym, ap, ◌∙◌}
+use mathlib.Core.Path.{◌≡◌, refl, ◌∙◌}
 use mathlib.Core.Logic.{⊎_elim}
 use mathlib.Core.List.{List}
-use Prim.Native.Nat.{ℕ, zero, suc, ◌+◌, ◌-◌, ◌*◌, ◌/◌, ◌^◌, ◌≤◌, ◌<◌}
+use Prim.Native.Nat.{ℕ, ◌+◌, ◌-◌, ◌*◌, ◌/◌, ◌^◌, ◌≤◌, ◌<◌}
 use native.Mathlib.Omega.{arith}
 use native.Mathlib.Nat.{add-zero, add_comm}
 use native.Mathlib.Decide.{ℕ_discrete}
@@ -10,7 +10,7 @@ use lib.Bits.{bit_and, bit_or}
 use lib.ListN.{length, get_or, set, length-set}
 use lib.Seq.{get_or-set_same, get_or-set_other}
 use Rattle.standing.specs.Places.{Has}
-use Rattle.standing.specs.Standing.{Along, Against, Stands, Pair}
+use Rattle.standing.specs.Standing.{Against, Stands, Pair}
 use Rattle.standing.proofs.Places.{has_first, has_second, has_both, has_lower}
 use Rattle.standing_tables.specs.Filling.{SameTable, AlongAt, AgainstAt, RowTo, RowsBelow, RowKept, RowRoom, RowFilled, StandsFilled}
 

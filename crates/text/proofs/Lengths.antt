@@ -11,7 +11,7 @@ use lib.Seq.{drop_at}
 use Rattle.text_decimal.specs.Decimal.{digits}
 use Rattle.text_decimal.specs.Text.{ascii, line}
 use Rattle.text_decimal.proofs.Values.{Digits, digits_all, digits_injective}
-use Rattle.text_printing.specs.Answer.{outcome, late_line, answer_text, refusal_text}
+use Rattle.text_printing.specs.Answer.{outcome, answer_text, refusal_text}
 use Rattle.text_putting.proofs.Lists.{line_one}
 use Rattle.text_polishing.specs.Outcome.{Answer, Outcome, no, yes, outcome as outcome_to, lengths_of, lengths}
 use Rattle.text.specs.Program.{answer_lines, outcome_text, program, Answers}

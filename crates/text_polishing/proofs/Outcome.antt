@@ -1,6 +1,6 @@
 -- A text that was judged, and its question polished: what the answer then tells. Assumes nothing.
 use mathlib.Core.Path.{◌≡◌, refl, sym, ap, ◌∙◌, subst}
-use mathlib.Core.Bool.{Bool, true, false, cond, true≢false}
+use mathlib.Core.Bool.{Bool, true, false, cond}
 use mathlib.Core.List.{List, [], ◌++◌}
 use mathlib.Core.Option.{Option, none, some}
 use Prim.Native.Nat.{ℕ, ◌≤◌}
@@ -22,7 +22,7 @@ use Rattle.polishing.specs.Loop.{Polishable}
 use Rattle.polishing.proofs.Judged.{polishable_fine, none_lent}
 use Rattle.text_question.specs.Reading.{read}
 use Rattle.text_question.specs.declared.Header.{Header}
-use Rattle.text_problem.specs.Judged.{Judged, refused, taken, judge, judge_read, judged, ProblemPlaces, question_in, judged_told, locations_told, stops_told, Judges}
+use Rattle.text_problem.specs.Judged.{refused, taken, judge_read, judged, ProblemPlaces, question_in, judged_told, locations_told, stops_told, Judges}
 use Rattle.text_problem.specs.declared.ProblemRead.{ProblemRead}
 use Rattle.text_problem.specs.declared.ProblemRead.TheVariants as P
 use Rattle.text_polishing.specs.Outcome.{yes, reply_answer, answer, outcome_of, outcome, Asked, PolishedIn, answer_told, Tells}

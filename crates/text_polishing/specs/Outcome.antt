@@ -1,5 +1,5 @@
 -- What the text program answers to a text, before it is printed.
-use Rattle.std.specs.Prelude.{◌≡◌, Bool, true, false, List, ℕ, ◌*◌, ◌≤◌, length, take}
+use Rattle.std.specs.Prelude.{◌≡◌, Bool, true, false, List, ℕ, ◌≤◌, length, take}
 use Rattle.std.proofs.Math.Option.{Option, none, some}
 use Rattle.theory.specs.Moves.{patterns}
 use Rattle.theory.specs.Scan.{Reply}

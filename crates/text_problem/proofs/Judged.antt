@@ -1,18 +1,18 @@
 -- A text that was read, judged: by its highest stop, and then by how many there are. Assumes nothing.
 use mathlib.Core.Path.{◌≡◌, refl, sym, ap, ◌∙◌}
 use mathlib.Core.Bool.{Bool, true, false, cond, ◌||◌}
-use mathlib.Core.List.{List, [], ◌∷◌, ◌++◌}
-use mathlib.Core.Option.{Option, none, some, none-ne-some}
+use mathlib.Core.List.{List, [], ◌∷◌}
+use mathlib.Core.Option.{none, some, none-ne-some}
 use Prim.Native.Nat.{ℕ, ◌*◌, ◌≤◌}
 use native.Mathlib.Omega.{arith}
 use native.Mathlib.Nat.{mul-le-mul}
 use lib.Dec.{leb}
-use lib.ListN.{length, take, drop}
+use lib.ListN.{length, drop}
 use borrow.Author.Tests.{ne_eqb, eq-eqb, ltb-false}
 use Rattle.theory.specs.Tables.{Tables, tables, Trip}
 use Rattle.theory.specs.Refusals.{any, either, number, refusal, cut_count, known_stops, known_end, stop_count, table_rules, trip_rules}
 use Rattle.theory.specs.Question.{Question, question_rules}
-use Rattle.theory.proofs.Refusals.{Passes, known, accepted, four_then}
+use Rattle.theory.proofs.Refusals.{known, accepted, four_then}
 use Rattle.refusals.proofs.Either.{trip_parts}
 use Rattle.text_decimal.specs.Text.{ascii}
 use Rattle.text_tokens.proofs.Numbers.{same_read}
@@ -27,7 +27,7 @@ use Rattle.text_question.specs.Reading.{read}
 use Rattle.text_question.specs.Told.{question_with, Places, ReadAs}
 use Rattle.text_question.specs.declared.Header.{Header}
 use Rattle.text_question.proofs.Texts.{read_exactly}
-use Rattle.text_problem.specs.Judged.{Judged, refused, taken, judged, judge, judge_read, ProblemPlaces, Lies, first_refusal, question_in, Judges}
+use Rattle.text_problem.specs.Judged.{judged, judge_read, ProblemPlaces, first_refusal, Judges}
 use Rattle.text_problem.specs.declared.ProblemRead.TheVariants as P
 
 pub still_lent : {legs latest service stops legs' latest' service' stops' : List ℕ} → ProblemPlaces (tables 96 legs latest service) stops →

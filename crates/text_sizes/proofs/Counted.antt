@@ -1,10 +1,10 @@
 -- Digits and numbers counted as the loops count them. Assumes nothing.
-use mathlib.Core.Path.{◌≡◌, ap, ◌∙◌}
+use mathlib.Core.Path.{◌≡◌, ap}
 use mathlib.Core.List.{List, [], ◌∷◌, ◌++◌}
 use Prim.Native.Nat.{ℕ, ◌+◌, ◌-◌, ◌*◌, ◌/◌, ◌^◌, ◌≤◌, ◌<◌}
 use native.Mathlib.Omega.{arith}
 use lib.ListN.{length, get_or, drop, length-append}
-use Rattle.text_decimal.specs.Decimal.{last_digit, leading_within, leading, digits}
+use Rattle.text_decimal.specs.Decimal.{last_digit, leading, digits}
 use Rattle.text_decimal.specs.Text.{further, listed, line}
 use Rattle.text_decimal.proofs.Digits.{leading_last, leading_none, digits_length}
 use Rattle.text_putting.proofs.Lists.{further_next, further_none, line_one}

@@ -1,6 +1,5 @@
 -- `costs::cost` meets its contract. The invariant: what is added up so far, with the way through the segments still to place, is the whole way.
 use mathlib.Core.Path.{ap}
-use Prim.Native.Nat.{◌-◌}
 use native.Mathlib.Omega.{arith}
 use Rattle.theory.specs.Tables.{legs_only}
 use Rattle.costs.specs.RouteCosts.{leg}

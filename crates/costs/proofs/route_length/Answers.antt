@@ -1,5 +1,4 @@
 -- `costs::route_length` meets its contract. The invariant: what is added up so far, with what is to go, is the length.
-use Prim.Native.Nat.{◌-◌}
 use native.Mathlib.Omega.{arith}
 use Rattle.theory.specs.Tables.{legs_only}
 use Rattle.costs.proofs.Length.{all_to_go, next_to_go, last_to_go}

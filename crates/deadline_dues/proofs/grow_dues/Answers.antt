@@ -1,6 +1,5 @@
 -- `deadline_dues::grow_dues` meets its contract. The invariant: the dues are those of the segment up to here. Assumes nothing.
 use mathlib.Core.Path.{◌≡◌}
-use Prim.Native.Nat.{◌-◌}
 use native.Mathlib.Omega.{arith}
 use Rattle.deadline_dues.proofs.grow_dues.Goals as goal
 

@@ -1,7 +1,6 @@
 -- `deadline_dues::judge_row` meets its contract. The invariant: the states to come decide, from the state before and the second of the clock. Assumes nothing.
 use mathlib.Core.Path.{refl, sym}
-use Prim.Native.Nat.{◌+◌, ◌-◌, ◌*◌, ◌≤◌, ◌<◌}
-use lib.ListN.{length}
+use Prim.Native.Nat.{◌+◌, ◌*◌, ◌<◌}
 use Rattle.deadline_dues.proofs.InTime.{next_late, next_in_time, no_states}
 use native.Mathlib.Omega.{arith}
 use Rattle.deadline_dues.proofs.judge_row.Goals as goal

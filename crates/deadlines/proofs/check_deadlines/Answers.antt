@@ -1,5 +1,5 @@
 -- `deadlines::check_deadlines` meets its contract. The invariant: the clock is the legs and services up to here, and no stop so far is late.
-use Prim.Native.Nat.{◌-◌, ◌<◌}
+use Prim.Native.Nat.{◌<◌}
 use native.Mathlib.Omega.{arith}
 use lib.ListN.{get_or}
 use Rattle.theory.specs.Tables.{timetable_by, tables, Tables}

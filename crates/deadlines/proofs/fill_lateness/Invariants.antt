@@ -1,5 +1,5 @@
 -- `deadlines::fill_lateness` meets its contract: back from the end, position by position. Assumes nothing.
-use Prim.Native.Nat.{◌-◌, ◌≤◌}
+use Prim.Native.Nat.{◌≤◌}
 use lib.ListN.{length}
 use Rattle.theory.specs.Tables.{clock_by, tables}
 use Rattle.deadlines.proofs.Filling.{Back}

@@ -1,5 +1,4 @@
 -- `deadlines::fill_stays` meets its contract. The invariant: the places up to i hold their sums, and the last of them is at hand.
-use Prim.Native.Nat.{◌-◌}
 use native.Mathlib.Omega.{arith}
 use Rattle.deadlines.proofs.Stays.{no_stay, one_stay, all_stays}
 use Rattle.deadlines.proofs.fill_stays.Goals as goal

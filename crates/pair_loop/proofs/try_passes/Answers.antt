@@ -1,7 +1,6 @@
 -- `pair_loop::try_passes` meets its contract. The invariant: the passes from what stands make those from the start. Assumes nothing.
 use mathlib.Core.Path.{refl, ◌∙◌}
 use mathlib.Core.List.{[]}
-use Prim.Native.Nat.{◌-◌}
 use lib.ListN.{length}
 use Rattle.theory.specs.Route.{Problem}
 use Rattle.theory.specs.Tables.{problem, trip}

@@ -1,6 +1,5 @@
 -- `pattern_list_loading::put_digits` meets its contract: the first values are those of the first digits. Assumes nothing.
 use mathlib.Core.Path.{refl}
-use Prim.Native.Nat.{◌-◌}
 use native.Mathlib.Omega.{arith}
 use lib.ListN.{length-set}
 use Rattle.pattern_list_loading.proofs.Places.{one_put, all_put}

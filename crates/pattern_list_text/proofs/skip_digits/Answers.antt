@@ -1,5 +1,4 @@
 -- `pattern_list_text::skip_digits` meets its contract: the digits that were passed come before the others. Assumes nothing.
-use Prim.Native.Nat.{◌-◌}
 use native.Mathlib.Omega.{arith}
 use Rattle.pattern_list_text.proofs.Digits.{none_passed, tested, digit_byte, passed_more, passed_all}
 use Rattle.pattern_list_text.proofs.skip_digits.Goals as goal

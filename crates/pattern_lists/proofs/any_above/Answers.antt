@@ -1,6 +1,5 @@
 -- `pattern_lists::any_above` meets its contract. The invariant: the test of the whole is that of the rest. Assumes nothing.
 use mathlib.Core.Path.{refl}
-use Prim.Native.Nat.{◌-◌}
 use native.Mathlib.Omega.{arith}
 use lib.Dec.{ltb}
 use borrow.Author.Tests.{lt-ltb, le-ltb}

@@ -1,6 +1,5 @@
 -- `pattern_lists::any_repeated` meets its contract. The invariant: a row of the whole stands again where one of the rest does. Assumes nothing.
 use mathlib.Core.Path.{refl, sym, ◌∙◌}
-use Prim.Native.Nat.{◌-◌}
 use native.Mathlib.Omega.{arith}
 use Rattle.pattern_lists.proofs.Rows.{repeats_more, repeats_here, repeats_none}
 use Rattle.pattern_lists.proofs.any_repeated.Goals as goal

@@ -1,7 +1,6 @@
 -- `pattern_lists::check_shapes` meets its contract. The invariant: a row of the whole is not fine where one of the rest is not. Assumes nothing.
 use mathlib.Core.Path.{refl, sym, ap, ◌∙◌}
 use mathlib.Core.Bool.{not, cond}
-use Prim.Native.Nat.{◌-◌}
 use native.Mathlib.Omega.{arith}
 use Rattle.pattern_lists.specs.Lists.{fine_row}
 use Rattle.pattern_lists.proofs.Rows.{any_more, any_here, any_none}

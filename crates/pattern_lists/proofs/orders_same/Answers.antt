@@ -1,6 +1,5 @@
 -- `pattern_lists::orders_same` meets its contract: the orders are the same where the rest of them is. Assumes nothing.
 use mathlib.Core.Path.{refl, sym}
-use Prim.Native.Nat.{◌-◌}
 use native.Mathlib.Omega.{arith}
 use Rattle.pattern_lists.proofs.Orders.{other_length, same_more, same_not, same_end}
 use Rattle.pattern_lists.proofs.orders_same.Goals as goal

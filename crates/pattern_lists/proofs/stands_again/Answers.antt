@@ -1,6 +1,5 @@
 -- `pattern_lists::stands_again` meets its contract. The invariant: the test of all rows further down is that of the rest. Assumes nothing.
 use mathlib.Core.Path.{refl, sym, ◌∙◌}
-use Prim.Native.Nat.{◌-◌}
 use native.Mathlib.Omega.{arith}
 use Rattle.pattern_lists.specs.Lists.{same_row, row}
 use Rattle.pattern_lists.proofs.Rows.{any_more, any_here, any_none}

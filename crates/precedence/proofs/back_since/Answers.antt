@@ -1,6 +1,5 @@
 -- `precedence::back_since` meets its contract. The invariant: up to here it is known from where on a tail keeps its pairs. Assumes nothing.
 use mathlib.Core.Path.{◌≡◌}
-use Prim.Native.Nat.{◌-◌}
 use native.Mathlib.Omega.{arith}
 use lib.ListN.{length}
 use Rattle.precedence.proofs.Tails.{back_start, back_step, back_end}

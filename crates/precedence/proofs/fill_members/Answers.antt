@@ -1,5 +1,5 @@
 -- `precedence::fill_members` meets its contract. The invariant: the words are those of the pairs up to here. Assumes nothing.
-use Prim.Native.Nat.{◌+◌, ◌-◌, ◌*◌, ◌<◌}
+use Prim.Native.Nat.{◌+◌, ◌*◌, ◌<◌}
 use native.Mathlib.Omega.{arith}
 use lib.ListN.{length, get_or}
 use Rattle.theory.specs.Pairs.{pairs_of}

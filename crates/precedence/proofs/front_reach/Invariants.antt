@@ -1,6 +1,6 @@
 -- `precedence::front_reach` meets its contract. The invariant: from here on it is known how far a head reaches. Assumes nothing.
 use mathlib.Core.List.{List}
-use Prim.Native.Nat.{ℕ, ◌-◌, ◌≤◌}
+use Prim.Native.Nat.{ℕ, ◌≤◌}
 use lib.ListN.{length}
 use Rattle.precedence.specs.Words.{Members}
 use Rattle.precedence.proofs.Heads.{FrontFrom}

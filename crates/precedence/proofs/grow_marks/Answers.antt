@@ -1,6 +1,5 @@
 -- `precedence::grow_marks` meets its contract. The invariant: the words are those up to here. Assumes nothing.
 use mathlib.Core.Path.{◌≡◌}
-use Prim.Native.Nat.{◌-◌}
 use native.Mathlib.Omega.{arith}
 use Rattle.precedence.proofs.Growth.{slice_more}
 use Rattle.precedence.proofs.grow_marks.Goals as goal

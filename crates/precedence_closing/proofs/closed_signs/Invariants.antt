@@ -1,7 +1,7 @@
 -- `precedence_closing::closed_signs` meets its contract. The invariant: the signs of the events before (a, b) that are crossed are closed, and the bit is that of (a, b).
 -- Assumes nothing.
 use mathlib.Core.Path.{◌≡◌}
-use Prim.Native.Nat.{◌-◌, ◌≤◌, ◌<◌}
+use Prim.Native.Nat.{◌≤◌, ◌<◌}
 use Rattle.precedence_closing.proofs.Signs.{bit_of}
 use Rattle.precedence_closing.proofs.Closed.{Closed, left}
 use Rattle.precedence_closing.proofs.closed_signs.Given as goal

@@ -1,6 +1,5 @@
 -- `precedence_closing::fill_signs` meets its contract. The invariant: the signs of the first i rows stand. Assumes nothing.
 use mathlib.Core.Path.{◌≡◌, sym, ◌∙◌}
-use Prim.Native.Nat.{◌-◌}
 use native.Mathlib.Omega.{arith}
 use Rattle.precedence_closing.proofs.Signs.{signed_more}
 use Rattle.precedence_closing.proofs.fill_signs.Goals as goal

@@ -1,7 +1,6 @@
 -- `precedence_marks::reach_marks` meets its contract. Assumes nothing.
 use mathlib.Core.Logic.{⊎_elim}
 use native.Mathlib.Omega.{arith}
-use Rattle.precedence_marks.proofs.Filling.{reached}
 use Rattle.precedence_marks.proofs.reach_marks.Goals as goal
 
 pub fill_marks-requires : goal.fill_marks-requires

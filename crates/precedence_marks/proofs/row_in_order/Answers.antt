@@ -1,6 +1,6 @@
 -- `precedence_marks::row_in_order` meets its contract. The invariant: the states to come decide, behind the seconds passed. Assumes nothing.
 use mathlib.Core.Path.{refl, sym}
-use Prim.Native.Nat.{◌+◌, ◌-◌, ◌*◌, ◌≤◌, ◌<◌}
+use Prim.Native.Nat.{◌+◌, ◌*◌, ◌≤◌, ◌<◌}
 use native.Mathlib.Omega.{arith}
 use lib.ListN.{length}
 use Rattle.precedence_marks.proofs.Order.{next_broken, next_kept, no_states}

@@ -1,6 +1,6 @@
 -- `precedence_visits::reach_visits` meets its contract. The invariant: the words up to here are known, and those of here at hand. Assumes nothing.
 use mathlib.Core.Path.{sym, ◌∙◌}
-use Prim.Native.Nat.{◌-◌, ◌<◌}
+use Prim.Native.Nat.{◌<◌}
 use native.Mathlib.Omega.{arith}
 use lib.ListN.{length, length-set}
 use lib.Seq.{get_or-set_same}

@@ -1,6 +1,5 @@
 -- `scan_bound::least_into` meets its contract. The invariant: the same of the states below w. Assumes nothing.
 use mathlib.Core.Path.{◌≡◌}
-use Prim.Native.Nat.{◌-◌}
 use Rattle.scan_bound.proofs.Minima.{more_into}
 use native.Mathlib.Omega.{arith}
 use Rattle.scan_bound.proofs.least_into.Goals as goal

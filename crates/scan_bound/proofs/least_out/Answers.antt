@@ -1,6 +1,6 @@
 -- `scan_bound::least_out` meets its contract. The invariant: the same of the states below u. Assumes nothing.
 use mathlib.Core.Path.{◌≡◌}
-use Prim.Native.Nat.{◌+◌, ◌-◌}
+use Prim.Native.Nat.{◌+◌}
 use Rattle.scan_bound.proofs.Minima.{more_out}
 use native.Mathlib.Omega.{arith}
 use Rattle.scan_bound.proofs.least_out.Goals as goal

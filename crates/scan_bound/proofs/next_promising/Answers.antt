@@ -1,5 +1,4 @@
 -- `scan_bound::next_promising` meets its contract. The invariant: the same of the last cuts below c. Assumes nothing.
-use Prim.Native.Nat.{◌-◌}
 use Rattle.scan_bound.proofs.Testing.{none_passed, one_passed, testable}
 use native.Mathlib.Omega.{arith}
 use Rattle.scan_bound.proofs.next_promising.Goals as goal

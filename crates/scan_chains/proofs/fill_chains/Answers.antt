@@ -1,6 +1,5 @@
 -- `scan_chains::fill_chains` meets its contract. The invariant: the places of the rows below i stand. Assumes nothing.
 use mathlib.Core.Path.{◌≡◌}
-use Prim.Native.Nat.{◌-◌}
 use native.Mathlib.Omega.{arith}
 use Rattle.scan_chains.proofs.Chains.{no_chains, more_chains}
 use Rattle.scan_chains.proofs.fill_chains.Goals as goal

@@ -1,7 +1,6 @@
 -- `scan_cut_set::first_due` meets its contract. The invariant: no row passed is shorter and kept, and the one at i is shorter. Assumes nothing.
 use mathlib.Core.Path.{sym, ◌∙◌}
-use mathlib.Core.Bool.{false}
-use Prim.Native.Nat.{◌+◌, ◌-◌}
+use Prim.Native.Nat.{◌+◌}
 use Rattle.scan_cut_set.proofs.FirstDue.{adding_from, row_judged, due_passed, due_first, due_broken, due_found, due_not_found}
 use native.Mathlib.Omega.{arith}
 use Rattle.scan_cut_set.proofs.first_due.Goals as goal

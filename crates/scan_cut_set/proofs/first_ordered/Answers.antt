@@ -1,7 +1,6 @@
 -- `scan_cut_set::first_ordered` meets its contract. The invariant: no row passed is shorter and keeps every pair, and the one at i is shorter. Assumes nothing.
 use mathlib.Core.Path.{sym, ◌∙◌}
-use mathlib.Core.Bool.{false}
-use Prim.Native.Nat.{◌+◌, ◌-◌}
+use Prim.Native.Nat.{◌+◌}
 use Rattle.scan_cut_set.proofs.FirstDue.{order_adding, order_row, order_passed, order_first, order_broken}
 use native.Mathlib.Omega.{arith}
 use Rattle.scan_cut_set.proofs.first_ordered.Goals as goal

@@ -1,5 +1,5 @@
 -- `scan_cut_set::next_shorter` meets its contract. The invariant: no row passed is shorter. Assumes nothing.
-use Prim.Native.Nat.{◌-◌, ◌≤◌}
+use Prim.Native.Nat.{◌≤◌}
 use native.Mathlib.Omega.{arith}
 use borrow.Author.Count.{below_more}
 use Rattle.scan_chains.specs.Chains.{cost}

@@ -1,6 +1,5 @@
 -- `scan_joints::fill_ends` meets its contract. The invariant: the states of the segments passed have their ends and inner legs. Assumes nothing.
 use mathlib.Core.Path.{◌≡◌}
-use Prim.Native.Nat.{◌-◌}
 use native.Mathlib.Omega.{arith}
 use lib.ListN.{length}
 use Rattle.scan_joints.proofs.Ends.{no_ends, segment_asked, more_ends}

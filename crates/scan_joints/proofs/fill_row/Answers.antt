@@ -1,6 +1,6 @@
 -- `scan_joints::fill_row` meets its contract. The invariant: the cells below b are filled, and all other places are as they were. Assumes nothing.
 use mathlib.Core.Path.{◌≡◌}
-use Prim.Native.Nat.{◌+◌, ◌-◌}
+use Prim.Native.Nat.{◌+◌}
 use lib.ListN.{get_or}
 use Rattle.scan_joints.proofs.Cells.{none_filled, more_filled}
 use native.Mathlib.Omega.{arith}

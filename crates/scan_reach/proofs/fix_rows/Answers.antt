@@ -1,6 +1,5 @@
 -- `scan_reach::fix_rows` meets its contract. The invariant: the rows below a are filled. Assumes nothing.
 use mathlib.Core.Path.{◌≡◌, refl}
-use Prim.Native.Nat.{◌-◌}
 use native.Mathlib.Omega.{arith}
 use Rattle.scan_reach.proofs.Moving.{next_more}
 use Rattle.scan_reach.proofs.fix_rows.Goals as goal

@@ -1,6 +1,5 @@
 -- `scan_reach::move_rows` meets its contract. The invariant: the rows below a are moved, and the cells to the states before P are as they were. Assumes nothing.
 use mathlib.Core.Path.{◌≡◌, refl, ◌∙◌}
-use Prim.Native.Nat.{◌-◌}
 use native.Mathlib.Omega.{arith}
 use Rattle.scan_reach.proofs.Moving.{moved_more}
 use Rattle.scan_reach.proofs.move_rows.Goals as goal

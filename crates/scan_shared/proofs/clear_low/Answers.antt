@@ -1,6 +1,5 @@
 -- `scan_shared::clear_low` meets its contract. The invariant: the places below c hold no more than 2 ^ 40. Assumes nothing.
 use mathlib.Core.Path.{◌∙◌}
-use Prim.Native.Nat.{◌-◌}
 use lib.ListN.{length-set}
 use Rattle.scan_shared.proofs.Classes.{below_set, all_below}
 use native.Mathlib.Omega.{arith}

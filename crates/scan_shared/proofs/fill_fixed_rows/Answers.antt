@@ -1,6 +1,5 @@
 -- `scan_shared::fill_fixed_rows` meets its contract. The invariant: the same of the rows below a. Assumes nothing.
 use mathlib.Core.Path.{◌≡◌, refl}
-use Prim.Native.Nat.{◌-◌}
 use Rattle.scan_shared.proofs.Filling.{row_fits, no_rows, more_rows}
 use native.Mathlib.Omega.{arith}
 use Rattle.scan_shared.proofs.fill_fixed_rows.Goals as goal

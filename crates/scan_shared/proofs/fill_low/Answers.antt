@@ -1,6 +1,5 @@
 -- `scan_shared::fill_low` meets its contract. The invariant: the same of the rows below i. Assumes nothing.
 use mathlib.Core.Path.{◌≡◌}
-use Prim.Native.Nat.{◌-◌}
 use Rattle.scan_shared.proofs.Classes.{no_rows_low, row_at, chainable, more_low}
 use native.Mathlib.Omega.{arith}
 use Rattle.scan_shared.proofs.fill_low.Goals as goal

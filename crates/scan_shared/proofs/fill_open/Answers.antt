@@ -1,7 +1,6 @@
 -- `scan_shared::fill_open` meets its contract. The invariant: the same of the rows below i. Assumes nothing.
 use mathlib.Core.Path.{◌≡◌}
 use mathlib.Core.Bool.{false}
-use Prim.Native.Nat.{◌-◌}
 use borrow.Author.Count.{below_more}
 use Rattle.scan_shared.specs.Filling.{open_by}
 use Rattle.scan_shared.proofs.Classes.{no_rows_low, row_opened}

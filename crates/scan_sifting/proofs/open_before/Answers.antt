@@ -1,6 +1,5 @@
 -- `scan_sifting::open_before` meets its contract. The invariant: the open rows below i are counted. Assumes nothing.
 use mathlib.Core.Path.{◌≡◌}
-use Prim.Native.Nat.{◌-◌}
 use native.Mathlib.Omega.{arith}
 use Rattle.scan_sifting.proofs.Sifting.{none_counted, counted, asked_at}
 use Rattle.scan_sifting.proofs.open_before.Goals as goal

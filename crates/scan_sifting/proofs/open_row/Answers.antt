@@ -1,6 +1,6 @@
 -- `scan_sifting::open_row` meets its contract. The invariant: the open rows below i are counted, and are no more than n. Assumes nothing.
 use mathlib.Core.Path.{◌≡◌}
-use Prim.Native.Nat.{◌+◌, ◌-◌}
+use Prim.Native.Nat.{◌+◌}
 use native.Mathlib.Omega.{arith}
 use lib.ListN.{length}
 use Rattle.scan_shared.specs.Filling.{open_by}

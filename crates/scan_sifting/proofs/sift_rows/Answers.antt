@@ -1,6 +1,5 @@
 -- `scan_sifting::sift_rows` meets its contract. The invariant: at hand are the open ones among the first i rows. Assumes nothing.
 use mathlib.Core.Path.{◌≡◌}
-use Prim.Native.Nat.{◌-◌}
 use native.Mathlib.Omega.{arith}
 use Rattle.scan_sifting.proofs.Sifting.{none_counted, counted, asked_at, none_sifted, sifted_more}
 use Rattle.scan_sifting.proofs.sift_rows.Goals as goal

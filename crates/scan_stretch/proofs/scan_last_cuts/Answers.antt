@@ -1,6 +1,5 @@
 -- `scan_stretch::scan_last_cuts` meets its contract. The invariant, of whichever patterns the rows are: the candidates before the last cut at hand are examined, and none improves the route. Assumes nothing.
 use mathlib.Core.Path.{refl, ap, ◌∙◌}
-use Prim.Native.Nat.{◌-◌}
 use lib.ListN.{length}
 use native.Mathlib.Omega.{arith}
 use Rattle.scan_stretch.proofs.Stretching.{block_asked, openable, bared, none_held, begun, first_turn, many, last_within, steppable, done, later, on_turn, not_earlier, lowerable, closed_turn}

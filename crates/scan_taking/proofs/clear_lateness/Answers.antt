@@ -1,5 +1,4 @@
 -- `scan_taking::clear_lateness` meets its contract. Assumes nothing.
-use Prim.Native.Nat.{◌-◌}
 use native.Mathlib.Omega.{arith}
 use Rattle.scan_taking.proofs.Taking.{clear_next, all_clear}
 use Rattle.scan_taking.proofs.clear_lateness.Goals as goal

@@ -1,5 +1,4 @@
 -- `season_blocks::block_end` meets its contract: the lines passed are the block's. Assumes nothing.
-use Prim.Native.Nat.{◌-◌}
 use native.Mathlib.Omega.{arith}
 use lib.ListN.{drop}
 use Rattle.season_blocks.proofs.Blocks.{size_at_end, size_separated, size_longer}

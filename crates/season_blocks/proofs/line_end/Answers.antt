@@ -1,6 +1,6 @@
 -- `season_blocks::line_end` meets its contract: no byte passed is LF. Assumes nothing.
 use mathlib.Core.Path.{◌≡◌}
-use Prim.Native.Nat.{◌+◌, ◌-◌}
+use Prim.Native.Nat.{◌+◌}
 use native.Mathlib.Omega.{arith}
 use lib.ListN.{drop}
 use Rattle.season_blocks.specs.Blocks.{line_size}

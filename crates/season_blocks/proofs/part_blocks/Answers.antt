@@ -1,5 +1,4 @@
 -- `season_blocks::part_blocks` meets its contract: the ends found so far, and the blocks still to be found. Assumes nothing.
-use Prim.Native.Nat.{◌-◌}
 use native.Mathlib.Omega.{arith}
 use Rattle.season_blocks.proofs.Parts.{walk_start, walk_next, walk_ended, walk_full}
 use Rattle.season_blocks.proofs.part_blocks.Goals as goal

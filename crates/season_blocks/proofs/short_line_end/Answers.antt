@@ -1,5 +1,4 @@
 -- `season_blocks::short_line_end` meets its contract: no byte passed is LF. Assumes nothing.
-use Prim.Native.Nat.{◌-◌}
 use native.Mathlib.Omega.{arith}
 use Rattle.season_blocks.proofs.Lines.{line_size_none, line_size_ended, line_size_more}
 use Rattle.season_blocks.proofs.short_line_end.Goals as goal

@@ -1,5 +1,4 @@
 -- `season_report::add_blocks` meets its contract. Assumes nothing.
-use Prim.Native.Nat.{◌-◌}
 use native.Mathlib.Omega.{arith}
 use Rattle.text_problem.proofs.Judged.{still_lent}
 use Rattle.season_report.proofs.Kept.{small_block}

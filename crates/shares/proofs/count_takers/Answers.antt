@@ -1,5 +1,4 @@
 -- `shares::count_takers` meets its contract. Assumes nothing.
-use Prim.Native.Nat.{◌-◌}
 use Rattle.shares.proofs.Taking.{begins, counts, counted}
 use native.Mathlib.Omega.{arith}
 use Rattle.shares.proofs.count_takers.Goals as goal

@@ -1,6 +1,5 @@
 -- `slice_calls::held_cuts` meets its contract. Assumes nothing.
 use mathlib.Core.Path.{◌≡◌, refl}
-use Prim.Native.Nat.{◌-◌}
 use lib.ListN.{length-set}
 use native.Mathlib.Omega.{arith}
 use Rattle.slice_calls.proofs.Places.{read_more}

@@ -2,7 +2,6 @@
 use mathlib.Core.Path.{◌≡◌, refl}
 use lib.ListN.{length}
 use native.Mathlib.Omega.{arith}
-use borrow.Author.Rules.{rules}
 use Rattle.theory.specs.Question.{Question, question_with_pairs}
 use Rattle.slice_calls.proofs.Replies.{refused, space, place_space, few, puttable, fine, sliced_so}
 use Rattle.slice_calls.proofs.polish_slice.Goals as goal

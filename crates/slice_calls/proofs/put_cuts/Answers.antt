@@ -1,7 +1,6 @@
 -- `slice_calls::put_cuts` meets its contract. Assumes nothing.
 use mathlib.Core.Path.{◌≡◌, refl, ap, ◌∙◌}
 use mathlib.Core.List.{◌++◌}
-use Prim.Native.Nat.{◌-◌}
 use lib.ListN.{take, drop, length-set}
 use lib.Seq.{take_all, length-take-le}
 use native.Mathlib.Omega.{arith}

@@ -1,7 +1,7 @@
 -- `fill_against` meets its contract. The invariant: the places from i on are filled. Assumes nothing.
 use mathlib.Core.Path.{◌≡◌}
 use mathlib.Core.List.{List}
-use Prim.Native.Nat.{ℕ, ◌-◌, ◌≤◌}
+use Prim.Native.Nat.{ℕ, ◌≤◌}
 use lib.ListN.{length}
 use Rattle.standing.specs.Standing.{Pair}
 use Rattle.standing_tables.specs.Filling.{SameTable, AgainstFrom}

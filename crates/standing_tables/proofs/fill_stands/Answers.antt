@@ -1,6 +1,5 @@
 -- `fill_stands` meets its contract. The invariant: the rows below a are filled. Assumes nothing.
 use mathlib.Core.Path.{◌≡◌}
-use Prim.Native.Nat.{◌-◌}
 use native.Mathlib.Omega.{arith}
 use Rattle.standing_tables.proofs.Rows.{rows_more, rows_done}
 use Rattle.standing_tables.proofs.fill_stands.Goals as goal

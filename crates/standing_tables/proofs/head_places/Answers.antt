@@ -1,5 +1,4 @@
 -- `head_places` meets its contract. The invariant: the cuts up to c are marked. Assumes nothing.
-use Prim.Native.Nat.{◌-◌}
 use native.Mathlib.Omega.{arith}
 use lib.ListN.{length}
 use Rattle.standing_tables.proofs.Agreeing.{up_one, up_start, head_all, head_mismatch}

@@ -1,5 +1,4 @@
 -- `same_places` meets its contract. The invariant: the places below z are marked. Assumes nothing.
-use Prim.Native.Nat.{◌-◌}
 use native.Mathlib.Omega.{arith}
 use borrow.Author.Tests.{eq-eqb}
 use Rattle.standing_tables.proofs.Cells.{one_more}

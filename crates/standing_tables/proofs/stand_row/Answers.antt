@@ -1,5 +1,4 @@
 -- `stand_row` meets its contract. The invariant is `RowKept`. Assumes nothing.
-use Prim.Native.Nat.{◌-◌}
 use Rattle.standing_tables.proofs.Rows.{row_start, row_turn, row_done}
 use Rattle.standing_tables.proofs.stand_row.Goals as goal
 

@@ -1,5 +1,4 @@
 -- `tail_places` meets its contract. The invariant: the cuts from c on are marked. Assumes nothing.
-use Prim.Native.Nat.{◌-◌}
 use native.Mathlib.Omega.{arith}
 use lib.ListN.{length}
 use Rattle.standing_tables.proofs.Agreeing.{down_one, down_start, tail_all, tail_mismatch}

@@ -1,6 +1,6 @@
 -- `tail_places` meets its contract. The invariant: the cuts from c on are marked. Assumes nothing.
 use mathlib.Core.Path.{◌≡◌}
-use Prim.Native.Nat.{◌-◌, ◌≤◌}
+use Prim.Native.Nat.{◌≤◌}
 use lib.ListN.{length}
 use Rattle.standing_tables.proofs.Agreeing.{DownTo}
 use Rattle.standing_tables.proofs.tail_places.Given as goal

@@ -1,5 +1,4 @@
 -- `text_lines::read_entries` meets its contract: the entries that stand in out come before those still to be read. Assumes nothing.
-use Prim.Native.Nat.{◌-◌}
 use mathlib.Core.Path.{◌≡◌, refl, sym, ◌∙◌}
 use mathlib.Core.Option.{some}
 use lib.ListN.{drop, length-set}

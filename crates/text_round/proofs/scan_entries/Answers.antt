@@ -1,7 +1,6 @@
 -- `text_round::scan_entries` meets its contract: the stops that are counted come before those still to be read. Assumes nothing.
 use mathlib.Core.Path.{◌≡◌, refl, sym, ◌∙◌}
 use mathlib.Core.Option.{some}
-use Prim.Native.Nat.{◌-◌}
 use lib.ListN.{drop}
 use Rattle.text_tokens.specs.Tokens.{numeral}
 use Rattle.text_tokens.proofs.Places.{front_within}

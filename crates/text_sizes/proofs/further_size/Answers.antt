@@ -1,5 +1,4 @@
 -- `text_sizes::further_size` meets its contract: what is counted and what is left make up the whole. Assumes nothing.
-use Prim.Native.Nat.{◌-◌}
 use native.Mathlib.Omega.{arith}
 use Rattle.text_sizes.proofs.Counted.{further_on, further_done}
 use Rattle.text_sizes.proofs.further_size.Goals as goal

@@ -1,5 +1,5 @@
 -- `text_sizes::rows_size` meets its contract: the rows that are counted and those still to come make up the whole. Assumes nothing.
-use Prim.Native.Nat.{◌-◌, ◌*◌}
+use Prim.Native.Nat.{◌*◌}
 use Rattle.text_tables.proofs.Rows.{row_within, part_length}
 use Rattle.text_sizes.proofs.Parts.{rows_begin, rows_on, rows_done}
 use native.Mathlib.Omega.{arith}

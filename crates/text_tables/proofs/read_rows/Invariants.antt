@@ -2,7 +2,6 @@
 use Prim.Native.Nat.{◌≤◌, ◌-◌}
 use mathlib.Core.Path.{◌≡◌}
 use lib.ListN.{length, drop}
-use Rattle.text_lines.specs.Reading.{row}
 use Rattle.text_tables.specs.Tables.{rows}
 use Rattle.text_tables.proofs.Rows.{rows_to_come}
 use Rattle.text_tables.proofs.read_rows.Given as goal

@@ -1,6 +1,5 @@
 -- `text_writing::put_rows` meets its contract: what is left of the rows is still to be put. Assumes nothing.
 use mathlib.Core.Path.{refl}
-use Prim.Native.Nat.{◌-◌}
 use Rattle.text_decimal.proofs.Putting.{put_none, put_room, put_more, put_all}
 use Rattle.text_tables.proofs.Rows.{row_within}
 use Rattle.text_sizes.proofs.Parts.{rows_all, rows_next, rows_none}

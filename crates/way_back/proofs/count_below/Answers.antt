@@ -1,5 +1,5 @@
 -- `way_back::count_below` meets its contract: what is counted and what the rest has are the whole. Assumes nothing.
-use Prim.Native.Nat.{◌-◌, ◌≤◌}
+use Prim.Native.Nat.{◌≤◌}
 use lib.Dec.{ltb}
 use lib.ListN.{get_or}
 use Rattle.way_back.proofs.Ranks.{hit_small, below_more, below_end}

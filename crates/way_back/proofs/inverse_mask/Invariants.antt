@@ -1,6 +1,6 @@
 -- `way_back::inverse_mask` meets its contract: the bits of the segments from the present place on. Assumes nothing.
 use mathlib.Core.Path.{◌≡◌}
-use Prim.Native.Nat.{◌-◌, ◌≤◌}
+use Prim.Native.Nat.{◌≤◌}
 use lib.ListN.{length}
 use Rattle.way_back.proofs.Orders.{bits_from}
 use Rattle.way_back.proofs.inverse_mask.Given as goal

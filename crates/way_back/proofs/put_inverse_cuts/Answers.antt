@@ -1,6 +1,5 @@
 -- `way_back::put_inverse_cuts` meets its contract: the segments up to the present place stand, and those left have the other stops. Assumes nothing.
 use mathlib.Core.Path.{◌≡◌, refl, ap, ◌∙◌}
-use Prim.Native.Nat.{◌-◌}
 use lib.ListN.{get_or, length-set}
 use Rattle.inverse.specs.WayBack.{segment_size}
 use Rattle.way_back.proofs.Cuts.{as_many, known, placed_none, placed_within, placed_more, placed_all}

@@ -1,6 +1,5 @@
 -- `way_back::put_inverse_order` meets its contract: each segment that is passed stands where it arrived. Assumes nothing.
 use mathlib.Core.Path.{refl, ◌∙◌}
-use Prim.Native.Nat.{◌-◌}
 use lib.ListN.{length-set}
 use Rattle.way_back.proofs.Orders.{known, arrived_none, arrived_more, arrived_all}
 use native.Mathlib.Omega.{arith}
