@@ -8,8 +8,8 @@ ghost use Rattle.text.specs.Program.{program};
 
 use std::io::{self, Read, Write};
 
-// Reads a text and writes its answer. One byte more than a text may have is read, so that a longer one is known. Where a read or a write fails, a first part of the answer was written,
-// none before all is read.
+// Reads a text and writes its answer. One byte more than a text may have is read, so that a longer one is known. Where it returns an error, what was written is a first part of the
+// answer, maybe none.
 fn answer_text<R: Read, W: Write>(reader: &mut R, writer: &mut W) -> io::Result<()>
     ensures answered { OnOk result (IfSome (R.remaining reader.old) (λ text. Appends (W.contents writer.old) (W.contents writer.new) (program (take 60001 text)))) }
     ensures part { OnErr result (IfSome (R.remaining reader.old) (λ text. WritesPart (W.contents writer.old) (W.contents writer.new) (program (take 60001 text)))) }

@@ -8,8 +8,8 @@ ghost use Rattle.season_report.specs.Report.{report};
 
 use std::io::{self, Read, Write};
 
-// Reads blocks and writes the report on them. One byte more than a report's input may have is read, so that a longer one is known. Where a read or a write fails, a first part of the report was written,
-// none before all is read.
+// Reads blocks and writes the report on them. One byte more than a report's input may have is read, so that a longer one is known. Where it returns an error, what was written is a first part of the
+// report, maybe none.
 fn report_blocks<R: Read, W: Write>(reader: &mut R, writer: &mut W) -> io::Result<()>
     ensures reported { OnOk result (IfSome (R.remaining reader.old) (λ text. Appends (W.contents writer.old) (W.contents writer.new) (report (take 60001 text)))) }
     ensures part { OnErr result (IfSome (R.remaining reader.old) (λ text. WritesPart (W.contents writer.old) (W.contents writer.new) (report (take 60001 text)))) }
