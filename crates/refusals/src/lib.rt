@@ -1,182 +1,163 @@
-// One small check for each refusal number: the number where its rule applies to the raw input, else 0. No entry: the crates above call them.
+// One small check for each refusal, which it answers where its rule applies to the raw input. No entry: the crates above call them.
 #![tactic(auto)]
 
 ghost use Rattle.std.specs.Prelude.{◌≡◌, [], ◌≤◌};
-ghost use Rattle.theory.specs.Refusals.{either, number, cut_count, leg_table, deadline_list, leg_sizes, service_list, known_stops, known_end, stop_count, pattern_index, cut_positions, room, refusal, table_rules, problem_rules, trip_rules, cut_lists, own_round, journal_length, known_rounds, known_ends, round_lists, end_list, nearby_input};
+ghost use Rattle.theory.specs.Refusals.{number, cut_count, leg_table, deadline_list, leg_sizes, service_list, known_stops, known_end, stop_count, pattern_index, cut_positions, room, refusal, table_rules, problem_rules, trip_rules, cut_lists, own_round, journal_length, known_rounds, known_ends, round_lists, end_list, nearby_input};
 ghost use Rattle.theory.specs.Tables.{tables, trip};
+ghost use Rattle.theory.specs.Numbers.{judged};
 ghost use Rattle.patterns.specs.Enumeration.{CutCount};
 
-// The first of two numbers that is not 0.
-pub fn first(a: u32, b: u32) -> u32
-    ensures { result ≡ either a b }
+use theory::Refusal;
+
+pub fn check_cut_count(k: usize) -> Result<(), Refusal>
+    ensures { judged result ≡ number (cut_count k) }
 {
-    if a == 0 {
-        return b;
+    if k < 2 || 5 < k {
+        return Err(Refusal::CutCount);
     }
-    a
+    Ok(())
 }
 
-pub fn check_cut_count(k: usize) -> u32
-    ensures { result ≡ number (cut_count k) }
+pub fn check_leg_table(locations: usize, legs: &[u32]) -> Result<(), Refusal>
+    ensures { judged result ≡ number (leg_table locations legs.now) }
 {
-    if k < 2 {
-        return 1;
+    if locations < 1 || 1024 < locations || legs.len() != locations * locations {
+        return Err(Refusal::TableSize);
     }
-    if 5 < k {
-        return 1;
-    }
-    0
+    Ok(())
 }
 
-pub fn check_leg_table(locations: usize, legs: &[u32]) -> u32
-    ensures { result ≡ number (leg_table locations legs.now) }
-{
-    if locations < 1 {
-        return 2;
-    }
-    if 1024 < locations {
-        return 2;
-    }
-    if legs.len() != locations * locations {
-        return 2;
-    }
-    0
-}
-
-pub fn check_deadline_list(locations: usize, latest: &[u32]) -> u32
-    ensures { result ≡ number (deadline_list locations latest.now) }
+pub fn check_deadline_list(locations: usize, latest: &[u32]) -> Result<(), Refusal>
+    ensures { judged result ≡ number (deadline_list locations latest.now) }
 {
     if latest.len() != locations {
-        return 2;
+        return Err(Refusal::TableSize);
     }
-    0
+    Ok(())
 }
 
-pub fn check_leg_sizes(legs: &[u32]) -> u32
-    ensures { result ≡ number (leg_sizes legs.now) }
+pub fn check_leg_sizes(legs: &[u32]) -> Result<(), Refusal>
+    ensures { judged result ≡ number (leg_sizes legs.now) }
 {
     if refusal_tests::any_above(legs, 1000000) {
-        return 3;
+        return Err(Refusal::LongLeg);
     }
-    0
+    Ok(())
 }
 
-pub fn check_service_list(locations: usize, service: &[u32]) -> u32
-    ensures { result ≡ number (service_list locations service.now) }
+pub fn check_service_list(locations: usize, service: &[u32]) -> Result<(), Refusal>
+    ensures { judged result ≡ number (service_list locations service.now) }
 {
-    if service.len() != locations {
-        return 23;
+    if service.len() != locations || refusal_tests::any_above(service, 1000000) {
+        return Err(Refusal::ServiceList);
     }
-    if refusal_tests::any_above(service, 1000000) {
-        return 23;
-    }
-    0
+    Ok(())
 }
 
-pub fn check_known_stops(locations: usize, depot: u32, route: &[u32]) -> u32
-    ensures { result ≡ number (known_stops locations depot route.now) }
+pub fn check_known_stops(locations: usize, depot: u32, route: &[u32]) -> Result<(), Refusal>
+    ensures { judged result ≡ number (known_stops locations depot route.now) }
 {
-    if locations <= depot as usize {
-        return 4;
+    if locations <= depot as usize || refusal_tests::any_unknown(route, locations) {
+        return Err(Refusal::UnknownStop);
     }
-    if refusal_tests::any_unknown(route, locations) {
-        return 4;
-    }
-    0
+    Ok(())
 }
 
-pub fn check_known_end(locations: usize, end: u32) -> u32
-    ensures { result ≡ number (known_end locations end) }
+pub fn check_known_end(locations: usize, end: u32) -> Result<(), Refusal>
+    ensures { judged result ≡ number (known_end locations end) }
 {
     if locations <= end as usize {
-        return 24;
+        return Err(Refusal::UnknownEnd);
     }
-    0
+    Ok(())
 }
 
-pub fn check_stop_count(n: usize) -> u32
-    ensures { result ≡ number (stop_count n) }
+pub fn check_stop_count(n: usize) -> Result<(), Refusal>
+    ensures { judged result ≡ number (stop_count n) }
 {
     if 512 < n {
-        return 5;
+        return Err(Refusal::RoundSize);
     }
-    0
+    Ok(())
 }
 
 // Judged after k: what the count for another k is plays no part.
-pub fn check_pattern_index(k: usize, index: usize) -> u32
+pub fn check_pattern_index(k: usize, index: usize) -> Result<(), Refusal>
     requires { CutCount k }
-    ensures { result ≡ number (pattern_index k index) }
+    ensures { judged result ≡ number (pattern_index k index) }
 {
     if patterns::pattern_count(k) <= index {
-        return 6;
+        return Err(Refusal::PatternIndex);
     }
-    0
+    Ok(())
 }
 
-pub fn check_cut_positions(k: usize, n: usize, cuts: &[usize]) -> u32
-    ensures { result ≡ number (cut_positions k n cuts.now) }
+pub fn check_cut_positions(k: usize, n: usize, cuts: &[usize]) -> Result<(), Refusal>
+    ensures { judged result ≡ number (cut_positions k n cuts.now) }
 {
-    if cuts.len() != k {
-        return 7;
+    if cuts.len() != k
+        || refusal_tests::any_beyond(cuts, n)
+        || !refusal_tests::strictly_rising(cuts)
+    {
+        return Err(Refusal::Cuts);
     }
-    if refusal_tests::any_beyond(cuts, n) {
-        return 7;
-    }
-    if refusal_tests::strictly_rising(cuts) {
-        return 0;
-    }
-    7
+    Ok(())
 }
 
-pub fn check_cut_lists(rounds: &[usize], positions: &[usize]) -> u32
-    ensures { result ≡ number (cut_lists rounds.now positions.now) }
+pub fn check_cut_lists(rounds: &[usize], positions: &[usize]) -> Result<(), Refusal>
+    ensures { judged result ≡ number (cut_lists rounds.now positions.now) }
 {
     if rounds.len() != positions.len() {
-        return 7;
+        return Err(Refusal::Cuts);
     }
-    0
+    Ok(())
 }
 
-pub fn check_own_round(round: usize, rounds: &[usize]) -> u32
-    ensures { result ≡ number (own_round round rounds.now) }
+pub fn check_own_round(round: usize, rounds: &[usize]) -> Result<(), Refusal>
+    ensures { judged result ≡ number (own_round round rounds.now) }
 {
     if refusal_tests::any_other(rounds, round) {
-        return 8;
+        return Err(Refusal::OtherRound);
     }
-    0
+    Ok(())
 }
 
-pub fn check_room(needed: usize, lent: usize) -> u32
-    ensures { result ≡ number (room needed lent) }
+pub fn check_room(needed: usize, lent: usize) -> Result<(), Refusal>
+    ensures { judged result ≡ number (room needed lent) }
 {
     if lent < needed {
-        return 21;
+        return Err(Refusal::Room);
     }
-    0
+    Ok(())
 }
 
-pub fn check_journal_length(n: usize, journal: usize) -> u32
-    ensures { result ≡ number (journal_length n journal) }
+pub fn check_journal_length(n: usize, journal: usize) -> Result<(), Refusal>
+    ensures { judged result ≡ number (journal_length n journal) }
 {
     if journal != n {
-        return 22;
+        return Err(Refusal::JournalLength);
     }
-    0
+    Ok(())
 }
 
 // The tables, in the one order.
-pub fn check_tables(locations: usize, legs: &[u32], latest: &[u32], service: &[u32]) -> u32
-    ensures { result ≡ refusal (table_rules (tables locations legs.now latest.now service.now)) }
+#[tactic(auto, using(theory::proofs::Checks::judging), unfolding(theory::specs::Refusals::refusal))]
+pub fn check_tables(
+    locations: usize,
+    legs: &[u32],
+    latest: &[u32],
+    service: &[u32],
+) -> Result<(), Refusal>
+    ensures { judged result ≡ refusal (table_rules (tables locations legs.now latest.now service.now)) }
 {
-    let bad_table = check_leg_table(locations, legs);
-    let bad_latest = check_deadline_list(locations, latest);
-    let bad_legs = check_leg_sizes(legs);
-    let bad_service = check_service_list(locations, service);
-    first(bad_table, first(bad_latest, first(bad_legs, bad_service)))
+    check_leg_table(locations, legs)?;
+    check_deadline_list(locations, latest)?;
+    check_leg_sizes(legs)?;
+    check_service_list(locations, service)
 }
 
 // The tables, and then the depot and a route.
+#[tactic(auto, using(theory::proofs::Checks::judging), unfolding(theory::specs::Refusals::refusal))]
 pub fn check_problem(
     locations: usize,
     legs: &[u32],
@@ -184,16 +165,16 @@ pub fn check_problem(
     service: &[u32],
     depot: u32,
     route: &[u32],
-) -> u32
-    ensures { result ≡ refusal (problem_rules (tables locations legs.now latest.now service.now) depot route.now) }
+) -> Result<(), Refusal>
+    ensures { judged result ≡ refusal (problem_rules (tables locations legs.now latest.now service.now) depot route.now) }
 {
-    let bad_tables = check_tables(locations, legs, latest, service);
-    let bad_stops = check_known_stops(locations, depot, route);
-    let bad_n = check_stop_count(route.len());
-    first(bad_tables, first(bad_stops, bad_n))
+    check_tables(locations, legs, latest, service)?;
+    check_known_stops(locations, depot, route)?;
+    check_stop_count(route.len())
 }
 
 // The tables, the depot and a route, and its end harbour.
+#[tactic(auto, using(theory::proofs::Checks::judging), unfolding(theory::specs::Refusals::refusal))]
 pub fn check_trip(
     locations: usize,
     legs: &[u32],
@@ -202,90 +183,84 @@ pub fn check_trip(
     depot: u32,
     end: u32,
     route: &[u32],
-) -> u32
-    ensures { result ≡ refusal (trip_rules (trip locations legs.now latest.now service.now depot end []) route.now) }
+) -> Result<(), Refusal>
+    ensures { judged result ≡ refusal (trip_rules (trip locations legs.now latest.now service.now depot end []) route.now) }
 {
-    let bad_tables = check_tables(locations, legs, latest, service);
-    let bad_stops = check_known_stops(locations, depot, route);
-    let bad_end = check_known_end(locations, end);
-    let bad_n = check_stop_count(route.len());
-    first(bad_tables, first(bad_stops, first(bad_end, bad_n)))
+    check_tables(locations, legs, latest, service)?;
+    check_known_stops(locations, depot, route)?;
+    check_known_end(locations, end)?;
+    check_stop_count(route.len())
 }
 
 // ---- the checks of what only a run over rounds or the nearby cuts take
 
-pub fn check_known_rounds(locations: usize, depots: &[u32], stops: &[u32]) -> u32
-    ensures { result ≡ number (known_rounds locations depots.now stops.now) }
+pub fn check_known_rounds(locations: usize, depots: &[u32], stops: &[u32]) -> Result<(), Refusal>
+    ensures { judged result ≡ number (known_rounds locations depots.now stops.now) }
 {
-    if refusal_tests::any_unknown(depots, locations) {
-        return 4;
+    if refusal_tests::any_unknown(depots, locations)
+        || refusal_tests::any_unknown(stops, locations)
+    {
+        return Err(Refusal::UnknownStop);
     }
-    if refusal_tests::any_unknown(stops, locations) {
-        return 4;
-    }
-    0
+    Ok(())
 }
 
-pub fn check_known_ends(locations: usize, ends: &[u32]) -> u32
-    ensures { result ≡ number (known_ends locations ends.now) }
+pub fn check_known_ends(locations: usize, ends: &[u32]) -> Result<(), Refusal>
+    ensures { judged result ≡ number (known_ends locations ends.now) }
 {
     if refusal_tests::any_unknown(ends, locations) {
-        return 24;
+        return Err(Refusal::UnknownEnd);
     }
-    0
+    Ok(())
 }
 
-pub fn check_end_list(lengths: &[usize], ends: &[u32]) -> u32
-    ensures { result ≡ number (end_list lengths.now ends.now) }
+pub fn check_end_list(lengths: &[usize], ends: &[u32]) -> Result<(), Refusal>
+    ensures { judged result ≡ number (end_list lengths.now ends.now) }
 {
     if ends.len() != lengths.len() {
-        return 5;
+        return Err(Refusal::RoundSize);
     }
-    0
+    Ok(())
 }
 
 // The lengths are summed only where the sum is small.
-pub fn check_round_lists(lengths: &[usize], depots: &[u32], pins: &[u8], stops: usize) -> u32
-    ensures { result ≡ number (round_lists lengths.now depots.now pins.now stops) }
+pub fn check_round_lists(
+    lengths: &[usize],
+    depots: &[u32],
+    pins: &[u8],
+    stops: usize,
+) -> Result<(), Refusal>
+    ensures { judged result ≡ number (round_lists lengths.now depots.now pins.now stops) }
 {
     let rounds = lengths.len();
-    if 64 < rounds {
-        return 5;
+    if 64 < rounds
+        || refusal_tests::any_beyond(lengths, 512)
+        || depots.len() != rounds
+        || pins.len() != rounds
+        || refusal_tests::all_stops(lengths) != stops
+    {
+        return Err(Refusal::RoundSize);
     }
-    if refusal_tests::any_beyond(lengths, 512) {
-        return 5;
-    }
-    if depots.len() != rounds {
-        return 5;
-    }
-    if pins.len() != rounds {
-        return 5;
-    }
-    if refusal_tests::all_stops(lengths) != stops {
-        return 5;
-    }
-    0
+    Ok(())
 }
 
 // Judged after n: n × n is formed only where n is small.
-pub fn check_nearby_input(n: usize, distances: &[f64], m: usize, neighbours: usize) -> u32
+pub fn check_nearby_input(
+    n: usize,
+    distances: &[f64],
+    m: usize,
+    neighbours: usize,
+) -> Result<(), Refusal>
     requires { n ≤ 512 }
-    ensures { result ≡ number (nearby_input n distances.now m neighbours) }
+    ensures { judged result ≡ number (nearby_input n distances.now m neighbours) }
 {
-    if m < 1 {
-        return 9;
+    if m < 1
+        || 512 < m
+        || 32 < neighbours
+        || distances.len() != n * n
+        || refusal_tests::any_no_number(distances)
+    {
+        return Err(Refusal::NearbyInput);
     }
-    if 512 < m {
-        return 9;
-    }
-    if 32 < neighbours {
-        return 9;
-    }
-    if distances.len() != n * n {
-        return 9;
-    }
-    if refusal_tests::any_no_number(distances) {
-        return 9;
-    }
-    0
+    Ok(())
 }

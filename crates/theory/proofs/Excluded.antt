@@ -12,7 +12,7 @@ use Rattle.theory.specs.Moves.{Pattern, patterns, Rising, binomial, cut_sets, ca
 use Rattle.theory.specs.Pairs.{pairs_of, pairs_kept}
 use Rattle.theory.specs.Route.{Problem, count, tour_length, reconnected, timely, feasible}
 use Rattle.theory.specs.Polish.{Demand3, polish}
-use Rattle.theory.specs.Refusals.{Rule, any, cut_count, leg_table, deadline_list, leg_sizes, service_list, known_stops, stop_count, room, refusal}
+use Rattle.theory.specs.Refusals.{Rule, cut_count, leg_table, deadline_list, leg_sizes, service_list, known_stops, stop_count, room, refusal}
 use Rattle.theory.specs.Runs.{T, far, none}
 use Rattle.theory.proofs.Route.{feasible_iff}
 use Rattle.theory.proofs.Refusals.{taken}
@@ -81,7 +81,7 @@ TRules =
     cut_count 3 ∷ leg_table 3 TLegs ∷ deadline_list 3 (far ∷ far ∷ far ∷ []) ∷ leg_sizes TLegs ∷ service_list 3 none ∷ known_stops 3 0 (1 ∷ 2 ∷ []) ∷ stop_count 2 ∷ room 5 5 ∷ []
 
 refusing : (n : ℕ) → refusal TRules ≡ suc n → ⊥
-unfolding TRules TLegs any
+unfolding TRules TLegs
 refusing n e = let z : refusal TRules ≡ 0 = taken TRules (refl, (refl, (refl, (refl, (refl, (refl, (refl, (refl, tt)))))))) in omega arith
 
 -- ---- a case in which one improvement is not enough

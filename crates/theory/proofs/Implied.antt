@@ -7,14 +7,15 @@ use Prim.Native.Nat.{ℕ, zero, suc}
 use native.Mathlib.Omega.{arith}
 use lib.Dec.{leb, ltb, eqb}
 use lib.ListN.{length}
-use Rattle.theory.specs.Refusals.{Rule, number, any, order, either, rules_of, first_in, refusal, known_stops, known_end, pair_list, known_rounds, known_ends, round_lists, end_list}
+use Rattle.std.specs.List.{list_any}
+use Rattle.theory.specs.Refusals.{Rule, number, order, either, rules_of, first_in, refusal, known_stops, known_end, pair_list, known_rounds, known_ends, round_lists, end_list}
 use Rattle.theory.specs.Pairs.{pairs_of}
 use borrow.Author.Tests.{eqb-true, eq-eqb, not-true}
 use Rattle.theory.proofs.Judged.{and_true}
 
 -- A rule with the number applies.
 abbrev applied : ℕ → List Rule → Bool
-applied n rs = any (λ (r : Rule). eqb n r.0 && r.1) rs
+applied n rs = list_any (λ (r : Rule). eqb n r.0 && r.1) rs
 
 -- A number stands in the list no later than another.
 unfoldable pub no_later : ℕ → ℕ → List ℕ → Bool
@@ -41,7 +42,7 @@ nonzero (suc n) x z = refl
 
 -- Where one of them applies its number is given, whatever stands behind it.
 settles : (n : ℕ) (front more : List Rule) (rest : ℕ) → (n ≡ 0 → ⊥) → applied n front ≡ true → rules_of n (front ++ more) rest ≡ n
-unfolding any rules_of either
+unfolding rules_of either
 settles n [] more rest z h = absurd (false≢true h)
 settles n (r ∷ front) more rest z h = by (eqb n r.0) refl r.1 h (settles n front more rest z)
   where
@@ -90,7 +91,7 @@ implied a b false front back z o h = idle b front back order
 
 -- "Entries of before act as with an empty list": of that 29 is given nowhere.
 pub without_pairs : (front back : List Rule) (locations : ℕ) → refusal (front ++ (pair_list locations [] ∷ back)) ≡ refusal (front ++ back)
-unfolding refusal any pairs_of
+unfolding refusal pairs_of
 without_pairs front back locations = idle 29 front back order
 
 -- ---- the end harbour at the depot
@@ -100,7 +101,6 @@ or_true true = refl
 or_true false = refl
 
 last_applies : (n : ℕ) (front : List Rule) → applied n (front ++ ((n, true) ∷ [])) ≡ true
-unfolding any
 last_applies n [] = rw (eq-eqb n n refl) refl
 last_applies n (r ∷ front) = rw (last_applies n front) (or_true (eqb n r.0 && r.1))
 
@@ -115,7 +115,7 @@ pub ends_at_depots : (front back : List Rule) (locations : ℕ) (depots stops : 
     refusal ((front ++ (known_rounds locations depots stops ∷ [])) ++ (known_ends locations depots ∷ back)) ≡ refusal ((front ++ (known_rounds locations depots stops ∷ [])) ++ back)
 unfolding no_later
 ends_at_depots front back locations depots stops =
-    implied 4 24 (any (λ e. leb locations e) depots) (front ++ (known_rounds locations depots stops ∷ [])) back (λ e. absurd (omega arith)) refl (λ h. rw h (last_applies 4 front))
+    implied 4 24 (list_any (λ e. leb locations e) depots) (front ++ (known_rounds locations depots stops ∷ [])) back (λ e. absurd (omega arith)) refl (λ h. rw h (last_applies 4 front))
 
 -- As many depots as rounds are as many end harbours.
 pub ends_of_depots : (front back : List Rule) (lengths depots pins : List ℕ) (n : ℕ) →
@@ -123,4 +123,4 @@ pub ends_of_depots : (front back : List Rule) (lengths depots pins : List ℕ) (
 unfolding no_later
 ends_of_depots front back lengths depots pins n =
     implied 5 5 (not (eqb (length depots) (length lengths))) (front ++ (round_lists lengths depots pins n ∷ [])) back (λ e. absurd (omega arith)) refl
-    (λ h. rw (h, or_true (ltb 64 (length lengths) || any (λ n. ltb 512 n) lengths)) (last_applies 5 front))
+    (λ h. rw (h, or_true (ltb 64 (length lengths) || list_any (λ n. ltb 512 n) lengths)) (last_applies 5 front))

@@ -9,7 +9,8 @@ use lib.ListN.{length, get_or}
 use borrow.Author.Tests.{ltb-false, leb-false, ltb-true, eqb-true, not-false}
 use Rattle.theory.specs.Moves.{patterns, Rising}
 use Rattle.theory.specs.Tables.{Tables, LegTable, Times, Stops, Followable, Measurable, Clocked, Timed, Trip, CutSet}
-use Rattle.theory.specs.Refusals.{any, rises, cut_count, leg_table, deadline_list, leg_sizes, service_list, known_stops, known_end, stop_count, pattern_index, cut_positions, room, problem_rules}
+use Rattle.std.specs.List.{list_any}
+use Rattle.theory.specs.Refusals.{rises, cut_count, leg_table, deadline_list, leg_sizes, service_list, known_stops, known_end, stop_count, pattern_index, cut_positions, room, problem_rules}
 use Rattle.theory.proofs.Refusals.{Passes}
 
 pub and_true : (a b : Bool) → (a && b) ≡ true → (a ≡ true) × (b ≡ true)
@@ -21,17 +22,15 @@ or_false true b e = absurd (true≢false e)
 or_false false b e = (refl, e)
 
 -- Where no element passes a test, none does at any place.
-pub none_at : (t : ℕ → Bool) (l : List ℕ) → any t l ≡ false → (i : ℕ) → i < length l → t (get_or l i 0) ≡ false
-unfolding any
+pub none_at : (t : ℕ → Bool) (l : List ℕ) → list_any t l ≡ false → (i : ℕ) → i < length l → t (get_or l i 0) ≡ false
 none_at t [] e i h = absurd (omega arith)
-none_at t (x ∷ l) e zero h = (or_false (t x) (any t l) e).0
-none_at t (x ∷ l) e (suc i) h = none_at t l (or_false (t x) (any t l) e).1 i (omega arith)
+none_at t (x ∷ l) e zero h = (or_false (t x) (list_any t l) e).0
+none_at t (x ∷ l) e (suc i) h = none_at t l (or_false (t x) (list_any t l) e).1 i (omega arith)
 
-none_above : (most : ℕ) (l : List ℕ) → any (λ x. ltb most x) l ≡ false → (i : ℕ) → get_or l i 0 ≤ most
-unfolding any
+none_above : (most : ℕ) (l : List ℕ) → list_any (λ x. ltb most x) l ≡ false → (i : ℕ) → get_or l i 0 ≤ most
 none_above most [] e i = omega arith
-none_above most (x ∷ l) e zero = ltb-false most x (or_false (ltb most x) (any (λ x. ltb most x) l) e).0
-none_above most (x ∷ l) e (suc i) = none_above most l (or_false (ltb most x) (any (λ x. ltb most x) l) e).1 i
+none_above most (x ∷ l) e zero = ltb-false most x (or_false (ltb most x) (list_any (λ x. ltb most x) l) e).0
+none_above most (x ∷ l) e (suc i) = none_above most l (or_false (ltb most x) (list_any (λ x. ltb most x) l) e).1 i
 
 pub cut_count_fine : (k : ℕ) → (cut_count k).1 ≡ false → (2 ≤ k) × (k ≤ 5)
 cut_count_fine k e = let p = or_false (ltb k 2) (ltb 5 k) e in (ltb-false k 2 p.0, ltb-false 5 k p.1)
@@ -49,7 +48,7 @@ table_fine locations legs e f =
 pub stops_fine : (locations depot : ℕ) (route : List ℕ) → (known_stops locations depot route).1 ≡ false → (stop_count (length route)).1 ≡ false →
     (depot < locations) × Stops locations route
 stops_fine locations depot route e f =
-    let p = or_false (leb locations depot) (any (λ s. leb locations s) route) e in (
+    let p = or_false (leb locations depot) (list_any (λ s. leb locations s) route) e in (
       leb-false locations depot p.0,
       record { short = ltb-false 512 (length route) f; known = λ i h. leb-false locations (get_or route i 0) (none_at (λ s. leb locations s) route p.1 i h) },
     )
@@ -83,7 +82,7 @@ closed c = record { measurable = to_end c.followable c.followable.depot_known; t
 
 pub times_fine : (T : Tables) → (deadline_list T.locations T.latest).1 ≡ false → (service_list T.locations T.service).1 ≡ false → Times T
 times_fine T e f =
-    let p = or_false (not (eqb (length T.service) T.locations)) (any (λ s. ltb 1000000 s) T.service) f in
+    let p = or_false (not (eqb (length T.service) T.locations)) (list_any (λ s. ltb 1000000 s) T.service) f in
     record {
       deadlines = eqb-true (length T.latest) T.locations (not-false _ e);
       services = eqb-true (length T.service) T.locations (not-false _ p.0);
@@ -93,20 +92,20 @@ times_fine T e f =
 pub pattern_fine : (k index : ℕ) → (pattern_index k index).1 ≡ false → index < length (patterns k)
 pattern_fine k index e = leb-false (length (patterns k)) index e
 
-rising_fine : (n low : ℕ) (cs : List ℕ) → (0 < length cs → low ≤ get_or cs 0 0) → any (λ c. ltb n c) cs ≡ false → rises cs ≡ true → Rising low cs n
-unfolding any rises
+rising_fine : (n low : ℕ) (cs : List ℕ) → (0 < length cs → low ≤ get_or cs 0 0) → list_any (λ c. ltb n c) cs ≡ false → rises cs ≡ true → Rising low cs n
+unfolding rises
 rising_fine n low [] l e r = tt
 rising_fine n low (c ∷ []) l e r = (omega (arith, l (omega arith)), ltb-false n c (or_false (ltb n c) false e).0, tt)
 rising_fine n low (c ∷ d ∷ cs) l e r =
-    let p = or_false (ltb n c) (any (λ c. ltb n c) (d ∷ cs)) e in
+    let p = or_false (ltb n c) (list_any (λ c. ltb n c) (d ∷ cs)) e in
     let q = and_true (ltb c d) (rises (d ∷ cs)) r in
     (omega (arith, l (omega arith)), ltb-false n c p.0, rising_fine n (suc c) (d ∷ cs) (λ h. ltb-true c d q.0) p.1 q.1)
 
 pub cuts_fine : (k n : ℕ) (cuts : List ℕ) → (cut_count k).1 ≡ false → (stop_count n).1 ≡ false → (cut_positions k n cuts).1 ≡ false → CutSet k n cuts
 cuts_fine k n cuts a b e =
     let c = cut_count_fine k a in
-    let p = or_false (not (eqb (length cuts) k) || any (λ c. ltb n c) cuts) (not (rises cuts)) e in
-    let q = or_false (not (eqb (length cuts) k)) (any (λ c. ltb n c) cuts) p.0 in
+    let p = or_false (not (eqb (length cuts) k) || list_any (λ c. ltb n c) cuts) (not (rises cuts)) e in
+    let q = or_false (not (eqb (length cuts) k)) (list_any (λ c. ltb n c) cuts) p.0 in
     record {
       least = c.0;
       most = c.1;

@@ -5,7 +5,8 @@ use mathlib.Core.List.{List, [], ◌∷◌, ◌++◌}
 use Prim.Native.Nat.{ℕ}
 use lib.Dec.{eqb}
 use lib.ListN.{take}
-use Rattle.theory.specs.Refusals.{Rule, number, any, order, either, rules_of, first_in, refusal, room}
+use Rattle.std.specs.List.{list_any}
+use Rattle.theory.specs.Refusals.{Rule, number, order, either, rules_of, first_in, refusal, room}
 use Rattle.theory.proofs.Refusals.{either_zero, either_assoc}
 
 -- No rule has one of these two numbers.
@@ -58,14 +59,14 @@ through n (r ∷ rs) a x = by (eqb n r.0) (through n rs a x)
 
 -- ---- the numbers before
 
-before : (b : Bool) (rs : List Rule) (x : ℕ) (later ns : List ℕ) → any (λ m. eqb m 21) ns ≡ false →
+before : (b : Bool) (rs : List Rule) (x : ℕ) (later ns : List ℕ) → list_any (λ m. eqb m 21) ns ≡ false →
     first_in later (rs ++ ((21, b) ∷ [])) ≡ either (first_in later rs) x → first_in (ns ++ later) (rs ++ ((21, b) ∷ [])) ≡ either (first_in (ns ++ later) rs) x
-unfolding first_in any
+unfolding first_in
 before b rs x later [] e h = h
 before b rs x later (n ∷ ns) e h = by (eqb n 21) refl e (before b rs x later ns)
   where
-    by : (t : Bool) → eqb n 21 ≡ t → (t || any (λ m. eqb m 21) ns) ≡ false →
-        (any (λ m. eqb m 21) ns ≡ false → first_in later (rs ++ ((21, b) ∷ [])) ≡ either (first_in later rs) x → first_in (ns ++ later) (rs ++ ((21, b) ∷ [])) ≡ either (first_in (ns ++ later) rs) x) →
+    by : (t : Bool) → eqb n 21 ≡ t → (t || list_any (λ m. eqb m 21) ns) ≡ false →
+        (list_any (λ m. eqb m 21) ns ≡ false → first_in later (rs ++ ((21, b) ∷ [])) ≡ either (first_in later rs) x → first_in (ns ++ later) (rs ++ ((21, b) ∷ [])) ≡ either (first_in (ns ++ later) rs) x) →
         rules_of n (rs ++ ((21, b) ∷ [])) (first_in (ns ++ later) (rs ++ ((21, b) ∷ []))) ≡ either (rules_of n rs (first_in (ns ++ later) rs)) x
     by true q e f = absurd (true≢false e)
     by false q e f =
@@ -75,7 +76,7 @@ before b rs x later (n ∷ ns) e h = by (eqb n 21) refl e (before b rs x later n
 
 -- "21: lent result .. too short": given only where no other rule of the call applies.
 pub room_last : (rs : List Rule) (needed lent : ℕ) → early rs ≡ true → refusal (rs ++ (room needed lent ∷ [])) ≡ either (refusal rs) (number (room needed lent))
-unfolding refusal any
+unfolding refusal
 room_last rs needed lent h = before _ rs (number (room needed lent)) (21 ∷ 22 ∷ []) (take 19 order) refl last
   where
     last : first_in (21 ∷ 22 ∷ []) (rs ++ (room needed lent ∷ [])) ≡ either (first_in (21 ∷ 22 ∷ []) rs) (number (room needed lent))

@@ -22,6 +22,7 @@ pub mod LastRule
 pub mod Implied
 pub mod Taken
 pub mod Judged
+pub mod Checks
 pub mod ForK
 pub mod Rows
 pub mod Stores

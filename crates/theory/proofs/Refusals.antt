@@ -8,7 +8,8 @@ use Prim.Native.Nat.{ℕ, zero, suc}
 use native.Mathlib.Omega.{arith}
 use lib.Dec.{eqb}
 use borrow.Author.Tests.{eqb-true, eqb-false}
-use Rattle.theory.specs.Refusals.{Rule, any, order, either, rules_of, first_in, refusal}
+use Rattle.std.specs.List.{list_any}
+use Rattle.theory.specs.Refusals.{Rule, order, either, rules_of, first_in, refusal}
 
 -- No rule applies.
 abbrev pub Passes : List Rule → Type 0
@@ -17,9 +18,8 @@ Passes (r ∷ rs) = (r.1 ≡ false) × Passes rs
 
 -- Each rule's number stands in the order; 0 does not.
 unfoldable pub known : List Rule → Bool
-unfolding any
 known [] = true
-known (r ∷ rs) = any (eqb r.0) order && known rs
+known (r ∷ rs) = list_any (eqb r.0) order && known rs
 
 -- Of the numbers ns, n is given: a rule with that number applies, and none whose number stands earlier does.
 pub record Refused (ns : List ℕ) (rs : List Rule) (n : ℕ) : Type 0 where
@@ -115,23 +115,21 @@ decided (n ∷ ns) rs z = by (settled n rs (first_in ns rs) z) (decided ns rs z)
 
 -- ---- the laws
 
-stands : (rs : List Rule) → known rs ≡ true → (r : Rule) → Memᴰ r rs → any (eqb r.0) order ≡ true
+stands : (rs : List Rule) → known rs ≡ true → (r : Rule) → Memᴰ r rs → list_any (eqb r.0) order ≡ true
 unfolding known
 stands [] k r i = absurd (Memᴰ.not-nil i)
 stands (s ∷ rs) k r i =
-    let b = (and-eq-true_iff (any (eqb s.0) order) (known rs)).0 k in
+    let b = (and-eq-true_iff (list_any (eqb s.0) order) (known rs)).0 k in
     ⊎_elim (λ e. rw e b.0) (stands rs b.1 r) (Memᴰ.cases_cons i)
 
 not_zero : (rs : List Rule) → known rs ≡ true → Numbered rs
-unfolding any
 not_zero rs k r i z = true≢false (sym (rw z at (stands rs k r i)))
 
-listed : (x : ℕ) (l : List ℕ) → any (eqb x) l ≡ true → Memᴰ x l
-unfolding any
+listed : (x : ℕ) (l : List ℕ) → list_any (eqb x) l ≡ true → Memᴰ x l
 listed x [] h = absurd (true≢false (sym h))
 listed x (y ∷ l) h = by (eqb x y) refl (listed x l) h
   where
-    by : (b : Bool) → eqb x y ≡ b → (any (eqb x) l ≡ true → Memᴰ x l) → (b || any (eqb x) l) ≡ true → Memᴰ x (y ∷ l)
+    by : (b : Bool) → eqb x y ≡ b → (list_any (eqb x) l ≡ true → Memᴰ x l) → (b || list_any (eqb x) l) ≡ true → Memᴰ x (y ∷ l)
     by true e f h = Memᴰ.head (eqb-true x y e)
     by false e f h = Memᴰ.tail (f h)
 
@@ -204,10 +202,6 @@ either_assoc (suc a) b c = refl
 pub three_then : (a b c rest : ℕ) → either (either a (either b c)) rest ≡ either a (either b (either c rest))
 unfolding either
 three_then a b c rest = simp either_assoc
-
-pub four_then : (a b c d rest : ℕ) → either (either a (either b (either c (either d 0)))) rest ≡ either a (either b (either c (either d rest)))
-unfolding either
-four_then a b c d rest = simp either_assoc
 
 -- A check that applies is given, and one that does not is passed.
 pub applies_first : (a n rest : ℕ) → a ≡ n → (a ≡ 0 → ⊥) → a ≡ either n rest

@@ -1,23 +1,17 @@
 -- Runs of stores, for every crate that copies: a run in two parts, and one store of a run. Assumes nothing.
 use mathlib.Core.Path.{◌≡◌, sym, ap, ◌∙◌}
 use mathlib.Core.List.{List, [], ◌∷◌, ◌++◌}
-use Prim.Native.Nat.{ℕ, zero, suc, ◌+◌, ◌-◌, ◌<◌}
+use Prim.Native.Nat.{ℕ, zero, suc, ◌+◌, ◌-◌}
 use native.Mathlib.Nat.{add-zero, add-suc, suc-add}
-use native.Mathlib.Numerals.{add-one}
 use native.Mathlib.Omega.{arith}
-use lib.ListN.{length, get_or, take, drop, set}
-use lib.Seq.{sets, drop-cons, take-nil}
+use lib.ListN.{length, take, drop, set}
+use lib.Seq.{sets, take-nil}
 
 pub sets_append : (l : List ℕ) (at : ℕ) (xs ys : List ℕ) → sets l at (xs ++ ys) ≡ sets (sets l at xs) (at + length xs) ys
 sets_append l at [] ys = ap (λ (i : ℕ). sets l i ys) (sym (add-zero at))
 sets_append l at (x ∷ xs) ys =
     sets_append (set l at x) (suc at) xs ys
     ∙ ap (λ (i : ℕ). sets (sets (set l at x) (suc at) xs) i ys) (suc-add at (length xs) ∙ sym (add-suc at (length xs)))
-
--- A turn of the loop that copies: the store of the one at j, and then the rest.
-pub store_next : (l part : List ℕ) (at j : ℕ) → j < length part →
-    sets (set l (at + j) (get_or part j 0)) (at + (j + 1)) (drop (j + 1) part) ≡ sets l (at + j) (drop j part)
-store_next l part at j h = rw (add-one j, add-suc at j, drop-cons part j 0 h)
 
 -- A part of a front.
 pub drop_take : (a b : ℕ) (l : List ℕ) → drop a (take b l) ≡ take (b - a) (drop a l)

@@ -1,24 +1,13 @@
 -- What the proofs of the judged calls share: reply and lent memory where a call is refused and where it is taken. Assumes nothing.
-use mathlib.Core.Path.{◌≡◌, refl, sym, ◌∙◌}
+use mathlib.Core.Path.{◌≡◌, sym, ◌∙◌}
 use mathlib.Core.Bool.{true}
 use mathlib.Core.List.{List}
-use Prim.Native.Nat.{ℕ, zero, suc}
+use Prim.Native.Nat.{ℕ}
 use borrow.Author.Tests.{ne_eqb, eq-eqb}
 use Rattle.theory.specs.Refusals.{Rule, refusal, if_taken}
-use Rattle.theory.specs.Answers.{reply, refused}
 use Rattle.theory.proofs.Refusals.{Passes, known, accepted}
 
 module _ (rules : List Rule) (number : ℕ) (judged : number ≡ refusal rules) where
-  pub refused_reply : {A : Type 0} (values : List A) → (number ≡ 0 → ⊥) → refused number ≡ reply (refusal rules) values
-  refused_reply values h = rw (← judged) (by number h)
-    where
-      by : (n : ℕ) → (n ≡ 0 → ⊥) → refused n ≡ reply n values
-      by zero h = absurd (h refl)
-      by (suc n) h = refl
-
-  pub taken_reply : {A : Type 0} (values : List A) → number ≡ 0 → reply 0 values ≡ reply (refusal rules) values
-  taken_reply values h = rw (← judged, h)
-
   pub refused_kept : {A : Type 0} (done kept : A) → (number ≡ 0 → ⊥) → kept ≡ if_taken rules done kept
   refused_kept done kept h = rw (← judged, ne_eqb number 0 h)
 

@@ -1,70 +1,102 @@
 -- No two answers are told alike: each can be read back from its number and values. The deadline check's cannot, since kept and late at the number of stops have one value; what
 -- forces it is `kept_forced` of crate mittenschist. Assumes nothing.
-use mathlib.Core.Path.{◌≡◌, refl}
+use mathlib.Core.Path.{◌≡◌, refl, ap}
 use mathlib.Core.List.{List, [], ◌∷◌}
+use mathlib.Core.Bool.{Bool, true, false}
 use Prim.Native.Nat.{ℕ, zero, suc}
+use lib.Dec.{eqb}
 use lib.ListN.{get_or}
 use lib.IntN.{ℤ}
-use Rattle.theory.specs.Answers.{step_answer, length_answer, delta_answer, listing_answer, doable_answer, round_values}
-use Rattle.theory.specs.declared.CutStep.{CutStep}
-use Rattle.theory.specs.declared.CutStep.TheVariants as Step
-use Rattle.theory.specs.declared.RouteLength.{RouteLength}
-use Rattle.theory.specs.declared.RouteLength.TheVariants as Length
-use Rattle.theory.specs.declared.LengthDelta.{LengthDelta}
-use Rattle.theory.specs.declared.LengthDelta.TheVariants as Delta
+use Rattle.std.specs.Prelude.{cond, Result, Ok, Err}
+use Rattle.theory.specs.Numbers.{refusal_number}
+use Rattle.theory.specs.Answers.{flag_answer, length_answer, delta_answer, listing_answer, round_values}
+use Rattle.theory.specs.declared.Refusal.{Refusal}
+use Rattle.theory.specs.declared.Refusal.TheVariants as R
 use Rattle.theory.specs.declared.Listing.{Listing}
 use Rattle.theory.specs.declared.Listing.TheVariants as Listed
-use Rattle.theory.specs.declared.Doable.{Doable}
-use Rattle.theory.specs.declared.Doable.TheVariants as Do
 use Rattle.theory.specs.declared.RoundState.{RoundState}
 use Rattle.theory.specs.declared.RoundState.TheVariants as Round
 
-abbrev step_of : ℕ → List ℕ → CutStep
-step_of n [] = Step.Refused n
-step_of n (zero ∷ l) = Step.Last
-step_of n (suc m ∷ l) = Step.Moved
+abbrev refusal_of : ℕ → Refusal
+refusal_of n =
+    cond (eqb n 10) R.TextForm
+    (cond (eqb n 1) R.CutCount
+    (cond (eqb n 26) R.RowCount
+    (cond (eqb n 27) R.RowShape
+    (cond (eqb n 28) R.RowRepeated
+    (cond (eqb n 2) R.TableSize
+    (cond (eqb n 3) R.LongLeg
+    (cond (eqb n 23) R.ServiceList
+    (cond (eqb n 4) R.UnknownStop
+    (cond (eqb n 24) R.UnknownEnd
+    (cond (eqb n 29) R.Pairs
+    (cond (eqb n 5) R.RoundSize
+    (cond (eqb n 6) R.PatternIndex
+    (cond (eqb n 7) R.Cuts
+    (cond (eqb n 8) R.OtherRound
+    (cond (eqb n 9) R.NearbyInput
+    (cond (eqb n 25) R.MoveRounds
+    (cond (eqb n 31) R.TextBounds
+    (cond (eqb n 21) R.Room R.JournalLength))))))))))))))))))
 
-pub step_told : (s : CutStep) → step_of (step_answer s).number (step_answer s).values ≡ s
-step_told (Step.Refused n) = refl
-step_told Step.Moved = refl
-step_told Step.Last = refl
+pub refusal_told : (e : Refusal) → refusal_of (refusal_number e) ≡ e
+refusal_told R.TextForm = refl
+refusal_told R.CutCount = refl
+refusal_told R.RowCount = refl
+refusal_told R.RowShape = refl
+refusal_told R.RowRepeated = refl
+refusal_told R.TableSize = refl
+refusal_told R.LongLeg = refl
+refusal_told R.ServiceList = refl
+refusal_told R.UnknownStop = refl
+refusal_told R.UnknownEnd = refl
+refusal_told R.Pairs = refl
+refusal_told R.RoundSize = refl
+refusal_told R.PatternIndex = refl
+refusal_told R.Cuts = refl
+refusal_told R.OtherRound = refl
+refusal_told R.NearbyInput = refl
+refusal_told R.MoveRounds = refl
+refusal_told R.TextBounds = refl
+refusal_told R.Room = refl
+refusal_told R.JournalLength = refl
 
-abbrev length_of : ℕ → List ℕ → RouteLength
-length_of n [] = Length.Refused n
-length_of n (s ∷ l) = Length.Seconds s
+abbrev flag_of : ℕ → List ℕ → Result Bool Refusal
+flag_of n [] = Err (refusal_of n)
+flag_of n (zero ∷ l) = Ok false
+flag_of n (suc m ∷ l) = Ok true
 
-pub length_told : (s : RouteLength) → length_of (length_answer s).number (length_answer s).values ≡ s
-length_told (Length.Refused n) = refl
-length_told (Length.Seconds s) = refl
+pub flag_told : (s : Result Bool Refusal) → flag_of (flag_answer s).number (flag_answer s).values ≡ s
+flag_told (Err e) = ap Err (refusal_told e)
+flag_told (Ok true) = refl
+flag_told (Ok false) = refl
 
-abbrev delta_of : ℕ → List ℤ → LengthDelta
-delta_of n [] = Delta.Refused n
-delta_of n (s ∷ l) = Delta.Seconds s
+abbrev length_of : ℕ → List ℕ → Result ℕ Refusal
+length_of n [] = Err (refusal_of n)
+length_of n (s ∷ l) = Ok s
 
-pub delta_told : (s : LengthDelta) → delta_of (delta_answer s).number (delta_answer s).values ≡ s
-delta_told (Delta.Refused n) = refl
-delta_told (Delta.Seconds s) = refl
+pub length_told : (s : Result ℕ Refusal) → length_of (length_answer s).number (length_answer s).values ≡ s
+length_told (Err e) = ap Err (refusal_told e)
+length_told (Ok s) = refl
 
-abbrev listing_of : ℕ → List ℕ → Listing
-listing_of n [] = Listed.Refused n
-listing_of n (c ∷ []) = Listed.Ended c
-listing_of n (c ∷ zero ∷ l) = Listed.Ended c
-listing_of n (c ∷ suc m ∷ l) = Listed.More c
+abbrev delta_of : ℕ → List ℤ → Result ℤ Refusal
+delta_of n [] = Err (refusal_of n)
+delta_of n (s ∷ l) = Ok s
 
-pub listing_told : (s : Listing) → listing_of (listing_answer s).number (listing_answer s).values ≡ s
-listing_told (Listed.Refused n) = refl
-listing_told (Listed.Ended c) = refl
-listing_told (Listed.More c) = refl
+pub delta_told : (s : Result ℤ Refusal) → delta_of (delta_answer s).number (delta_answer s).values ≡ s
+delta_told (Err e) = ap Err (refusal_told e)
+delta_told (Ok s) = refl
 
-abbrev doable_of : ℕ → List ℕ → Doable
-doable_of n [] = Do.Refused n
-doable_of n (zero ∷ l) = Do.No
-doable_of n (suc m ∷ l) = Do.Yes
+abbrev listing_of : ℕ → List ℕ → Result Listing Refusal
+listing_of n [] = Err (refusal_of n)
+listing_of n (c ∷ []) = Ok (Listed.Ended c)
+listing_of n (c ∷ zero ∷ l) = Ok (Listed.Ended c)
+listing_of n (c ∷ suc m ∷ l) = Ok (Listed.More c)
 
-pub doable_told : (s : Doable) → doable_of (doable_answer s).number (doable_answer s).values ≡ s
-doable_told (Do.Refused n) = refl
-doable_told Do.No = refl
-doable_told Do.Yes = refl
+pub listing_told : (s : Result Listing Refusal) → listing_of (listing_answer s).number (listing_answer s).values ≡ s
+listing_told (Err e) = ap Err (refusal_told e)
+listing_told (Ok (Listed.Ended c)) = refl
+listing_told (Ok (Listed.More c)) = refl
 
 abbrev state_of : ℕ → (examined accepted : ℕ) → RoundState
 state_of zero e a = Round.NotReached

@@ -1,19 +1,13 @@
 -- What a caller is told: document 01's number and values for each case of an answer.
-use Rattle.std.specs.Prelude.{◌≡◌, List, [], ◌∷◌, true, false, cond, ℕ, zero, suc, ◌<◌, eqb, length, get_or, take, ℤ, Float}
+use Rattle.std.specs.Prelude.{◌≡◌, List, [], ◌∷◌, true, false, cond, ℕ, zero, suc, ◌<◌, eqb, length, get_or, take, ℤ, Float, Bool, Result, Ok, Err}
 use Rattle.theory.specs.Moves.{Pattern}
 use Rattle.theory.specs.Route.{Problem, Timetable, late_position, Timely, tour_length, timetable_of}
 use Rattle.theory.specs.Scan.{Reply}
 use Rattle.theory.specs.Polish.{polish_with, Demand3}
+use Rattle.theory.specs.Numbers.{refusal_number}
+use Rattle.theory.specs.declared.Refusal.{Refusal}
 use Rattle.theory.specs.declared.Deadline.{Deadline}
 use Rattle.theory.specs.declared.Deadline.TheVariants as Check
-use Rattle.theory.specs.declared.CutStep.{CutStep}
-use Rattle.theory.specs.declared.CutStep.TheVariants as Step
-use Rattle.theory.specs.declared.RouteLength.{RouteLength}
-use Rattle.theory.specs.declared.RouteLength.TheVariants as Length
-use Rattle.theory.specs.declared.LengthDelta.{LengthDelta}
-use Rattle.theory.specs.declared.LengthDelta.TheVariants as Delta
-use Rattle.theory.specs.declared.Feasibility.{Feasibility}
-use Rattle.theory.specs.declared.Feasibility.TheVariants as Judged
 use Rattle.theory.specs.declared.KOptReconnection.{KOptReconnection}
 use Rattle.theory.specs.declared.Counts.{Counts}
 use Rattle.theory.specs.declared.Polished.{Polished}
@@ -22,8 +16,6 @@ use Rattle.theory.specs.declared.Nearest.{Nearest}
 use Rattle.theory.specs.declared.Nearest.TheVariants as Query
 use Rattle.theory.specs.declared.Listing.{Listing}
 use Rattle.theory.specs.declared.Listing.TheVariants as Listed
-use Rattle.theory.specs.declared.Doable.{Doable}
-use Rattle.theory.specs.declared.Doable.TheVariants as Do
 use Rattle.theory.specs.declared.RoundState.{RoundState}
 use Rattle.theory.specs.declared.RoundState.TheVariants as Round
 
@@ -40,19 +32,20 @@ reply (suc n) values = record { number = suc n; values = [] }
 abbrev pub refused : {A : Type 0} → ℕ → Answer A
 refused n = record { number = n; values = [] }
 
--- Moved is 1; the last set is 0.
-abbrev pub step_answer : CutStep → Answer ℕ
-step_answer (Step.Refused n) = refused n
-step_answer Step.Moved = reply 0 (1 ∷ [])
-step_answer Step.Last = reply 0 (0 ∷ [])
+-- What a call answers: the values of its result, or its refusal.
+abbrev pub answer_of : {A B : Type 0} → (A → List B) → Result A Refusal → Answer B
+answer_of values (Ok a) = reply 0 (values a)
+answer_of values (Err e) = refused (refusal_number e)
 
-abbrev pub length_answer : RouteLength → Answer ℕ
-length_answer (Length.Refused n) = refused n
-length_answer (Length.Seconds s) = reply 0 (s ∷ [])
+-- 1 yes or 0 no.
+abbrev pub flag_answer : Result Bool Refusal → Answer ℕ
+flag_answer = answer_of (λ flag. cond flag 1 0 ∷ [])
 
-abbrev pub delta_answer : LengthDelta → Answer ℤ
-delta_answer (Delta.Refused n) = refused n
-delta_answer (Delta.Seconds s) = reply 0 (s ∷ [])
+abbrev pub length_answer : Result ℕ Refusal → Answer ℕ
+length_answer = answer_of (λ seconds. seconds ∷ [])
+
+abbrev pub delta_answer : Result ℤ Refusal → Answer ℤ
+delta_answer = answer_of (λ seconds. seconds ∷ [])
 
 -- "It shall name the lowest one."
 abbrev pub LateAt : Timetable → (depot : ℕ) → List ℕ → ℕ → Type 0
@@ -68,9 +61,8 @@ abbrev pub deadline_position : ℕ → Deadline → ℕ
 deadline_position n Check.Kept = n
 deadline_position n (Check.Late p) = p
 
-abbrev pub feasibility_answer : ℕ → Feasibility → Answer ℕ
-feasibility_answer n (Judged.Refused q) = refused q
-feasibility_answer n (Judged.Checked d) = reply 0 (deadline_position n d ∷ [])
+abbrev pub feasibility_answer : ℕ → Result Deadline Refusal → Answer ℕ
+feasibility_answer n = answer_of (λ checked. deadline_position n checked ∷ [])
 
 -- "The position with its distance, or none."
 abbrev pub nearest_values : Nearest → List (ℕ × Float)
@@ -78,16 +70,12 @@ nearest_values (Query.Near p d) = (p, d) ∷ []
 nearest_values Query.Nothing = []
 
 -- The number of sets written, then 0 ended or 1 more.
-abbrev pub listing_answer : Listing → Answer ℕ
-listing_answer (Listed.Refused n) = refused n
-listing_answer (Listed.Ended c) = reply 0 (c ∷ 0 ∷ [])
-listing_answer (Listed.More c) = reply 0 (c ∷ 1 ∷ [])
+abbrev pub listing_values : Listing → List ℕ
+listing_values (Listed.Ended c) = c ∷ 0 ∷ []
+listing_values (Listed.More c) = c ∷ 1 ∷ []
 
--- 0 no or 1 yes.
-abbrev pub doable_answer : Doable → Answer ℕ
-doable_answer (Do.Refused n) = refused n
-doable_answer Do.No = reply 0 (0 ∷ [])
-doable_answer Do.Yes = reply 0 (1 ∷ [])
+abbrev pub listing_answer : Result Listing Refusal → Answer ℕ
+listing_answer = answer_of listing_values
 
 -- "Four numbers a round: state (0 not reached, 1 pinned, 2 short, 3 unchanged, 4 changed .., 5 spent), examined, accepted, applied (accepted in state 4,
 -- else 0); states 0 to 2 have 0 in all three."

@@ -10,3 +10,4 @@ pub mod Refusals
 pub mod Question
 pub mod Answers
 pub mod Runs
+pub mod Numbers

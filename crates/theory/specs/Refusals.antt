@@ -1,18 +1,13 @@
 -- Document 01, "When it says no": each condition on the raw input with its number. A call takes the rules that speak of what it is handed, and the
 -- first number of the one order whose rule applies is given.
-use Rattle.std.specs.Prelude.{Bool, true, false, cond, not, ◌&&◌, ◌||◌, List, [], ◌∷◌, ◌++◌, ℕ, zero, suc, ◌*◌, ◌%◌, leb, ltb, eqb, length, Float}
-use Rattle.std.specs.Float.{nan, inf, fin}
+use Rattle.std.specs.Prelude.{Bool, true, cond, not, ◌&&◌, ◌||◌, List, [], ◌∷◌, ◌++◌, ℕ, zero, suc, ◌*◌, ◌%◌, leb, ltb, eqb, length, Float, is_nan}
+use Rattle.std.specs.List.{list_any}
 use Rattle.theory.specs.Moves.{patterns, total}
 use Rattle.theory.specs.Pairs.{pairs_of}
 use Rattle.theory.specs.Tables.{Tables, Trip}
 
 abbrev pub Rule : Type 0
 Rule = ℕ × Bool
-
--- Some element passes a test.
-unfoldable pub any : {A : Type 0} → (A → Bool) → List A → Bool
-any t [] = false
-any t (x ∷ xs) = t x || any t xs
 
 -- Each element is below the next.
 unfoldable pub rises : List ℕ → Bool
@@ -34,15 +29,15 @@ deadline_list locations latest = (2, not (eqb (length latest) locations))
 
 -- "3: a leg above 1,000,000."
 abbrev pub leg_sizes : List ℕ → Rule
-leg_sizes legs = (3, any (λ d. ltb 1000000 d) legs)
+leg_sizes legs = (3, list_any (λ d. ltb 1000000 d) legs)
 
 -- "23: a service list not one entry for each location, or an entry above 1,000,000."
 abbrev pub service_list : ℕ → List ℕ → Rule
-service_list locations service = (23, not (eqb (length service) locations) || any (λ s. ltb 1000000 s) service)
+service_list locations service = (23, not (eqb (length service) locations) || list_any (λ s. ltb 1000000 s) service)
 
 -- "4: depot or stop not below the locations."
 abbrev pub known_stops : ℕ → ℕ → List ℕ → Rule
-known_stops locations depot route = (4, leb locations depot || any (λ s. leb locations s) route)
+known_stops locations depot route = (4, leb locations depot || list_any (λ s. leb locations s) route)
 
 -- "24, end harbour not below the locations, after 4 and before 5."
 abbrev pub known_end : ℕ → ℕ → Rule
@@ -52,7 +47,7 @@ known_end locations end = (24, leb locations end)
 abbrev pub pair_list : ℕ → List ℕ → Rule
 pair_list locations pairs = (
   29,
-  ltb 128 (length pairs) || not (eqb (length pairs % 2) 0) || any (λ x. leb locations x) pairs || any (λ p. eqb p.0 p.1) (pairs_of pairs),
+  ltb 128 (length pairs) || not (eqb (length pairs % 2) 0) || list_any (λ x. leb locations x) pairs || list_any (λ p. eqb p.0 p.1) (pairs_of pairs),
 )
 
 -- "5: a round or n above 512 .."
@@ -61,14 +56,14 @@ stop_count n = (5, ltb 512 n)
 
 -- 4 and 5 of the rounds of a run: every depot and every entry of the stops is judged, reached or not.
 abbrev pub known_rounds : ℕ → List ℕ → List ℕ → Rule
-known_rounds locations depots stops = (4, any (λ s. leb locations s) depots || any (λ s. leb locations s) stops)
+known_rounds locations depots stops = (4, list_any (λ s. leb locations s) depots || list_any (λ s. leb locations s) stops)
 
 -- "5: a round .. above 512, more than 64 rounds, or lists of rounds whose sizes disagree."
 abbrev pub round_lists : List ℕ → List ℕ → List ℕ → ℕ → Rule
 round_lists lengths depots pins stops = (
   5,
   ltb 64 (length lengths)
-      || any (λ n. ltb 512 n) lengths
+      || list_any (λ n. ltb 512 n) lengths
       || not (eqb (length depots) (length lengths))
       || not (eqb (length pins) (length lengths))
       || not (eqb (total (λ n. n) lengths) stops),
@@ -76,7 +71,7 @@ round_lists lengths depots pins stops = (
 
 -- 24 and 5 of the end harbours of a run.
 abbrev pub known_ends : ℕ → List ℕ → Rule
-known_ends locations ends = (24, any (λ e. leb locations e) ends)
+known_ends locations ends = (24, list_any (λ e. leb locations e) ends)
 
 abbrev pub end_list : List ℕ → List ℕ → Rule
 end_list lengths ends = (5, not (eqb (length ends) (length lengths)))
@@ -87,7 +82,7 @@ pattern_index k index = (6, leb (length (patterns k)) index)
 
 -- "7: not k cuts, one above n, or not strictly rising."
 abbrev pub cut_positions : ℕ → ℕ → List ℕ → Rule
-cut_positions k n cuts = (7, not (eqb (length cuts) k) || any (λ c. ltb n c) cuts || not (rises cuts))
+cut_positions k n cuts = (7, not (eqb (length cuts) k) || list_any (λ c. ltb n c) cuts || not (rises cuts))
 
 -- "Unequal lengths are 7": of the round numbers and the positions of the cuts.
 abbrev pub cut_lists : List ℕ → List ℕ → Rule
@@ -95,17 +90,12 @@ cut_lists rounds positions = (7, not (eqb (length rounds) (length positions)))
 
 -- "8: a cut naming another round."
 abbrev pub own_round : ℕ → List ℕ → Rule
-own_round round rounds = (8, any (λ r. not (eqb r round)) rounds)
-
-unfoldable pub no_number : Float → Bool
-no_number nan = true
-no_number (inf s) = false
-no_number (fin s m e) = false
+own_round round rounds = (8, list_any (λ r. not (eqb r round)) rounds)
 
 -- "9: m or the neighbours outside their range, float table not n × n, or one of its entries no number."
 abbrev pub nearby_input : ℕ → List Float → ℕ → ℕ → Rule
 nearby_input n distances m neighbours =
-    (9, ltb m 1 || ltb 512 m || ltb 32 neighbours || not (eqb (length distances) (n * n)) || any no_number distances)
+    (9, ltb m 1 || ltb 512 m || ltb 32 neighbours || not (eqb (length distances) (n * n)) || list_any is_nan distances)
 
 -- "21: lent result .. too short": needed places, lent places.
 abbrev pub room : ℕ → ℕ → Rule

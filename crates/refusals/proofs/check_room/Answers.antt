@@ -1,9 +1,0 @@
--- `refusals::check_room` meets its contract.  Assumes nothing.
-use borrow.Author.Tests.{lt-ltb, le-ltb}
-use Rattle.refusals.proofs.check_room.Goals as goal
-
-pub returns-then-lent-needed : goal.returns-then-lent-needed
-returns-then-lent-needed c = simp (lt-ltb _ _ c.if-lent-needed.true)
-
-pub returns : goal.returns
-returns c = simp (le-ltb _ _ c.if-lent-needed.false)
