@@ -1,10 +1,9 @@
 -- The candidate of a pattern: its order as code lends it, and the route that it makes, which has the same stops. Assumes nothing.
 use mathlib.Core.Path.{◌≡◌, sym, ap, ◌∙◌}
-use mathlib.Core.List.{List, [], ◌++◌}
+use mathlib.Core.List.{List, []}
 use Prim.Native.Nat.{ℕ}
 use native.Mathlib.Omega.{arith}
-use lib.ListN.{length, get_or, take, drop, length-append, length-drop}
-use lib.Seq.{take_at, length-take-le}
+use lib.ListN.{length, get_or}
 use Rattle.theory.specs.Moves.{Move, total}
 use Rattle.theory.specs.Route.{reconnected}
 use Rattle.theory.specs.Polish.{move_at}
@@ -13,7 +12,7 @@ use Rattle.theory.proofs.Route.{total_reconnected}
 use Rattle.theory.proofs.Rows.{lent_row, lent_at, listed_for_k}
 use Rattle.theory.proofs.ForK.{for_k_order}
 use Rattle.theory.proofs.Stops.{as_many}
-use Rattle.candidates.specs.Candidate.{candidate, Candidate, BuildableFront, BuiltFront}
+use Rattle.candidates.specs.Candidate.{candidate, Candidate, BuildableFront}
 
 module _ {r cs orders masks : List ℕ} {i : ℕ} (given : Candidate r cs orders masks i) where
   abbrev move : Move
@@ -40,16 +39,6 @@ module _ {r cs orders masks : List ℕ} {i : ℕ} (given : Candidate r cs orders
 
 -- Built at the front of the spare array.
 module _ {r cs orders masks : List ℕ} {i : ℕ} {spare : List ℕ} (given : BuildableFront r cs orders masks i spare) where
-  pub room : length (take (length r) spare) ≡ length r
-  room = length-take-le (length r) spare (omega (arith, given.places, given.of.cut_set.short))
-
   module _ {out : List ℕ} (e : out ≡ candidate r cs orders masks i) where
     out_length : length out ≡ length r
     out_length = ap length e ∙ as_long given.of
-
-    pub built_front : BuiltFront r cs orders masks i (out ++ drop (length r) spare)
-    built_front =
-        record {
-          is = take_at out (drop (length r) spare) (length r) out_length ∙ e;
-          places = simp (length-append, length-drop) (omega (arith, out_length, given.of.cut_set.short, given.places));
-        }

@@ -1,24 +1,18 @@
 -- The difference of the costs of two orders, the pattern's and the standing one, is that of the lengths.
 use mathlib.Core.Path.{◌≡◌, sym}
 use mathlib.Core.List.{List}
-use Prim.Native.Nat.{ℕ, suc, ◌+◌, ◌-◌, ◌*◌, ◌^◌, ◌<◌}
+use Prim.Native.Nat.{ℕ, suc, ◌+◌, ◌-◌, ◌*◌}
 use native.Mathlib.Omega.{arith}
 use native.Mathlib.Nat.{pow-suc}
-use lib.Dec.{ltb}
-use lib.IntN.{ℤ, pos, ◌-ℤ◌}
+use lib.IntN.{pos, ◌-ℤ◌}
 use lib.ListN.{length}
-use lib.Signed.{mag, lt_z}
-use mir.Syntax.{w64}
-use mir.Val.{to_z, of_z}
-use mir.Facts.{to_z-of_z}
-use borrow.Author.Rules.{sfits_of}
-use Rattle.theory.specs.Route.{Problem, tour_length}
+use Rattle.theory.specs.Route.{tour_length}
 use Rattle.theory.specs.Tables.{legs_only}
 use Rattle.theory.proofs.Delta.{even_head, small_tail, delta_through}
 use Rattle.costs.specs.RouteCosts.{Middle}
 use Rattle.costs.specs.Deltas.{Costable, cost_of, Cost, Deltable, reconnected_at, delta_of}
-use Rattle.costs.proofs.Orders.{middle_is, pattern_middle, standing, standing_middle, standing_order}
-use Rattle.costs.proofs.Signed.{same_difference, negative}
+use Rattle.costs.proofs.Orders.{middle_is, pattern_middle, standing, standing_middle}
+use Rattle.costs.proofs.Signed.{same_difference}
 
 module _ {locations : ℕ} {legs : List ℕ} {depot end : ℕ} {route forward_sums backward_sums cuts order : List ℕ} {mask : ℕ}
     (d : Deltable locations legs depot end route forward_sums backward_sums cuts order mask) where
@@ -31,9 +25,6 @@ module _ {locations : ℕ} {legs : List ℕ} {depot end : ℕ} {route forward_su
         cut_set = d.cut_set;
         middle = m;
       }
-
-  pub standing_costable : Costable locations legs depot end route forward_sums backward_sums cuts standing
-  standing_costable = costable standing (standing_order (length cuts) d.cut_set.most)
 
   pub pattern_costable : Costable locations legs depot end route forward_sums backward_sums cuts order
   pattern_costable = costable order (pattern_middle (length cuts) order mask d.cut_set.least d.pattern)
@@ -54,9 +45,3 @@ module _ {locations : ℕ} {legs : List ℕ} {depot end : ℕ} {route forward_su
   delta_is {proposed} {current} p c =
       same_difference (tour_length (legs_only locations legs depot end) (reconnected_at route cuts order mask)) (tour_length (legs_only locations legs depot end) route)
       proposed current (omega (arith, p.is, c.is, crosswise))
-
--- For callers that test `delta(..) < 0`: it is so exactly where the route after the move is shorter.
-pub negative_delta : (P : Problem) (route cuts order : List ℕ) (mask : ℕ) (d : ℤ) → mag d < 2 ^ 63 → d ≡ delta_of P route cuts order mask →
-    lt_z (to_z w64 (of_z w64 d)) (pos 0) ≡ ltb (tour_length P (reconnected_at route cuts order mask)) (tour_length P route)
-negative_delta P route cuts order mask d range e =
-    rw (to_z-of_z (sfits_of range), e) (negative (tour_length P (reconnected_at route cuts order mask)) (tour_length P route))

@@ -1,4 +1,3 @@
-pub mod Table
 pub mod Length
 pub mod Sums
 pub mod Segments

@@ -52,7 +52,3 @@ unfolding upfrom
 standing_middle k h l =
     let e : k ≡ suc (k - 1) = omega arith in
     ap (λ n. slice 1 n standing) e ∙ take_upfrom 1 5 (k - 1) (omega arith)
-
-pub standing_order : (k : ℕ) → k ≤ 5 → Middle k standing
-standing_order k h =
-    record { long = omega arith; least = λ p i j. omega (arith, standing_at p (omega arith)); most = λ p i j. omega (arith, standing_at p (omega arith)) }

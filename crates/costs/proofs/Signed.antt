@@ -5,7 +5,7 @@ use Prim.Native.Nat.{ℕ, zero, suc, ◌+◌, ◌-◌, ◌^◌, ◌≤◌, ◌<�
 use native.Mathlib.Omega.{arith}
 use lib.Dec.{ltb}
 use lib.IntN.{pos, negsuc, ◌-ℤ◌}
-use lib.Signed.{mag, lt_z}
+use lib.Signed.{mag}
 use mir.Syntax.{w64}
 use mir.Val.{SFits, to_z, of_z}
 use mir.Facts.{to_z_pos, to_z-of_z}
@@ -42,11 +42,3 @@ same_difference a b x y e = by (ltb x y) refl
     by : (t : Bool) → ltb x y ≡ t → pos x -ℤ pos y ≡ pos a -ℤ pos b
     by true f = let h = ltb-true x y f in below x y h ∙ ap negsuc (omega arith) ∙ sym (below a b (omega arith))
     by false f = let h = ltb-false x y f in not_below x y h ∙ ap pos (omega arith) ∙ sym (not_below a b (omega arith))
-
--- A difference is below 0 exactly where the first number is below the second.
-pub negative : (a b : ℕ) → lt_z (pos a -ℤ pos b) (pos 0) ≡ ltb a b
-negative a b = by (ltb a b) refl
-  where
-    by : (t : Bool) → ltb a b ≡ t → lt_z (pos a -ℤ pos b) (pos 0) ≡ t
-    by true f = rw (below a b (ltb-true a b f))
-    by false f = rw (not_below a b (ltb-false a b f)) (le-ltb (a - b) 0 (omega arith))

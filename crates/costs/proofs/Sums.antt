@@ -10,7 +10,7 @@ use borrow.Author.Count.{below_more}
 use Rattle.theory.specs.Route.{path, reverse_if}
 use Rattle.theory.specs.Costs.{inner, forward, backward}
 use Rattle.theory.proofs.Delta.{placed_inner}
-use Rattle.costs.specs.RouteCosts.{leg, running, InnerLeg, Summed}
+use Rattle.costs.specs.RouteCosts.{leg, running, InnerLeg}
 
 pub running_first : (b : Bool) (d : ℕ → ℕ → ℕ) (r : List ℕ) → 0 ≡ running b d r 0
 unfolding forward backward inner path
@@ -69,17 +69,3 @@ written_next sum {before} {sums} {t} v h w e s =
 -- With the first place counted as what stood there before.
 pub written_first : (sum : ℕ → ℕ) {before sums : List ℕ} → Written sum before sums 1 → Written sum sums sums 1
 written_first sum w = record { places = w.places; each = w.each; small = w.small; beyond = λ j k. refl }
-
-pub written_all : (sum : ℕ → ℕ) (route before : List ℕ) {sums : List ℕ} {t : ℕ} → 1 ≤ t → t ≡ length route → Written sum (set before 0 0) sums t → Summed route sum before sums
-written_all sum route before {sums} {t} h e w =
-    record {
-      sums = record { places = w.places; each = λ j k. w.each j (omega arith); small = λ j k. w.small j (omega arith) };
-      beyond = λ j k. w.beyond j (omega arith) ∙ get_or-set_other before 0 j 0 0 (λ q. omega arith);
-    }
-
-pub no_stops : (sum : ℕ → ℕ) (route before : List ℕ) → length route ≡ 0 → length before ≡ 512 → Summed route sum before before
-no_stops sum route before e h =
-    record {
-      sums = record { places = h; each = λ j k. absurd (omega arith); small = λ j k. absurd (omega arith) };
-      beyond = λ j k. refl;
-    }

@@ -16,10 +16,7 @@ use theory::STOPS;
 pub fn least(a: u64, b: u64) -> u64
     ensures { result ≡ min a b }
 {
-    if a < b {
-        return a;
-    }
-    b
+    a.min(b)
 }
 
 // The leg between two locations.
@@ -39,12 +36,9 @@ pub fn route_length(locations: usize, legs: &[u32], depot: u32, end: u32, route:
 {
     let mut total = 0u64;
     let mut previous = depot;
-    let mut i = 0;
-    while i < route.len() {
-        let stop = route[i];
+    for &stop in route {
         total += route_distance(locations, legs, previous, stop);
         previous = stop;
-        i += 1;
     }
     total + route_distance(locations, legs, previous, end)
 }
@@ -79,10 +73,8 @@ fn running_sums(
         return;
     }
     sums[0] = 0;
-    let mut t = 1;
-    while t < route.len() {
+    for t in 1..route.len() {
         sums[t] = sums[t - 1] + inner_leg(locations, legs, route, t, backwards);
-        t += 1;
     }
 }
 
@@ -141,7 +133,7 @@ pub fn inner(sums: &[u64; STOPS], start: usize, end: usize) -> u64
 // ---- a move's delta, segment by segment
 
 // A segment as it is placed: the seconds from the stop before it up to its last stop, and that stop.
-#[derive(Clone, Copy)]
+#[derive(Clone, Copy, Debug, PartialEq, Eq)]
 struct Placed {
     seconds: u64,
     last: u32,
@@ -222,15 +214,13 @@ fn cost(
 {
     let mut total = 0u64;
     let mut previous = head_end(depot, route, cuts);
-    let mut position = 1;
-    while position < cuts.len() {
+    for position in 1..cuts.len() {
         let segment = order[position] as usize;
         let placed = place_segment(
             locations, legs, route, forward, backward, cuts, mask, segment, previous,
         );
         total += placed.seconds;
         previous = placed.last;
-        position += 1;
     }
     let to = tail_start(end, route, cuts);
     total + route_distance(locations, legs, previous, to)

@@ -11,10 +11,8 @@ fn follow_on(cuts: &mut [usize], from: usize, first: usize)
     requires { Followable cuts.old from first }
     ensures { cuts.new ≡ take from cuts.old ++ upfrom first (length cuts.old - from) }
 {
-    let mut place = from;
-    while place < cuts.len() {
+    for place in from..cuts.len() {
         cuts[place] = first + (place - from);
-        place += 1;
     }
 }
 
@@ -24,9 +22,7 @@ pub fn next_cut_set(cuts: &mut [usize], n: usize) -> bool
     ensures { Stepped n cuts.old result cuts.new }
 {
     let k = cuts.len();
-    let mut position = k;
-    while position > 0 {
-        position -= 1;
+    for position in (0..k).rev() {
         let cut = cuts[position];
         if cut + (k - position) <= n {
             follow_on(cuts, position, cut + 1);

@@ -36,6 +36,3 @@ kept_else (Check.Late x) h = absurd (h x refl)
 -- Where every deadline is kept, the number of stops is the answer.
 pub none_told : (B : Timetable) (depot : ℕ) (r : List ℕ) → timely B depot r ≡ true → length r ≡ late_position B depot r
 none_told B depot r e = sym ((late_position_none B depot r).1 ((timely_iff B depot r).0 e))
-
-pub position_told : (B : Timetable) (depot : ℕ) (r : List ℕ) {answer : Deadline} {p : ℕ} → answer ≡ Check.Late p → Checked B depot r answer → p ≡ late_position B depot r
-position_told B depot r a told = (rw a at told).1

@@ -57,9 +57,6 @@ one_stay service r stayed i sum v so h short e brief =
     few c l (yes q) = rw q (omega (arith, get_or-set_same stayed (i + 1) (sum + v) 0 (omega (arith, so.places)), so.small i (omega arith), so.sum_is))
     few c l (no q) = omega (arith, get_or-set_other stayed (i + 1) c (sum + v) 0 q, so.small c (omega arith))
 
-pub all_stays : (service r stayed : List ℕ) (i sum : ℕ) → Staying service r stayed i sum → length r ≤ i → Stays service r stayed
-all_stays service r stayed i sum so h = record { places = so.places; each = λ c l. so.each c (omega arith); small = λ c l. so.small c (omega arith) }
-
 -- ---- read
 
 module _ {service r stayed : List ℕ} (stays : Stays service r stayed) (i : ℕ) (h : i < length r) where

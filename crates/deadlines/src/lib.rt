@@ -24,8 +24,7 @@ pub fn check_deadlines(
 {
     let mut clock = 0u64;
     let mut previous = depot;
-    let mut i = 0;
-    while i < route.len() {
+    for i in 0..route.len() {
         let stop = route[i];
         clock += costs::route_distance(locations, legs, previous, stop);
         let location = stop as usize;
@@ -35,7 +34,6 @@ pub fn check_deadlines(
         }
         clock += service_of(service, stop);
         previous = stop;
-        i += 1;
     }
     Deadline::Kept
 }
@@ -79,11 +77,9 @@ pub fn fill_stays(service: &[u32], route: &[u32], stayed: &mut [u64; CUT_PLACES]
 {
     let mut sum = 0u64;
     stayed[0] = 0;
-    let mut i = 0;
-    while i < route.len() {
+    for i in 0..route.len() {
         sum += service_of(service, route[i]);
-        i += 1;
-        stayed[i] = sum;
+        stayed[i + 1] = sum;
     }
 }
 
@@ -138,13 +134,12 @@ pub fn fill_lateness(
     requires { LatenessFillable (tables locations legs.now latest.now service.now) depot route.now forward.now stayed.now lateness.old }
     ensures { LatenessFilled (clock_by (tables locations legs.now latest.now service.now)) depot route.now result lateness.new }
 {
-    let mut c = route.len();
-    let mut longest = c;
+    let n = route.len();
+    let mut longest = n;
     let mut soonest = 4295967295u64;
     let mut most = 0u64;
-    lateness[c] = 0;
-    while 0 < c {
-        let i = c - 1;
+    lateness[n] = 0;
+    for i in (0..n).rev() {
         let reached = left_at(locations, legs, depot, route, forward, stayed, i);
         let deadline = until_at(latest, route, stayed, i);
         soonest = costs::least(soonest, deadline);
@@ -153,7 +148,6 @@ pub fn fill_lateness(
         }
         most = later(most, reached, deadline);
         lateness[i] = most;
-        c = i;
     }
     longest
 }

@@ -20,8 +20,9 @@ fn first_cuts(state: NearbyCutState, distances: &[f64], lent: &mut [usize]) -> u
     let mut own = [0usize; 32];
     let mut cuts = [0usize; 5];
     let mut seen = 0;
-    let mut first = state.min_segment_len;
-    while first + state.k * state.min_segment_len <= state.len {
+    let span = state.k * state.min_segment_len;
+    let beyond = (state.len + 1).saturating_sub(span);
+    for first in state.min_segment_len..beyond {
         let size = nearby_from_cut::neighbours_of(
             state,
             distances,
@@ -45,7 +46,6 @@ fn first_cuts(state: NearbyCutState, distances: &[f64], lent: &mut [usize]) -> u
         if seen > state.capacity {
             return seen;
         }
-        first += 1;
     }
     seen
 }

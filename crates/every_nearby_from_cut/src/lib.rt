@@ -61,9 +61,7 @@ pub fn every_from(
     }
     let mut seen = seen;
     let mut own = [0usize; 32];
-    let mut i = 0;
-    while i < entries.len() {
-        let cut = entries[i];
+    for &cut in entries {
         let at = behind * STOPS + cut;
         let size = unless_marked(state, distances, behind, cut, barren[at], table, &mut own);
         let list = &own[..size];
@@ -85,7 +83,6 @@ pub fn every_from(
             return seen;
         }
         barren[at] = mark_of(before, seen);
-        i += 1;
     }
     seen
 }

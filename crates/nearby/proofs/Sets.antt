@@ -13,7 +13,7 @@ use lib.ListN.{length, get_or, take}
 use lib.Ieee.{Float, lt}
 use borrow.Author.Tests.{not-true, eqb-false, ltb-false}
 use Rattle.theory.specs.Moves.{upfrom}
-use Rattle.theory.specs.Refusals.{any}
+use Rattle.std.specs.List.{list_any}
 use Rattle.theory.proofs.Moves.{of_flat_map, upfrom_range}
 use Rattle.theory.proofs.Distinct.{Distinct, distinct_upfrom, distinct_append}
 use Rattle.nearby_nearest.specs.Neighbours.{passing, nearest, nearest_first, neighbours, eligible, distance}
@@ -115,7 +115,7 @@ module _ (d : ℕ → Float) where
   without p l = passing (λ q. not (eqb q p)) l
 
   abbrev candidates : List ℕ → List ℕ
-  candidates l = passing (λ p. not (any (λ q. lt (d q) (d p)) l)) l
+  candidates l = passing (λ p. not (list_any (λ q. lt (d q) (d p)) l)) l
 
   first_in : (count : ℕ) (l : List ℕ) (x : ℕ) → Memᴰ x (nearest_first d count l) → Memᴰ x l
   unfolding nearest_first nearest
@@ -123,7 +123,7 @@ module _ (d : ℕ → Float) where
   first_in (suc count) l x i =
       let t = one_in (λ p. p ∷ nearest_first d count (without p l)) (candidates l) x i in
       ⊎_elim
-      (λ e. Memᴰ.cast e (of_passing (λ p. not (any (λ q. lt (d q) (d p)) l)) l t.0 t.1.0).0)
+      (λ e. Memᴰ.cast e (of_passing (λ p. not (list_any (λ q. lt (d q) (d p)) l)) l t.0 t.1.0).0)
       (λ j. (of_passing (λ q. not (eqb q t.0)) l x (first_in count (without t.0 l) x j)).0)
       (Memᴰ.cases_cons t.1.1)
 

@@ -1,6 +1,7 @@
 -- Document 01, "Nearby cuts": the walk from a cut on, and what the functions ask and give.
 use Rattle.std.specs.Prelude.{◌≡◌, List, [], ◌∷◌, ◌++◌, map, Bool, true, false, cond, ℕ, zero, suc, ◌-◌, ◌*◌, ◌≤◌, ◌<◌, ltb, length, get_or, take, Float}
-use Rattle.theory.specs.Refusals.{any, no_number}
+use Rattle.std.specs.List.{list_any}
+use Rattle.std.specs.Prelude.{is_nan}
 use Rattle.nearby_nearest.specs.Neighbours.{eligible}
 use Rattle.nearby_neighbours.specs.Memo.{Memo, Askable, Eligible}
 use Rattle.nearby_last_cut.specs.declared.NearbyCutState.{NearbyCutState}
@@ -46,7 +47,7 @@ lists_of state distances = eligible distances state.len state.min_segment_len st
 pub record Branchable (state : NearbyCutState) (distances : List Float) (behind : ℕ) (entries : List ℕ) (seen : ℕ) (table lent : List ℕ) : Type 0 where
   pub few : state.len ≤ 512
   pub square : length distances ≡ state.len * state.len
-  pub numbers : any no_number distances ≡ false
+  pub numbers : list_any is_nan distances ≡ false
   pub shortest : 1 ≤ state.min_segment_len
   pub short : state.min_segment_len ≤ 512
   pub neighbours : state.max_nearby ≤ 32

@@ -63,8 +63,7 @@ pub fn branch(
     }
     let mut seen = seen;
     let mut own = [0usize; 32];
-    let mut i = 0;
-    while i < entries.len() {
+    for i in 0..entries.len() {
         let cut = entries[i];
         let size = neighbours_of(state, distances, behind, cut, table, &mut own);
         if size == 0 {
@@ -80,7 +79,6 @@ pub fn branch(
         if !goes_on(entries, i) {
             return seen;
         }
-        i += 1;
     }
     seen
 }

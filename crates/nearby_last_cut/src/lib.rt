@@ -6,7 +6,7 @@ ghost use Rattle.std.proofs.lemmas.List.Edits.{sets};
 ghost use Rattle.nearby_last_cut.specs.Pouring.{pour, Room};
 
 // What a listing keeps to: `len` stops, and room for `capacity` sets.
-#[derive(Clone, Copy)]
+#[derive(Clone, Copy, Debug, PartialEq, Eq)]
 pub struct NearbyCutState {
     pub k: usize,
     pub len: usize,
@@ -20,9 +20,8 @@ fn put_set(cuts: &[usize], lent: &mut [usize], at: usize)
     requires { at + length cuts.now ≤ length lent.old }
     ensures { lent.new ≡ sets lent.old at cuts.now }
 {
-    for j in 0..cuts.len() {
-        lent[at + j] = cuts[j];
-    }
+    let end = at + cuts.len();
+    lent[at..end].copy_from_slice(cuts);
 }
 
 // The last cut takes each entry of its list: a set each, into the buffer while there is room. Answers the sets counted so far, one more than fit at most.
@@ -38,15 +37,13 @@ pub fn last_cuts(
 {
     let mut seen = seen;
     let mut row = cuts;
-    let mut i = 0;
-    while i < entries.len() {
+    for &entry in entries {
         if seen >= state.capacity {
             return state.capacity + 1;
         }
-        row[state.k - 1] = entries[i];
+        row[state.k - 1] = entry;
         put_set(&row[..state.k], lent, seen * state.k);
         seen += 1;
-        i += 1;
     }
     seen
 }

@@ -12,7 +12,7 @@ use lib.ListN.{length, get_or, take, drop, set, length-set}
 use lib.Seq.{sets, sets-eq, length-sets, take-set-le, drop-set-lt, get_or-take, get_or-drop, drop-drop, drop-cons, get_or-set_same, take_at, drop_at, length-take-le}
 use lib.Ieee.{Float, lt}
 use borrow.Author.Tests.{ltb-true, ltb-false}
-use Rattle.theory.specs.Refusals.{any}
+use Rattle.std.specs.List.{list_any}
 use Rattle.nearby_nearest.specs.Neighbours.{passing, nearest, nearest_first, neighbours, eligible}
 use Rattle.nearby_neighbours.specs.Memo.{Held, Memo, LookedUp, Eligible, Picked, between}
 
@@ -27,7 +27,7 @@ first_few : (d : ℕ → Float) (c : ℕ) (l : List ℕ) → length (nearest_fir
 unfolding nearest_first nearest
 first_few d zero l = omega arith
 first_few d (suc c) l =
-    one_at_most (suc c) (λ p. p ∷ nearest_first d c (passing (λ q. not (eqb q p)) l)) (passing (λ p. not (any (λ q. lt (d q) (d p)) l)) l)
+    one_at_most (suc c) (λ p. p ∷ nearest_first d c (passing (λ q. not (eqb q p)) l)) (passing (λ p. not (list_any (λ q. lt (d q) (d p)) l)) l)
     (λ p. omega (arith, first_few d c (passing (λ q. not (eqb q p)) l)))
 
 pub neighbours_few : (distances : List Float) (n count cut : ℕ) → length (neighbours distances n count cut) ≤ count

@@ -45,8 +45,7 @@ fn try_sweep(
     let mut accepted = so_far.accepted;
     let a = stop_before(depot, &route[..], i);
     let b = route[i];
-    let mut j = i + 1;
-    while j < route.len() {
+    for j in i + 1..route.len() {
         if examined == allowance {
             return PairLoop {
                 finished: false,
@@ -58,7 +57,6 @@ fn try_sweep(
         if pair_reversal::try_pair(locations, legs, latest, service, depot, a, b, i, j, route) {
             accepted += 1;
         }
-        j += 1;
     }
     PairLoop {
         finished: true,
@@ -82,15 +80,13 @@ fn try_pass(
     ensures { reply_so_far result route.new ≡ pass (problem (trip locations legs.now latest.now service.now depot depot [])) allowance (length route.old) (reply_so_far so_far route.old) }
 {
     let mut passed = so_far;
-    let mut i = 0;
-    while i + 1 < route.len() {
+    for i in 0..route.len().saturating_sub(1) {
         passed = try_sweep(
             allowance, locations, legs, latest, service, depot, i, passed, route,
         );
         if !passed.finished {
             return passed;
         }
-        i += 1;
     }
     passed
 }

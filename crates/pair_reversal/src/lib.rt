@@ -1,27 +1,12 @@
 // A reversal of a part of a route, judged: what the pair loop asks of a pair. No entry: crate pair_loop calls it.
 #![tactic(auto)]
 
-ghost use Rattle.std.specs.Prelude.{◌≡◌, [], reverse, ◌<◌, length};
+ghost use Rattle.std.specs.Prelude.{◌≡◌, [], ◌<◌, length};
 ghost use Rattle.theory.specs.Tables.{problem, trip};
 ghost use Rattle.costs.specs.RouteCosts.{leg};
 ghost use Rattle.pair_reversal.specs.Reversal.{stop_after, shortens, KnownLegs, Pair, Tried};
 
 use theory::Deadline;
-
-// In place.
-fn reverse(part: &mut [u32])
-    ensures { part.new ≡ reverse part.old }
-{
-    let mut low = 0;
-    let mut high = part.len();
-    while low + 1 < high {
-        high -= 1;
-        let kept = part[low];
-        part[low] = part[high];
-        part[high] = kept;
-        low += 1;
-    }
-}
 
 fn stop_after(depot: u32, route: &[u32], j: usize) -> u32
     requires { j < length route.now }
@@ -68,10 +53,10 @@ pub fn try_pair(
         return false;
     }
     let end = j + 1;
-    reverse(&mut route[i..end]);
+    route[i..end].reverse();
     let answer = deadlines::check_deadlines(locations, legs, latest, service, depot, &route[..]);
     if let Deadline::Late(_) = answer {
-        reverse(&mut route[i..end]);
+        route[i..end].reverse();
         return false;
     }
     true

@@ -10,9 +10,8 @@ pub fn copy_in(part: &[u8], out: &mut [u8], at: usize)
     requires { at + length part.now ≤ length out.old }
     ensures { out.new ≡ sets out.old at part.now }
 {
-    for j in 0..part.len() {
-        out[at + j] = part[j];
-    }
+    let end = at + part.len();
+    out[at..end].copy_from_slice(part);
 }
 
 // The items with those after i moved up by one: the one at i is gone, and the last stands twice.
@@ -43,13 +42,11 @@ pub fn generate_permutations(
         return at + depth;
     }
     let mut next = at;
-    let mut i = 0;
-    while i < left {
+    for i in 0..left {
         let mut longer = row;
         longer[depth] = items[i];
         let rest = remove(items, i);
         next = generate_permutations(rest, left - 1, longer, depth + 1, out, next);
-        i += 1;
     }
     next
 }

@@ -1,16 +1,14 @@
 -- One pattern read back from the enumeration, and from the struct that holds it. Assumes nothing.
-use mathlib.Core.Path.{◌≡◌, sym, ap, ap₂, ◌∙◌}
+use mathlib.Core.Path.{◌≡◌, sym, ap, ◌∙◌}
 use mathlib.Core.List.{List, [], ◌++◌, map}
 use Prim.Native.Nat.{ℕ, zero, suc, ◌+◌, ◌-◌, ◌*◌}
 use native.Mathlib.Nat.{sub-zero, zero-sub, suc-sub-suc}
 use native.Mathlib.Omega.{arith}
 use lib.ListN.{length, get_or, take, drop, replicate, length-map, get_or-append}
-use lib.Seq.{sets, take_at}
+use lib.Seq.{sets}
 use Rattle.theory.specs.Moves.{patterns}
-use Rattle.theory.specs.Answers.{pattern_of}
-use Rattle.theory.specs.declared.KOptReconnection.{KOptReconnection}
 use Rattle.theory.proofs.Index.{length_pattern, mem_get_or, get_or_map}
-use Rattle.patterns.specs.Enumeration.{Listed, no_pattern, pattern, masks_of, Enumerated, HoldsPattern}
+use Rattle.patterns.specs.Enumeration.{Listed, no_pattern, pattern, masks_of, Enumerated}
 use Rattle.pattern_orders.proofs.Stores.{sets_first}
 use Rattle.patterns.proofs.Strides.{row_at}
 use Rattle.patterns.proofs.Enumeration.{each_order}
@@ -23,12 +21,6 @@ drop_replicate (suc m) (suc n) a = drop_replicate m n a ∙ ap (λ (i : ℕ). re
 module _ (k index : ℕ) (listed : Listed k index) where
   pub length_listed : length (pattern k index).order ≡ k + 1
   length_listed = omega (arith, length_pattern k (pattern k index) (mem_get_or (patterns k) index no_pattern listed.known))
-
-  -- The struct holds the pattern.
-  pub held : (r : KOptReconnection) → HoldsPattern k (pattern k index) r → pattern_of r ≡ pattern k index
-  held r h =
-      let o : take r.len r.segment_order ≡ (pattern k index).order = rw (h.segments, h.order) (take_at (pattern k index).order (replicate (5 - k) 0) (k + 1) length_listed) in
-      ap₂ (λ (o : List ℕ) (m : ℕ). record { order = o; mask = m }) o h.mask
 
   -- The enumeration holds its order in a row of k + 1 bytes, and its mask.
   module _ (r : ℕ) (orders₀ masks₀ orders masks : List ℕ) (e : Enumerated k orders₀ masks₀ r orders masks) where

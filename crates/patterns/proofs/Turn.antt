@@ -3,11 +3,11 @@ use mathlib.Core.Path.{◌≡◌, sym, ap, ◌∙◌}
 use mathlib.Core.List.{List, [], ◌∷◌, ◌++◌, flatten}
 use Prim.Native.Nat.{ℕ, zero, suc, ◌+◌, ◌-◌, ◌*◌, ◌/◌, ◌%◌, ◌^◌, ◌≤◌, ◌<◌}
 use native.Mathlib.Numerals.{add-one}
-use native.Mathlib.Nat.{suc-mul, mul-le-mul_right, div-lt_iff_lt-mul, mod-lt}
+use native.Mathlib.Nat.{suc-mul, mul-le-mul_right, div-lt_iff_lt-mul}
 use native.Mathlib.Omega.{arith}
 use lib.ListN.{length, get_or, take, drop, set, length-append, take-append-drop}
 use lib.Seq.{sets}
-use lib.Pow.{pow_pos, pow_mono}
+use lib.Pow.{pow_pos}
 use Rattle.theory.specs.Moves.{Pattern, patterns, factorial}
 use Rattle.theory.proofs.Index.{pattern_at}
 use Rattle.theory.proofs.Stores.{sets_append}
@@ -26,9 +26,6 @@ closed (suc m) index h l = let e : suc m - 1 ≡ m = omega arith in rw (e, add-o
 module _ (k index r : ℕ) (permutations orders₀ masks₀ : List ℕ) (ready : Ready k index permutations orders₀ masks₀) (er : r ≡ 2 ^ (k - 1)) where
   pub some_reversal : 0 < r
   some_reversal = rw er (pow_pos (k - 1))
-
-  pub mask_small : (index + 1) % r < 16
-  mask_small = omega (arith, mod-lt (index + 1) some_reversal, pow_mono {i = k - 1} {j = 4} (omega (arith, ready.listed.cuts.most)))
 
   abbrev rest : List ℕ
   rest = drop (length (flatten (middle_orders k))) permutations

@@ -74,10 +74,8 @@ pub fn enumerate_reconnections(k: usize, orders: &mut [u8], masks: &mut [u8]) ->
         0,
     );
     let count = pattern_count(k);
-    let mut index = 0;
-    while index < count {
+    for index in 0..count {
         put_pattern(&permutations, k, index, orders, masks);
-        index += 1;
     }
     count
 }

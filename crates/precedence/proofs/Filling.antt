@@ -1,19 +1,15 @@
 -- A lent list pair by pair, and the words of its members filled. Assumes nothing.
-use mathlib.Core.Path.{◌≡◌, refl, sym, ap, ◌∙◌}
+use mathlib.Core.Path.{◌≡◌, refl, ap, ◌∙◌}
 use mathlib.Core.Bool.{Bool, cond}
 use mathlib.Core.List.{List, [], ◌∷◌, ◌++◌}
-use Prim.Native.Nat.{ℕ, zero, suc, ◌+◌, ◌*◌, ◌/◌, ◌%◌, ◌^◌, ◌≤◌, ◌<◌}
-use native.Mathlib.Decide.{ℕ_discrete}
+use Prim.Native.Nat.{ℕ, zero, suc, ◌+◌, ◌*◌, ◌/◌, ◌^◌, ◌≤◌, ◌<◌}
 use native.Mathlib.Numerals.{add-one}
 use native.Mathlib.Omega.{arith}
-use lib.Dec.{eqb, lit<}
-use native.Mathlib.Nat.{pow-suc}
-use lib.Pow.{shl_exact, pow_mono}
-use lib.ListN.{length, get_or, set, take, length-set}
-use lib.Seq.{take-suc, take_all, length-take-le, get_or-set_same, get_or-set_other}
-use borrow.Author.Tests.{eq-eqb, ne_eqb}
+use lib.Dec.{eqb}
+use lib.ListN.{length, get_or, take}
+use lib.Seq.{take-suc, take_all, length-take-le}
 use Rattle.theory.specs.Pairs.{pairs_of}
-use Rattle.precedence.specs.Words.{marks, Members, PairPuttable, PairPut}
+use Rattle.precedence.specs.Words.{marks, Members, PairPut}
 use Rattle.precedence.proofs.Words.{marks_below, marks_more}
 
 -- ---- pair by pair
@@ -33,48 +29,6 @@ pair_at (a ∷ b ∷ l) (suc q) h =
     let e : 2 * suc q ≡ suc (suc (2 * q)) = omega arith in
     let f : 2 * suc q + 1 ≡ suc (suc (2 * q + 1)) = omega arith in
     rw (f, e) (pair_at l q (omega arith))
-
--- ---- one pair put
-
-pub bit_word : (bit : ℕ) → bit < 64 → (1 * 2 ^ bit) % 2 ^ 64 ≡ 2 ^ bit
-bit_word bit h = shl_exact 1 bit 64 (lit< tt) (omega arith) ∙ omega arith
-
-pub bit_fits : (bit : ℕ) → bit < 64 → 2 ^ bit + 2 ^ bit ≤ 2 ^ 64
-bit_fits bit h = omega (arith, pow-suc 2 bit, pow_mono {i = suc bit} {j = 64} (omega arith))
-
-module _ (first second bit word : ℕ) (D : List ℕ) (given : PairPuttable first second bit D) (is : word ≡ 2 ^ bit) where
-  abbrev once : List ℕ
-  once = set D first (get_or D first 0 + word)
-
-  abbrev both : List ℕ
-  both = set once (1024 + second) (get_or once (1024 + second) 0 + word)
-
-  put_at : (E : List ℕ) (a x v : ℕ) → a < length E → v ≡ get_or E a 0 + word → get_or (set E a v) x 0 ≡ get_or E x 0 + cond (eqb a x) 1 0 * 2 ^ bit
-  put_at E a x v h e = by (ℕ_discrete a x)
-    where
-      by : Dec (a ≡ x) → get_or (set E a v) x 0 ≡ get_or E x 0 + cond (eqb a x) 1 0 * 2 ^ bit
-      by (yes f) = rw (eq-eqb a x f, ← f) (get_or-set_same E a v 0 h ∙ omega (arith, e, is))
-      by (no n) = rw (ne_eqb a x n) (get_or-set_other E a x v 0 (λ f. n (sym f)) ∙ omega arith)
-
-  pub pair_put : PairPut first second bit D both
-  pair_put =
-      record {
-        places = simp length-set given.places;
-        firsts = λ x h.
-            get_or-set_other once (1024 + second) x (get_or once (1024 + second) 0 + word) 0 (λ e. omega arith)
-            ∙ put_at D first x (get_or D first 0 + word) (omega (arith, given.known, given.places)) refl;
-        seconds = λ x h.
-            getD_set_other_then x h;
-      }
-    where
-      getD_set_other_then : (x : ℕ) → x < 1024 → get_or both (1024 + x) 0 ≡ get_or D (1024 + x) 0 + cond (eqb second x) 1 0 * 2 ^ bit
-      getD_set_other_then x h =
-          put_at once (1024 + second) (1024 + x) (get_or once (1024 + second) 0 + word) (simp length-set (omega (arith, given.second_known, given.places))) refl
-          ∙ rw (get_or-set_other D first (1024 + x) (get_or D first 0 + word) 0 (λ e. omega (arith, given.known)), same (ℕ_discrete second x))
-        where
-          same : Dec (second ≡ x) → eqb (1024 + second) (1024 + x) ≡ eqb second x
-          same (yes f) = eq-eqb (1024 + second) (1024 + x) (omega arith) ∙ sym (eq-eqb second x f)
-          same (no n) = ne_eqb (1024 + second) (1024 + x) (λ f. n (omega arith)) ∙ sym (ne_eqb second x n)
 
 -- ---- all of them
 

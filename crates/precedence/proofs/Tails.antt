@@ -8,11 +8,11 @@ use native.Mathlib.Numerals.{add-one}
 use native.Mathlib.Omega.{arith}
 use lib.Dec.{leb, eqb}
 use lib.Bits.{bit_and, bit_or}
-use lib.ListN.{length, get_or, take, drop}
-use lib.Seq.{slice, slice_empty, take-suc, take-length}
+use lib.ListN.{length, get_or, take}
+use lib.Seq.{slice, slice_empty, take-suc}
 use borrow.Author.Tests.{le-leb, lt-leb}
 use Rattle.theory.specs.Pairs.{visited, pair_kept, all, pairs_kept, back_kept}
-use Rattle.precedence.specs.Words.{marks, Members, BackSince}
+use Rattle.precedence.specs.Words.{marks, Members}
 use Rattle.precedence.proofs.Words.{marks_same, marks_or, no_marks, all_same, all_and, all_true, disjoint_is}
 use Rattle.precedence.proofs.Kept.{visited_append, visited_one, kept_append, no_firsts}
 use Rattle.precedence.proofs.Growth.{visited_more, slice_more}
@@ -132,13 +132,6 @@ back_start ps r =
       seen = sym (no_marks ps);
       most = omega arith;
       is = λ c l. let e : c ≡ 0 = omega arith in rw e (back_none ps [] ∙ sym (le-leb 0 0 (omega arith)));
-    }
-
-pub back_end : (ps : List (ℕ × ℕ)) (r : List ℕ) (i seconds since : ℕ) → i ≡ length r → BackUpto ps r i seconds since → BackSince ps r since
-back_end ps r i seconds since e w =
-    record {
-      within = rw e at w.most;
-      is = λ c l. ap (λ t. back_kept ps (take c r) (drop c t)) (sym (take-length r)) ∙ (rw e at (w.is c (rw e l)));
     }
 
 pub back_whole : (ps : List (ℕ × ℕ)) (r : List ℕ) → back_kept ps [] r ≡ pairs_kept ps r

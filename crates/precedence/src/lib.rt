@@ -3,43 +3,26 @@
 #![tactic(auto)]
 
 ghost use Rattle.std.specs.Prelude.{◌≡◌, ◌+◌, ◌≤◌, eqb, length, get_or};
-ghost use Rattle.theory.specs.Refusals.{any, number, pair_list};
+ghost use Rattle.theory.specs.Refusals.{number, pair_list};
+ghost use Rattle.theory.specs.Numbers.{judged};
 ghost use Rattle.theory.specs.Pairs.{pairs_of};
 ghost use Rattle.precedence.specs.Words.{MembersFilled, Fillable, PairPuttable, PairPut, MemberOf, Readable, StopTaken, Growing, MarksGrown, Placed, FrontFound, BackFound, KeepsFound};
 
-// ---- 29
+use theory::Refusal;
 
-// Whether a pair has equal members.
-fn any_twins(pairs: &[u32]) -> bool
-    requires { length pairs.now ≤ 128 }
-    ensures { result ≡ any (λ p. eqb p.0 p.1) (pairs_of pairs.now) }
-{
-    let mut q = 0;
-    while q < pairs.len() / 2 {
-        if pairs[2 * q] == pairs[2 * q + 1] {
-            return true;
-        }
-        q += 1;
-    }
-    false
-}
+// ---- the list
 
-pub fn check_pair_list(locations: usize, pairs: &[u32]) -> u32
-    ensures { result ≡ number (pair_list locations pairs.now) }
+pub fn check_pair_list(locations: usize, pairs: &[u32]) -> Result<(), Refusal>
+    ensures { judged result ≡ number (pair_list locations pairs.now) }
 {
-    if 128 < pairs.len() {
-        return 29;
+    if 128 < pairs.len()
+        || pairs.len() % 2 != 0
+        || refusal_tests::any_unknown(pairs, locations)
+        || refusal_tests::any_twins(pairs)
+    {
+        return Err(Refusal::Pairs);
     }
-    if pairs.len() % 2 != 0 {
-        return 29;
-    }
-    if refusal_tests::any_unknown(pairs, locations) {
-        return 29;
-    }
-    if any_twins(pairs) {
-        return 29;
-    }
-    0
+    Ok(())
 }
 
 // ---- the words of each location
@@ -65,10 +48,8 @@ pub fn fill_members(pairs: &[u32], members: &mut [u64; MEMBERS])
     requires { Fillable pairs.now members.old }
     ensures { MembersFilled pairs.now members.new }
 {
-    let mut q = 0;
-    while q < pairs.len() / 2 {
+    for q in 0..pairs.len() / 2 {
         put_pair(pairs[2 * q], pairs[2 * q + 1], q, members);
-        q += 1;
     }
 }
 
@@ -89,7 +70,7 @@ pub fn seconds_at(members: &[u64], stop: u32) -> u64
 // ---- the words of a part of a route, grown stop by stop
 
 // The pairs whose first is visited, and whose second; those that the part breaks as it stands, and reversed.
-#[derive(Clone, Copy)]
+#[derive(Clone, Copy, Debug, PartialEq, Eq)]
 pub struct Marks {
     pub firsts: u64,
     pub seconds: u64,
@@ -120,10 +101,8 @@ pub fn grow_marks(members: &[u64], route: &[u32], from: usize, to: usize, marks:
     ensures { MarksGrown members.now route.now from to marks result }
 {
     let mut grown = marks;
-    let mut at = from;
-    while at < to {
+    for at in from..to {
         grown = take_stop(members, route[at], grown);
-        at += 1;
     }
     grown
 }
@@ -147,9 +126,7 @@ pub fn front_reach(members: &[u64], route: &[u32]) -> usize
 {
     let mut firsts = 0u64;
     let mut reach = route.len();
-    let mut i = route.len();
-    while 0 < i {
-        i -= 1;
+    for i in (0..route.len()).rev() {
         let stop = route[i];
         firsts = firsts | firsts_at(members, stop);
         let second = seconds_at(members, stop);
@@ -165,13 +142,11 @@ pub fn back_since(members: &[u64], route: &[u32]) -> usize
 {
     let mut seconds = 0u64;
     let mut since = 0;
-    let mut i = 0;
-    while i < route.len() {
+    for i in 0..route.len() {
         let stop = route[i];
         seconds = seconds | seconds_at(members, stop);
         let first = firsts_at(members, stop);
-        i += 1;
-        since = place_if(first & seconds, i, since);
+        since = place_if(first & seconds, i + 1, since);
     }
     since
 }

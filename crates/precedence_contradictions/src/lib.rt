@@ -37,13 +37,10 @@ fn behind_another(members: &[u64], route: &[u32], left: u64) -> u64
     ensures { LeftBehind members.now route.now left result }
 {
     let mut found = 0u64;
-    let mut i = 0;
-    while i < route.len() {
-        let stop = route[i];
+    for &stop in route {
         let firsts = precedence::firsts_at(members, stop);
         let seconds = precedence::seconds_at(members, stop);
         found = found | firsts_if(seconds & left, firsts);
-        i += 1;
     }
     found & left
 }
@@ -55,14 +52,12 @@ pub fn contradict(members: &[u64], route: &[u32]) -> bool
     ensures { ContraryFound members.now route.now result }
 {
     let mut left = firsts_visited(members, route);
-    let mut turns = 0usize;
-    while turns < 65 {
+    for _ in 0..65 {
         let fewer = behind_another(members, route, left);
         if fewer == left {
             return left != 0;
         }
         left = fewer;
-        turns += 1;
     }
     false
 }

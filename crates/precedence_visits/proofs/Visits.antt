@@ -21,9 +21,6 @@ pub record VisitsTo (ps : List (ℕ × ℕ)) (route : List ℕ) (i firsts second
   pub firsts_to : (j : ℕ) → j ≤ i → get_or visits (2 * j) 0 ≡ marks (λ p. visited p.0 (take j route)) ps
   pub seconds_to : (j : ℕ) → j ≤ i → get_or visits (2 * j + 1) 0 ≡ marks (λ p. visited p.1 (take j route)) ps
 
-pub visits_start : (ps : List (ℕ × ℕ)) (r D : List ℕ) → Visits ps r D → VisitsTo ps r (get_or D 1026 0) (get_or D (2 * get_or D 1026 0) 0) (get_or D (2 * get_or D 1026 0 + 1) 0) D
-visits_start ps r D w = record { first = w.firsts _ (omega arith); second = w.seconds _ (omega arith); firsts_to = w.firsts; seconds_to = w.seconds }
-
 -- A position more.
 module _ (ps : List (ℕ × ℕ)) (M r D : List ℕ) (i f s : ℕ) (members : Members ps M) (places : length D ≡ 1027) (h : i < length r) (short : length r ≤ 512) (known : get_or r i 0 < 1024) where
   abbrev f' : ℕ
@@ -55,22 +52,6 @@ module _ (ps : List (ℕ × ℕ)) (M r D : List ℕ) (i f s : ℕ) (members : Me
       two j l (yes e) = rw e (get_or-set_same once (2 * (i + 1) + 1) s' 0 (simp length-set (omega arith)) ∙ second)
       two j l (no n) = get_or-set_other once (2 * (i + 1) + 1) (2 * j + 1) s' 0 (λ q. n (omega arith)) ∙ get_or-set_other D (2 * (i + 1)) (2 * j + 1) f' 0 (λ q. omega arith) ∙ w.seconds_to j (omega arith)
 
--- Known up to i.
-pub visits_known : (ps : List (ℕ × ℕ)) (r D : List ℕ) (i f s : ℕ) → length D ≡ 1027 → i ≤ length r → length r ≤ 512 → VisitsTo ps r i f s D → Visits ps r (set D 1026 i)
-visits_known ps r D i f s places h short w =
-    record {
-      places = length-set D 1026 i ∙ places;
-      reach = rw at h;
-      firsts = λ j l. kept (2 * j) (omega (arith, rw at at l)) ∙ w.firsts_to j (omega (arith, rw at at l));
-      seconds = λ j l. kept (2 * j + 1) (omega (arith, rw at at l)) ∙ w.seconds_to j (omega (arith, rw at at l));
-    }
-  where
-    at : get_or (set D 1026 i) 1026 0 ≡ i
-    at = get_or-set_same D 1026 i 0 (omega arith)
-
-    kept : (c : ℕ) → c < 1026 → get_or (set D 1026 i) c 0 ≡ get_or D c 0
-    kept c l = get_or-set_other D 1026 c i 0 (λ e. omega arith)
-
 -- ---- before any position
 
 -- Nothing is visited before the first.
@@ -94,9 +75,3 @@ module _ {ps : List (ℕ × ℕ)} {r D : List ℕ} (w : Visits ps r D) where
   pub none_second : get_or D 1 0 ≡ 0
   unfolding visited
   none_second = w.seconds 0 (omega arith) ∙ no_marks ps
-
-  -- Of another route, known up to nowhere.
-  pub visits_anew : (r' : List ℕ) → Visits ps r' (set D 1026 0)
-  visits_anew r' =
-      no_visits ps r' (set D 1026 0) (length-set D 1026 0 ∙ w.places) (get_or-set_other D 1026 0 0 0 (λ e. omega arith) ∙ none_first) (get_or-set_other D 1026 1 0 0 (λ e. omega arith) ∙ none_second)
-      (get_or-set_same D 1026 0 0 (omega (arith, w.places)))

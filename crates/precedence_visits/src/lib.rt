@@ -14,18 +14,21 @@ pub fn reach_visits(members: &[u64], route: &[u32], to: usize, visits: &mut [u64
     requires { VisitsAsked members.now route.now to visits.old }
     ensures { VisitsReached members.now route.now to visits.old visits.new }
 {
-    let mut i = visits[VISIT_REACH] as usize;
-    let mut firsts = visits[2 * i];
-    let mut seconds = visits[2 * i + 1];
-    while i < to {
+    let known = visits[VISIT_REACH] as usize;
+    if to <= known {
+        return;
+    }
+    let mut firsts = visits[2 * known];
+    let mut seconds = visits[2 * known + 1];
+    for i in known..to {
         let stop = route[i];
         firsts = firsts | precedence::firsts_at(members, stop);
         seconds = seconds | precedence::seconds_at(members, stop);
-        i += 1;
-        visits[2 * i] = firsts;
-        visits[2 * i + 1] = seconds;
+        let behind = i + 1;
+        visits[2 * behind] = firsts;
+        visits[2 * behind + 1] = seconds;
     }
-    visits[VISIT_REACH] = i as u64;
+    visits[VISIT_REACH] = to as u64;
 }
 
 // Whether a pair has its first in route[a..b] and none before it, and its second in route[c..d] and none before that.

@@ -17,7 +17,7 @@ use Rattle.theory.proofs.Moves.{Shape, length_upfrom, total_ones}
 use Rattle.theory.proofs.Orders.{in_range, count_other}
 use Rattle.theory.proofs.Cuts.{rising_below}
 use Rattle.theory.proofs.Delta.{length_reverse_if, joined_split, even_head, small_tail, straight}
-use Rattle.reconnection.proofs.Reversal.{get_or_reverse}
+use Rattle.std.proofs.lemmas.List.{get_or-reverse}
 use Rattle.standing.specs.Places.{Has}
 use Rattle.standing.specs.Standing.{Stands, TailSet}
 use Rattle.prefixes.specs.Ways.{size_of, known_size, Laid, Way}
@@ -62,7 +62,7 @@ stands_there old wanted front back a b true h l e =
     let x : length (slice a b old) - 1 - i ≡ j = omega (arith, n, s) in
     ap (λ w. get_or w (length front + i) 0) e
     ∙ within_at front q back i (omega (arith, n, m, s))
-    ∙ get_or_reverse (slice a b old) i (omega (arith, n, s))
+    ∙ get_or-reverse (slice a b old) i 0 (omega (arith, n, s))
     ∙ ap (λ z. get_or (slice a b old) z 0) x
     ∙ part_at a b old j (omega arith))
 

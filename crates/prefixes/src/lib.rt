@@ -55,6 +55,7 @@ fn gather(ahead: &[u64; 2401], row: usize, places: u64) -> u64
     let mut rest = places;
     let mut y = 0;
     let mut all = 0;
+    // Goes from one place of the set to the next, and not by an index.
     while rest != 0 {
         let skip = standing::least_place(rest);
         if skip > 48 - y {
@@ -90,8 +91,7 @@ fn leads(
     if left == 0 {
         return true;
     }
-    let mut p = 1;
-    while p <= known {
+    for p in 1..known + 1 {
         let next = hand_on(stands, cuts, p, used, places);
         let further = farther(cuts, p, goal);
         if reaches(next, further, unknown) {
@@ -111,7 +111,6 @@ fn leads(
                 return true;
             }
         }
-        p += 1;
     }
     if unknown == 0 {
         return false;

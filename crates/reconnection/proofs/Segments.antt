@@ -5,8 +5,8 @@ use mathlib.Core.List.{List, [], ◌∷◌, ◌++◌, append-nil, append_assoc, 
 use Prim.Native.Nat.{ℕ, zero, suc, ◌+◌, ◌-◌, ◌<◌, ◌≤◌}
 use native.Mathlib.Numerals.{add-one}
 use native.Mathlib.Omega.{arith}
-use lib.ListN.{length, get_or, take, drop, length-append, length-take, length-drop, drop_of_length-le, get_or-append}
-use lib.Seq.{drop-cons, get_or_at, take_at, take_all}
+use lib.ListN.{length, get_or, take, drop, length-append, length-take, length-drop, drop_of_length-le}
+use lib.Seq.{drop-cons, take_at, take_all}
 use Rattle.theory.specs.Moves.{Rising}
 use Rattle.theory.specs.Route.{segments, reverses, reverse_if, placed, joined, reconnected}
 use Rattle.theory.proofs.Moves.{total_ones}
@@ -16,12 +16,6 @@ use Rattle.theory.proofs.Index.{mem_get_or}
 use Rattle.theory.proofs.Delta.{length_reverse_if}
 use Rattle.theory.proofs.Stores.{drop_take}
 use Rattle.reconnection.specs.Segments.{bound, Reconnectable}
-
-pub bound_cut : (cs : List ℕ) (n i : ℕ) → 0 < i → i ≤ length cs → bound cs n i ≡ get_or cs (i - 1) 0
-bound_cut cs n i h k = let e : i ≡ suc (i - 1) = omega arith in ap (bound cs n) e ∙ get_or-append cs (n ∷ []) 0 (i - 1) (omega arith)
-
-pub bound_end : (cs : List ℕ) (n i : ℕ) → i ≡ length cs + 1 → bound cs n i ≡ n
-bound_end cs n i h = rw (h, add-one) (get_or_at cs n [] 0 (length cs) refl)
 
 -- Segment i lies between two bounds.
 between : (from low : ℕ) (cs r : List ℕ) (i : ℕ) → Rising low cs (length r) → i ≤ length cs →

@@ -10,9 +10,8 @@ pub fn copy_in(src: &[u32], dst: &mut [u32], at: usize)
     requires { Fits src.now dst.old at }
     ensures { dst.new ≡ take at dst.old ++ src.now ++ drop (at + length src.now) dst.old }
 {
-    for i in 0..src.len() {
-        dst[at + i] = src[i];
-    }
+    let end = at + src.len();
+    dst[at..end].copy_from_slice(src);
 }
 
 // src from its end to its start into dst from `at` on.
@@ -20,10 +19,10 @@ fn reverse_in(src: &[u32], dst: &mut [u32], at: usize)
     requires { Fits src.now dst.old at }
     ensures { dst.new ≡ take at dst.old ++ reverse src.now ++ drop (at + length src.now) dst.old }
 {
-    let n = src.len();
-    for i in 0..n {
-        dst[at + i] = src[n - 1 - i];
-    }
+    let end = at + src.len();
+    let part = &mut dst[at..end];
+    part.copy_from_slice(src);
+    part.reverse();
 }
 
 // Where segment i begins, and where segment i - 1 ends.
@@ -69,14 +68,12 @@ pub fn reconnect(route: &[u32], cuts: &[usize], order: &[u8], mask: u8, out: &mu
 {
     let n = route.len();
     let mut at = 0;
-    let mut position = 0;
-    while position < order.len() {
+    for position in 0..order.len() {
         let segment = order[position] as usize;
         let a = segment_start(cuts, n, segment);
         let b = segment_start(cuts, n, segment + 1);
         let flip = should_reverse(mask, segment);
         put_segment(route, a, b, flip, out, at);
         at += b - a;
-        position += 1;
     }
 }

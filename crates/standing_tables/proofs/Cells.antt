@@ -11,15 +11,12 @@ use lib.Seq.{get_or-set_same, get_or-set_other}
 use Rattle.standing.specs.Places.{Has}
 use Rattle.standing.specs.Standing.{Along, Against, Pair}
 use Rattle.standing.proofs.Places.{has_first, has_second, has_both, has_higher}
-use Rattle.standing_tables.specs.Filling.{SameSet, SameBelow, SameTable, AlongGood, AgainstGood, AlongFrom, AgainstFrom}
+use Rattle.standing_tables.specs.Filling.{SameTable, AlongGood, AgainstGood}
 
 module _ (n : ℕ) (old wanted same : List ℕ) (pair : Pair n old wanted) (sames : SameTable old wanted same) (a y : ℕ) where
   -- The stops at a and at y are the same.
   here : (s : ℕ) → a + s ≤ n → y + s ≤ n → 0 < s → get_or wanted y 0 ≡ get_or old a 0 → Has (get_or same a 0) y
   here s p q h e = sames a y (omega (arith, pair.olds)) (omega (arith, pair.wanteds)) e
-
-  pub along_beyond : 48 ≤ y → (word : ℕ) → AlongGood n old wanted word a y
-  along_beyond l word s h p q t = absurd (omega (arith, pair.few))
 
   along_starts : (s : ℕ) → 0 < s → Along old wanted a s y → get_or wanted y 0 ≡ get_or old a 0
   along_starts s h t = let f = t 0 h in rw (add-zero y, add-zero a) at f
@@ -71,13 +68,6 @@ module _ (G : (word a y : ℕ) → Type 0) (table : List ℕ) (i r : ℕ) (room 
       by (yes e) = rw (e, get_or-set_same table i r 0 room) (this a y l e)
       by (no d) = rw (get_or-set_other table i (a * 49 + y) r 0 d) (behind a y l (omega arith))
 
--- Behind the last row nothing begins.
-pub along_begun : (n : ℕ) (old wanted table : List ℕ) → Pair n old wanted → AlongFrom n old wanted table 2352
-along_begun n old wanted table pair a y l h s p q r t = absurd (omega (arith, pair.few))
-
-pub against_begun : (n : ℕ) (old wanted table : List ℕ) → Pair n old wanted → AgainstFrom n old wanted table 2352
-against_begun n old wanted table pair a y l h s p q r t = absurd (omega (arith, pair.few))
-
 -- Row and column of a place.
 pub row_of : (a y i : ℕ) → y < 49 → a * 49 + y ≡ i → i / 49 ≡ a
 row_of a y i l e = omega arith
@@ -93,11 +83,3 @@ one_more wanted stop places new z old this x l e = by (ℕ_discrete x z)
     by : Dec (x ≡ z) → Has (bit_or places new) x
     by (yes q) = has_second places new x (rw q (this (rw q at e)))
     by (no d) = has_first places new x (old x (omega arith) e)
-
--- One stop more of the old route.
-pub same_more : (old wanted same : List ℕ) (b r : ℕ) → b < length same → SameBelow b old wanted same → SameSet wanted (get_or old b 0) r → SameBelow (b + 1) old wanted (set same b r)
-same_more old wanted same b r room f g x z l h e = by (ℕ_discrete x b)
-  where
-    by : Dec (x ≡ b) → Has (get_or (set same b r) x 0) z
-    by (yes q) = rw (q, get_or-set_same same b r 0 room) (g z h (rw q at e))
-    by (no d) = rw (get_or-set_other same b x r 0 d) (f x z (omega arith) h e)

@@ -1,29 +1,16 @@
 -- The tables of ends, both ways together, and of the ends of later parts. Assumes nothing.
-use mathlib.Core.Path.{◌≡◌, refl, ◌∙◌}
+use mathlib.Core.Path.{◌≡◌}
 use mathlib.Core.Logic.{⊎_elim}
 use mathlib.Core.List.{List}
-use Prim.Native.Nat.{ℕ, suc, ◌+◌, ◌*◌, ◌≤◌, ◌<◌}
+use Prim.Native.Nat.{ℕ, suc, ◌+◌, ◌*◌, ◌<◌}
 use native.Mathlib.Omega.{arith}
 use native.Mathlib.Decide.{ℕ_discrete}
 use lib.Bits.{bit_or}
-use lib.ListN.{length, get_or, set}
-use lib.Seq.{get_or-set_same, get_or-set_other}
+use lib.ListN.{get_or}
 use Rattle.standing.specs.Places.{Has}
 use Rattle.standing.specs.Standing.{Pair, EndsTable, PartsTable}
 use Rattle.standing.proofs.Places.{has_first, has_second}
 use Rattle.standing_tables.specs.Filling.{SameTable, AlongTable, AgainstTable, Merged, PartsGood, PartsFrom}
-
--- One place more of two tables together; those behind it are as they were.
-module _ (along against table : List ℕ) (i : ℕ) (room : i < length table) (done : Merged i along against table) (rest : (j : ℕ) → i ≤ j → get_or table j 0 ≡ get_or along j 0) where
-  pub merge_done : Merged (i + 1) along against (set table i (bit_or (get_or table i 0) (get_or against i 0)))
-  merge_done j l = by (ℕ_discrete j i)
-    where
-      by : Dec (j ≡ i) → get_or (set table i (bit_or (get_or table i 0) (get_or against i 0))) j 0 ≡ bit_or (get_or along j 0) (get_or against j 0)
-      by (yes e) = rw (e, get_or-set_same table i (bit_or (get_or table i 0) (get_or against i 0)) 0 room, rest i (omega arith)) refl
-      by (no d) = get_or-set_other table i j (bit_or (get_or table i 0) (get_or against i 0)) 0 d ∙ done j (omega arith)
-
-  pub merge_rest : (j : ℕ) → i + 1 ≤ j → get_or (set table i (bit_or (get_or table i 0) (get_or against i 0))) j 0 ≡ get_or along j 0
-  merge_rest j l = get_or-set_other table i j (bit_or (get_or table i 0) (get_or against i 0)) 0 (λ e. omega arith) ∙ rest j (omega arith)
 
 -- Both ways together: where the parts that begin at a end.
 pub ends_table : (n : ℕ) (old wanted same along against table : List ℕ) → Pair n old wanted → SameTable old wanted same → AlongTable same along → AgainstTable same against →
@@ -38,9 +25,6 @@ ends_table n old wanted same along against table pair sames f g merged =
           (λ u. has_second (get_or along (a * 49 + y) 0) (get_or against (a * 49 + y) 0) (y + s) (g n old wanted pair sames a y (omega (arith, pair.few)) (omega arith) s h p q u))
           t);
     }
-
-pub parts_begun : (n : ℕ) (old wanted table : List ℕ) → Pair n old wanted → PartsFrom n old wanted table 2352
-parts_begun n old wanted table pair c y l h a s b p q r t = absurd (omega (arith, pair.few))
 
 pub parts_cell : (n : ℕ) (old wanted ends table : List ℕ) (i : ℕ) → Pair n old wanted → EndsTable n old wanted ends → PartsFrom n old wanted table (suc i) →
     (c y : ℕ) → y < 49 → c * 49 + y ≡ i → PartsGood n old wanted (bit_or (get_or table (i + 49) 0) (get_or ends i 0)) c y

@@ -12,7 +12,7 @@ use lib.Seq.{get_or-set_same, get_or-set_other}
 use Rattle.standing.specs.Places.{Has}
 use Rattle.standing.specs.Standing.{Against, Stands, Pair}
 use Rattle.standing.proofs.Places.{has_first, has_second, has_both, has_lower}
-use Rattle.standing_tables.specs.Filling.{SameTable, AlongAt, AgainstAt, RowTo, RowsBelow, RowKept, RowRoom, RowFilled, StandsFilled}
+use Rattle.standing_tables.specs.Filling.{SameTable, AlongAt, AgainstAt, RowTo, RowsBelow, RowKept, RowRoom, RowFilled}
 
 module _ (n : ℕ) (old wanted same : List ℕ) (pair : Pair n old wanted) (sames : SameTable old wanted same) (a : ℕ) where
   -- One stop.
@@ -96,10 +96,6 @@ row_turn same table₀ n a along against table e kept l =
       before = λ x b. get_or-set_other table (a * 49 + e) x (bit_or along against) 0 (λ q. omega arith) ∙ kept.before x b;
     }
 
-pub row_done : (same table₀ : List ℕ) (n a along against : ℕ) (table : List ℕ) (e : ℕ) → RowKept same table₀ n a along against table e → n < e → RowFilled same table₀ n a table
-row_done same table₀ n a along against table e kept l =
-    record { long = kept.long; row = λ old wanted pair sames s y h b p q t. kept.row old wanted pair sames s y h (omega arith) p q t; before = kept.before }
-
 -- ---- row after row
 
 abbrev pub Below : (same table : List ℕ) (n a : ℕ) → Type 0
@@ -111,6 +107,3 @@ rows_more same table₀ n a table f l m filled old wanted pair sames x b = by (�
     by : Dec (x ≡ a) → RowTo n old wanted table x 50
     by (yes e) = rw e (filled.row old wanted pair sames)
     by (no d) = λ s y h c p q t. rw (filled.before (x * 49 + (x + s)) (omega arith)) (f old wanted pair sames x (omega arith) s y h c p q t)
-
-pub rows_done : (same table : List ℕ) (n : ℕ) → n ≤ 48 → Below same table n n → StandsFilled same n table
-rows_done same table n m f = record { stood = λ old wanted pair sames. record { marked = λ a s y h p q t. f old wanted pair sames a (omega arith) s y h (omega arith) p q t } }

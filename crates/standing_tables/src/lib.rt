@@ -22,10 +22,8 @@ fn same_places(wanted: &[u32], stop: u32) -> u64
     ensures { SameSet wanted.now stop result }
 {
     let mut places = 0;
-    let mut z = 0;
-    while z < wanted.len() {
+    for z in 0..wanted.len() {
         places |= place_if(wanted[z] == stop, z);
-        z += 1;
     }
     places
 }
@@ -62,9 +60,7 @@ pub fn fill_along(same: &[u64; 49], table: &mut [u64; 2401])
     requires { length table.old ≡ 2401 }
     ensures { AlongTable same.now table.new × (length table.new ≡ 2401) }
 {
-    let mut i = 2352;
-    while i > 0 {
-        i -= 1;
+    for i in (0..2352).rev() {
         table[i] = along_cell(same, table, i);
     }
 }
@@ -74,9 +70,7 @@ pub fn fill_against(same: &[u64; 49], table: &mut [u64; 2401])
     requires { length table.old ≡ 2401 }
     ensures { AgainstTable same.now table.new × (length table.new ≡ 2401) }
 {
-    let mut i = 2352;
-    while i > 0 {
-        i -= 1;
+    for i in (0..2352).rev() {
         table[i] = against_cell(same, table, i);
     }
 }
@@ -86,10 +80,8 @@ pub fn merge(against: &[u64; 2401], table: &mut [u64; 2401])
     requires { length table.old ≡ 2401 }
     ensures { Merged 2401 table.old against.now table.new }
 {
-    let mut i = 0;
-    while i < 2401 {
-        table[i] = table[i] | against[i];
-        i += 1;
+    for i in 0..2401 {
+        table[i] |= against[i];
     }
 }
 
@@ -98,9 +90,7 @@ pub fn fill_parts(ends: &[u64; 2401], table: &mut [u64; 2401])
     requires { length table.old ≡ 2401 }
     ensures { PartsFilled ends.now table.new }
 {
-    let mut i = 2352;
-    while i > 0 {
-        i -= 1;
+    for i in (0..2352).rev() {
         table[i] = table[i + 49] | ends[i];
     }
 }
@@ -111,13 +101,11 @@ pub fn head_places(old: &[u32], wanted: &[u32]) -> u64
     ensures { HeadSet (length old.now) old.now wanted.now result }
 {
     let mut places = standing::one_place(0);
-    let mut c = 0;
-    while c < old.len() {
+    for c in 0..old.len() {
         if old[c] != wanted[c] {
             return places;
         }
-        c += 1;
-        places |= standing::one_place(c);
+        places |= standing::one_place(c + 1);
     }
     places
 }
@@ -127,13 +115,12 @@ pub fn tail_places(old: &[u32], wanted: &[u32]) -> u64
     requires { Pair (length old.now) old.now wanted.now }
     ensures { TailSet (length old.now) old.now wanted.now result }
 {
-    let mut c = old.len();
-    let mut places = standing::one_place(c);
-    while c > 0 {
-        if old[c - 1] != wanted[c - 1] {
+    let n = old.len();
+    let mut places = standing::one_place(n);
+    for c in (0..n).rev() {
+        if old[c] != wanted[c] {
             return places;
         }
-        c -= 1;
         places |= standing::one_place(c);
     }
     places
@@ -146,13 +133,11 @@ fn stand_row(same: &[u64; 49], n: usize, a: usize, table: &mut [u64; 2401])
 {
     let mut along = same[a];
     let mut against = along;
-    let mut e = a + 1;
-    while e <= n {
+    for e in a + 1..n + 1 {
         table[a * 49 + e] = along | against;
         let next = same[e];
         along = along & (next >> (e - a));
         against = next & (against >> 1);
-        e += 1;
     }
 }
 
@@ -161,10 +146,8 @@ pub fn fill_stands(same: &[u64; 49], n: usize, table: &mut [u64; 2401])
     requires { (n ≤ 48) × (length table.old ≡ 2401) }
     ensures { StandsFilled same.now n table.new }
 {
-    let mut a = 0;
-    while a < n {
+    for a in 0..n {
         stand_row(same, n, a, table);
-        a += 1;
     }
 }
 
@@ -174,10 +157,8 @@ pub fn same_words(old: &[u32], wanted: &[u32]) -> [u64; 49]
     ensures { SameTable old.now wanted.now result }
 {
     let mut same = [0u64; 49];
-    let mut b = 0;
-    while b < old.len() {
+    for b in 0..old.len() {
         same[b] = same_places(wanted, old[b]);
-        b += 1;
     }
     same
 }

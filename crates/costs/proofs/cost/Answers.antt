@@ -7,22 +7,10 @@ use Rattle.costs.proofs.Segments.{head_known, tail_known}
 use Rattle.costs.proofs.Through.{last_rest, place_next}
 use Rattle.costs.proofs.cost.Goals as goal
 
-pub head_end-previous-requires : goal.head_end-previous-requires
-head_end-previous-requires c = c.requires.cut_set
-
 pub loop-position-init : goal.loop-position-init
 loop-position-init c =
     let e = c.head_end-previous.ensures in
     (omega arith, omega (arith, c.requires.cut_set.least), rw e (head_known c.args.cuts.now c.args.route.now c.requires.cut_set c.args.locations c.args.depot c.requires.costs.stops c.requires.depot_known), omega arith, rw e (omega arith))
-
-pub overflow_cast-segment : goal.overflow_cast-segment
-overflow_cast-segment c = omega (arith, c.shared_slice_known-in-loop-position-1.given c.loop-position.position)
-
-pub place_segment-placed-requires : goal.place_segment-placed-requires
-place_segment-placed-requires c =
-    let l = c.loop-position in
-    let h = c.loop-position-test.true in
-    record { route_costs = c.requires.costs; cut_set = c.requires.cut_set; le_segment = (c.requires.middle.least l.position l.invariant.0 h, c.requires.middle.most l.position l.invariant.0 h, l.invariant.2) }
 
 pub loop-position-preserved : goal.loop-position-preserved
 loop-position-preserved c =
@@ -35,9 +23,6 @@ loop-position-preserved c =
       omega (arith, p.small, l.invariant.0, l.invariant.3),
       place_next c.args.locations c.args.legs.now c.args.depot c.args.end c.args.route.now c.args.cuts.now c.args.order.now c.args.mask l.previous l.position l.total _ h c.requires.middle.long l.invariant.4 p,
     )
-
-pub tail_start-to-requires : goal.tail_start-to-requires
-tail_start-to-requires c = c.requires.cut_set
 
 pub route_distance-requires : goal.route_distance-requires
 route_distance-requires c =

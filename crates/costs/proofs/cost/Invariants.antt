@@ -14,6 +14,3 @@ invariant-loop-position l =
     × (l.previous < l.locations)
     × (l.total ≤ 512000000 * (l.position - 1))
     × (l.total + rest_of (legs_only l.locations l.legs l.depot l.end) l.route l.cuts l.order l.mask l.previous l.position ≡ cost_of (legs_only l.locations l.legs l.depot l.end) l.route l.cuts l.order l.mask)
-
-abbrev pub decreases-loop-position : goal.decreases-loop-position
-decreases-loop-position l = length l.cuts - l.position

@@ -1,18 +1,12 @@
 -- `costs::delta` meets its contract: the costs of the pattern's order and of the standing one differ as the lengths do.
 use mathlib.Core.Path.{◌∙◌}
 use native.Mathlib.Omega.{arith}
-use Rattle.costs.proofs.Signed.{difference_fits, difference_is}
-use Rattle.costs.proofs.LengthDelta.{standing_costable, pattern_costable, delta_is}
+use Rattle.costs.proofs.Signed.{difference_is}
+use Rattle.costs.proofs.LengthDelta.{pattern_costable, delta_is}
 use Rattle.costs.proofs.delta.Goals as goal
-
-pub cost-current-requires : goal.cost-current-requires
-cost-current-requires c = standing_costable c.requires
 
 pub cost-proposed-requires : goal.cost-proposed-requires
 cost-proposed-requires c = pattern_costable c.requires
-
-pub overflow_sub-result : goal.overflow_sub-result
-overflow_sub-result c = difference_fits c.cost-proposed.result c.cost-current.result (omega (arith, c.cost-proposed.ensures.small)) (omega (arith, c.cost-current.ensures.small))
 
 pub returns : goal.returns
 returns c =

@@ -1,21 +1,12 @@
 -- `costs::inner_leg` meets its contract in either direction.
 use mathlib.Core.Bool.{true, false}
-use native.Mathlib.Omega.{arith}
 use Rattle.costs.proofs.Sums.{inner_leg_in}
 use Rattle.costs.proofs.inner_leg.Goals as goal
-
-pub route_distance-requires : goal.route_distance-requires
-route_distance-requires c =
-    record { table = c.requires.leg_table; from_known = c.requires.stops.known _ (omega arith); to_known = c.requires.stops.known _ (omega arith) }
 
 pub returns-then-backwards : goal.returns-then-backwards
 returns-then-backwards c =
     let r = c.route_distance in
     inner_leg_in true c.args.locations c.args.legs.now c.args.route.now c.args.t _ r.result c.if-backwards.true c.requires.le_t.0 c.requires.le_t.1 r.ensures.is r.ensures.small
-
-pub route_distance-requires-2 : goal.route_distance-requires-2
-route_distance-requires-2 c =
-    record { table = c.requires.leg_table; from_known = c.requires.stops.known _ (omega arith); to_known = c.requires.stops.known _ (omega arith) }
 
 pub returns : goal.returns
 returns c =

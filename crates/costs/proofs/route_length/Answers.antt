@@ -4,30 +4,26 @@ use Rattle.theory.specs.Tables.{legs_only}
 use Rattle.costs.proofs.Length.{all_to_go, next_to_go, last_to_go}
 use Rattle.costs.proofs.route_length.Goals as goal
 
-pub loop-i-init : goal.loop-i-init
-loop-i-init c = (
+pub loop-stop-init : goal.loop-stop-init
+loop-stop-init c = (
   omega arith,
   c.requires.depot_known,
   omega arith,
   all_to_go (legs_only c.args.locations c.args.legs.now c.args.depot c.args.end) c.args.route.now,
 )
 
-pub route_distance-total-requires : goal.route_distance-total-requires
-route_distance-total-requires c =
-    record { table = c.requires.table; from_known = c.loop-i.invariant.1; to_known = c.requires.stops.known _ c.loop-i-test.true }
-
-pub loop-i-preserved : goal.loop-i-preserved
-loop-i-preserved c =
-    let h = c.loop-i-test.true in (
+pub loop-stop-preserved : goal.loop-stop-preserved
+loop-stop-preserved c =
+    let h = c.loop-stop-test.true in (
       omega arith,
       c.requires.stops.known _ h,
       omega arith,
-      omega (arith, next_to_go (legs_only c.args.locations c.args.legs.now c.args.depot c.args.end) c.loop-i.previous c.args.route.now c.loop-i.i h),
+      omega (arith, next_to_go (legs_only c.args.locations c.args.legs.now c.args.depot c.args.end) c.loop-stop.previous c.args.route.now c.loop-stop.stop-index h),
     )
 
 pub returns : goal.returns
 returns c =
     record {
-      is = omega (arith, last_to_go (legs_only c.args.locations c.args.legs.now c.args.depot c.args.end) c.loop-i.previous c.args.route.now c.loop-i.i c.loop-i-test.false);
+      is = omega (arith, last_to_go (legs_only c.args.locations c.args.legs.now c.args.depot c.args.end) c.loop-stop.previous c.args.route.now c.loop-stop.stop-index c.loop-stop-test.false);
       small = omega (arith, c.requires.stops.short);
     }

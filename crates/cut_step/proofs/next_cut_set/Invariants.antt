@@ -9,6 +9,3 @@ use Rattle.cut_step.proofs.next_cut_set.Given as goal
 abbrev pub invariant-loop-position : goal.invariant-loop-position
 invariant-loop-position l =
     (l.position ≤ length l.cuts) × (l.k ≡ length l.cuts) × (l.cuts ≡ l.initial.cuts) × (next_cuts l.n (drop l.position l.cuts) ≡ none)
-
-abbrev pub decreases-loop-position : goal.decreases-loop-position
-decreases-loop-position l = l.position

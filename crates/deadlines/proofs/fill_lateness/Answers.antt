@@ -7,43 +7,24 @@ use Rattle.theory.specs.Tables.{clock_by, tables, Tables}
 use Rattle.deadlines.proofs.Stays.{served, left_told, until_told}
 use Rattle.deadlines.proofs.Filling.{Back, back_at_end, back_in_time, back_too_late, back_at_start}
 use Rattle.deadlines.proofs.fill_lateness.Goals as goal
-use Rattle.deadlines.proofs.fill_lateness.Goals.{then-soonest-reached, else-soonest-reached, In-loop-c, Start}
+use Rattle.deadlines.proofs.fill_lateness.Goals.{then-soonest-reached, else-soonest-reached, In-loop-i, Start}
 
 abbrev lent : Start → Tables
 lent s = tables s.args.locations s.args.legs.now s.args.latest.now s.args.service.now
 
-pub offset_bounds-lateness-c : goal.offset_bounds-lateness-c
-offset_bounds-lateness-c c = omega (arith, c.requires.clocked.followable.stops.short)
-
-pub bounds-lateness-c : goal.bounds-lateness-c
-bounds-lateness-c c = omega (arith, c.requires.clocked.followable.stops.short)
-
-pub loop-c-init : goal.loop-c-init
-loop-c-init c =
-    (omega arith, back_at_end (clock_by (lent (goal.at.loop-c-init c).Start)) c.args.depot c.args.route.now c.args.lateness.now c.requires.places c.requires.clocked.followable.stops.short)
-
-pub overflow_sub-i : goal.overflow_sub-i
-overflow_sub-i c = omega (arith, c.loop-c-test.true)
+pub loop-i-init : goal.loop-i-init
+loop-i-init c =
+    (omega arith, back_at_end (clock_by (lent (goal.at.loop-i-init c).Start)) c.args.depot c.args.route.now c.args.lateness.now c.requires.places c.requires.clocked.followable.stops.short)
 
 -- The stop that a turn comes to.
-within : (c : In-loop-c) → c.loop-c.c - 1 < length c.args.route.now
-within c = omega (arith, c.loop-c-test.true, c.loop-c.invariant.0)
-
-pub left_at-reached-requires : goal.left_at-reached-requires
-left_at-reached-requires c =
-    record {
-      followable = c.requires.clocked.followable;
-      forwards = c.requires.forwards;
-      within = within (goal.at.left_at-reached-requires c).In-loop-c;
-      places = c.requires.stays.places;
-      brief = c.requires.stays.small _ (omega (arith, within (goal.at.left_at-reached-requires c).In-loop-c));
-    }
+within : (c : In-loop-i) → c.loop-i.i - 1 < length c.args.route.now
+within c = omega (arith, c.loop-i-test.true, c.loop-i.invariant.0)
 
 pub until_at-deadline-requires : goal.until_at-deadline-requires
 until_at-deadline-requires c =
     let m = c.requires.clocked.followable in
     let t = c.requires.clocked.times in
-    let h = within (goal.at.until_at-deadline-requires c).In-loop-c in
+    let h = within (goal.at.until_at-deadline-requires c).In-loop-i in
     let v = served c.requires.stays _ h in
     record {
       within = h;
@@ -52,41 +33,28 @@ until_at-deadline-requires c =
       few = omega (arith, t.deadlines, m.table.few);
       places = c.requires.stays.places;
       rises = omega (arith, v);
-      brief = omega (arith, v, t.brief (get_or c.args.route.now (c.loop-c.c - 1) 0));
+      brief = omega (arith, v, t.brief (get_or c.args.route.now (c.loop-i.i - 1) 0));
     }
 
-pub later-most-requires : goal.later-most-requires
-later-most-requires c =
-    record { few = c.loop-c.invariant.1.few; early = c.left_at-reached.ensures.early; small = c.until_at-deadline.ensures.small }
-
-pub offset_bounds-lateness-i : goal.offset_bounds-lateness-i
-offset_bounds-lateness-i c = omega (arith, within (goal.at.offset_bounds-lateness-i c).In-loop-c, c.requires.clocked.followable.stops.short)
-
-pub bounds-lateness-i : goal.bounds-lateness-i
-bounds-lateness-i c = omega (arith, within (goal.at.bounds-lateness-i c).In-loop-c, c.requires.clocked.followable.stops.short)
-
-pub loop-c-smaller : goal.loop-c-smaller
-loop-c-smaller c = omega (arith, c.loop-c-test.true)
-
-pub loop-c-preserved : goal.loop-c-preserved
-loop-c-preserved c =
-    let l = c.loop-c in
-    let h = within (goal.at.loop-c-preserved c).In-loop-c in
-    let C = clock_by (lent (goal.at.loop-c-preserved c).Start) in
+pub loop-i-preserved : goal.loop-i-preserved
+loop-i-preserved c =
+    let l = c.loop-i in
+    let h = within (goal.at.loop-i-preserved c).In-loop-i in
+    let C = clock_by (lent (goal.at.loop-i-preserved c).Start) in
     let a = c.left_at-reached.ensures in
     let d = c.until_at-deadline.ensures in
-    let at = left_told (lent (goal.at.loop-c-preserved c).Start) c.requires.stays _ h a in
-    let by = until_told (lent (goal.at.loop-c-preserved c).Start) c.requires.stays _ h d in
-    let e : l.c ≡ suc (l.c - 1) = omega (arith, c.loop-c-test.true) in
-    let step : Back C c.args.depot c.args.route.now (set l.lateness (l.c - 1) c.later-most.result) (l.c - 1) c.if-soonest-reached.longest c.least-soonest.result c.later-most.result =
+    let at = left_told (lent (goal.at.loop-i-preserved c).Start) c.requires.stays _ h a in
+    let by = until_told (lent (goal.at.loop-i-preserved c).Start) c.requires.stays _ h d in
+    let e : l.i ≡ suc (l.i - 1) = omega (arith, c.loop-i-test.true) in
+    let step : Back C c.args.depot c.args.route.now (set l.lateness (l.i - 1) c.later-most.result) (l.i - 1) c.if-soonest-reached.longest c.least-soonest.result c.later-most.result =
     rw (c.later-most.ensures, c.least-soonest.ensures)
     (elim c.if-soonest-reached.branch [
-      | then-soonest-reached w ↦ rw w.longest-is (back_too_late C c.args.depot c.args.route.now l.lateness (l.c - 1) l.c l.longest l.soonest l.most _ _ l.invariant.1 e h c.requires.clocked.followable.stops.short at a.early by d.small (rw c.least-soonest.ensures at w.if-soonest-reached.true))
-      | else-soonest-reached w ↦ rw w.longest-is (back_in_time C c.args.depot c.args.route.now l.lateness (l.c - 1) l.c l.longest l.soonest l.most _ _ l.invariant.1 e h c.requires.clocked.followable.stops.short at a.early by d.small (rw c.least-soonest.ensures at w.if-soonest-reached.false))
+      | then-soonest-reached w ↦ rw w.longest-is (back_too_late C c.args.depot c.args.route.now l.lateness (l.i - 1) l.i l.longest l.soonest l.most _ _ l.invariant.1 e h c.requires.clocked.followable.stops.short at a.early by d.small (rw c.least-soonest.ensures at w.if-soonest-reached.true))
+      | else-soonest-reached w ↦ rw w.longest-is (back_in_time C c.args.depot c.args.route.now l.lateness (l.i - 1) l.i l.longest l.soonest l.most _ _ l.invariant.1 e h c.requires.clocked.followable.stops.short at a.early by d.small (rw c.least-soonest.ensures at w.if-soonest-reached.false))
     ]) in
     (omega (arith, l.invariant.0), step)
 
 pub returns : goal.returns
 returns c =
-    let l = c.loop-c in
-    back_at_start (clock_by (lent (goal.at.returns c).Start)) c.args.depot c.args.route.now l.lateness l.c l.longest l.soonest l.most (omega (arith, c.loop-c-test.false)) l.invariant.1
+    let l = c.loop-i in
+    back_at_start (clock_by (lent (goal.at.returns c).Start)) c.args.depot c.args.route.now l.lateness l.i l.longest l.soonest l.most (omega (arith, c.loop-i-test.false)) l.invariant.1

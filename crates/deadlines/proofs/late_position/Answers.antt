@@ -1,7 +1,7 @@
 -- `deadlines::late_position` meets its contract. Assumes nothing.
 use mathlib.Core.Path.{sym}
 use Rattle.theory.specs.Tables.{Tables, tables, timetable_by}
-use Rattle.deadlines.proofs.Answer.{kept_else, none_told, position_told, kept_told}
+use Rattle.deadlines.proofs.Answer.{kept_else, none_told, kept_told}
 use Rattle.deadlines.proofs.late_position.Goals as goal
 use Rattle.deadlines.proofs.late_position.Goals.{Start}
 
@@ -11,10 +11,6 @@ lent s = tables s.args.locations s.args.legs.now s.args.latest.now s.args.servic
 pub returns-then-kept : goal.returns-then-kept
 returns-then-kept c =
     none_told (timetable_by (lent (goal.at.returns-then-kept c).Start)) c.args.depot c.args.route.now (c.requires.known c.if-kept.true)
-
-pub returns-in-Late : goal.returns-in-Late
-returns-in-Late c =
-    position_told (timetable_by (lent (goal.at.returns-in-Late c).Start)) c.args.depot c.args.route.now c.in-Late.is c.check_deadlines-judged.ensures
 
 pub returns : goal.returns
 returns c =

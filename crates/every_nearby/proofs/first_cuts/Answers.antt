@@ -1,6 +1,6 @@
 -- `every_nearby::first_cuts` meets its contract: the listing from a first cut on, poured from where the loop stands, gives the whole. Assumes nothing.
 use mathlib.Core.Path.{◌≡◌, refl, ap, ◌∙◌}
-use Prim.Native.Nat.{◌≤◌, ◌-◌}
+use Prim.Native.Nat.{◌≤◌, ◌-◌, ◌+◌, ◌*◌}
 use lib.ListN.{length, take, length-take, length-set}
 use Rattle.nearby_last_cut.specs.Pouring.{pour}
 use Rattle.nearby_from_cut.specs.Branch.{lists_of}
@@ -23,16 +23,13 @@ loop-first-init c = (
   ap (pour c.args.state.capacity c.args.state.k 0 c.args.lent.now) (every_start c.args.distances.now c.args.state.len c.args.state.k c.args.state.min_segment_len c.args.state.max_nearby),
 )
 
-pub overflow_mul-state : goal.overflow_mul-state
-overflow_mul-state c = omega (arith, segments_small c.args.state.k c.args.state.min_segment_len c.requires.input.most c.requires.input.short)
-
-pub overflow_add-first : goal.overflow_add-first
-overflow_add-first c = omega (arith, segments_small c.args.state.k c.args.state.min_segment_len c.requires.input.most c.requires.input.short, c.loop-first.invariant.1)
+pub overflow_mul-span : goal.overflow_mul-span
+overflow_mul-span c = omega (arith, segments_small c.args.state.k c.args.state.min_segment_len c.requires.input.most c.requires.input.short)
 
 pub neighbours_of-size-requires : goal.neighbours_of-size-requires
 neighbours_of-size-requires c =
     let l = c.loop-first in
-    let more = c.loop-first-test.true in
+    let more : l.first + c.args.state.k * c.args.state.min_segment_len ≤ c.args.state.len = omega (arith, c.loop-first-test.true, c.saturating_sub-beyond.ensures) in
     record {
       lookup =
           record {
@@ -64,7 +61,7 @@ pub every_from-seen-requires : goal.every_from-seen-requires
 every_from-seen-requires c =
     let l = c.loop-first in
     let q = c.neighbours_of-size in
-    let more = c.loop-first-test.true in
+    let more : l.first + c.args.state.k * c.args.state.min_segment_len ≤ c.args.state.len = omega (arith, c.loop-first-test.true, c.saturating_sub-beyond.ensures) in
     let list = take q.result q.new.own in
     let few : length list ≤ 32 = simp length-take (omega (arith, q.auto.own, l.invariant.2)) in
     record {
@@ -99,7 +96,7 @@ pub returns-then-seen-state : goal.returns-then-seen-state
 returns-then-seen-state c =
     let l = c.loop-first in
     let q = c.neighbours_of-size in
-    let more = c.loop-first-test.true in
+    let more : l.first + c.args.state.k * c.args.state.min_segment_len ≤ c.args.state.len = omega (arith, c.loop-first-test.true, c.saturating_sub-beyond.ensures) in
     let list = take q.result q.new.own in
     let r = c.every_from-seen in
     let own = lists_of c.args.state c.args.distances.now in
@@ -110,7 +107,7 @@ pub loop-first-preserved : goal.loop-first-preserved
 loop-first-preserved c =
     let l = c.loop-first in
     let q = c.neighbours_of-size in
-    let more = c.loop-first-test.true in
+    let more : l.first + c.args.state.k * c.args.state.min_segment_len ≤ c.args.state.len = omega (arith, c.loop-first-test.true, c.saturating_sub-beyond.ensures) in
     let list = take q.result q.new.own in
     let r = c.every_from-seen in
     let own = lists_of c.args.state c.args.distances.now in
@@ -129,5 +126,5 @@ loop-first-preserved c =
 pub returns : goal.returns
 returns c =
     let l = c.loop-first in
-    first_ended (lists_of c.args.state c.args.distances.now) c.args.state.len c.args.state.k c.args.state.min_segment_len c.args.state.capacity l.first l.seen l.lent c.loop-first-test.false
+    first_ended (lists_of c.args.state c.args.distances.now) c.args.state.len c.args.state.k c.args.state.min_segment_len c.args.state.capacity l.first l.seen l.lent (omega (arith, c.loop-first-test.false, c.saturating_sub-beyond.ensures))
     ∙ l.invariant.8

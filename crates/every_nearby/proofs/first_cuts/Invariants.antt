@@ -22,6 +22,3 @@ invariant-loop-first l =
     × Barren (lists_of l.state l.distances) l.barren
     × (pour l.state.capacity l.state.k l.seen l.lent (listed_from (lists_of l.state l.distances) l.state.len l.state.k l.state.min_segment_len l.first)
     ≡ pour l.state.capacity l.state.k 0 l.initial.lent (every_of_state l.state l.distances))
-
-abbrev pub decreases-loop-first : goal.decreases-loop-first
-decreases-loop-first l = l.state.len + 1 - l.first

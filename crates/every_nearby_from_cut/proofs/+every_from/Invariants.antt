@@ -14,18 +14,14 @@ use Rattle.every_nearby_from_cut.proofs.+every_from.Given as goal
 abbrev pub decreases-every_from : goal.decreases-every_from
 decreases-every_from l = l.behind
 
-abbrev pub invariant-loop-i : goal.invariant-loop-i
-invariant-loop-i l =
+abbrev pub invariant-loop-cut : goal.invariant-loop-cut
+invariant-loop-cut l =
     (0 < l.behind)
-    × (l.i ≤ length l.entries)
+    × (l.cut-index ≤ length l.entries)
     × (length l.own ≡ 32)
     × (length l.lent ≡ length l.initial.lent)
     × (l.seen ≤ l.state.capacity + 1)
     × Memo l.distances l.state.len l.state.max_nearby l.table
     × Barren (lists_of l.state l.distances) l.barren
-    × (pour l.state.capacity l.state.k l.seen l.lent (behind_front (take (l.state.k - 1 - l.behind) l.cuts) (every (lists_of l.state l.distances) l.behind (drop l.i l.entries)))
+    × (pour l.state.capacity l.state.k l.seen l.lent (behind_front (take (l.state.k - 1 - l.behind) l.cuts) (every (lists_of l.state l.distances) l.behind (drop l.cut-index l.entries)))
     ≡ pour l.state.capacity l.state.k l.seen-2 l.initial.lent (behind_front (take (l.state.k - 1 - l.behind) l.cuts) (every (lists_of l.state l.distances) l.behind l.entries)))
-
-abbrev pub decreases-loop-i : goal.decreases-loop-i
-decreases-loop-i l =
-    length l.entries - l.i

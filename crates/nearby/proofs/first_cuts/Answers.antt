@@ -1,6 +1,6 @@
 -- `nearby::first_cuts` meets its contract: the walk from a first cut on, poured from where the loop stands, gives the whole. Assumes nothing.
 use mathlib.Core.Path.{refl, ap, ◌∙◌}
-use Prim.Native.Nat.{◌≤◌, ◌-◌}
+use Prim.Native.Nat.{◌≤◌, ◌-◌, ◌+◌, ◌*◌}
 use lib.ListN.{length, take, length-take, length-set}
 use Rattle.nearby_last_cut.specs.Pouring.{pour}
 use Rattle.nearby_from_cut.specs.Branch.{lists_of}
@@ -25,7 +25,7 @@ pub branch-seen-requires : goal.branch-seen-requires
 branch-seen-requires c =
     let l = c.loop-first in
     let q = c.neighbours_of-size in
-    let more = c.loop-first-test.true in
+    let more : l.first + c.args.state.k * c.args.state.min_segment_len ≤ c.args.state.len = omega (arith, c.loop-first-test.true, c.saturating_sub-beyond.ensures) in
     let list = take q.result q.new.own in
     let few : length list ≤ 32 = simp length-take (omega (arith, q.auto.own, l.invariant.2)) in
     record {
@@ -56,7 +56,7 @@ pub returns-then-seen-state : goal.returns-then-seen-state
 returns-then-seen-state c =
     let l = c.loop-first in
     let q = c.neighbours_of-size in
-    let more = c.loop-first-test.true in
+    let more : l.first + c.args.state.k * c.args.state.min_segment_len ≤ c.args.state.len = omega (arith, c.loop-first-test.true, c.saturating_sub-beyond.ensures) in
     let list = take q.result q.new.own in
     let r = c.branch-seen in
     let own = lists_of c.args.state c.args.distances.now in
@@ -67,7 +67,7 @@ pub loop-first-preserved : goal.loop-first-preserved
 loop-first-preserved c =
     let l = c.loop-first in
     let q = c.neighbours_of-size in
-    let more = c.loop-first-test.true in
+    let more : l.first + c.args.state.k * c.args.state.min_segment_len ≤ c.args.state.len = omega (arith, c.loop-first-test.true, c.saturating_sub-beyond.ensures) in
     let list = take q.result q.new.own in
     let r = c.branch-seen in
     let own = lists_of c.args.state c.args.distances.now in
@@ -85,5 +85,5 @@ loop-first-preserved c =
 pub returns : goal.returns
 returns c =
     let l = c.loop-first in
-    first_ended (lists_of c.args.state c.args.distances.now) c.args.state.len c.args.state.k c.args.state.min_segment_len c.args.state.capacity l.first l.seen l.lent (omega (arith, l.invariant.0, c.requires.input.shortest)) c.loop-first-test.false
+    first_ended (lists_of c.args.state c.args.distances.now) c.args.state.len c.args.state.k c.args.state.min_segment_len c.args.state.capacity l.first l.seen l.lent (omega (arith, l.invariant.0, c.requires.input.shortest)) (omega (arith, c.loop-first-test.false, c.saturating_sub-beyond.ensures))
     ∙ l.invariant.7

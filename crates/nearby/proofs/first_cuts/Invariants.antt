@@ -20,6 +20,3 @@ invariant-loop-first l =
     × Memo l.distances l.state.len l.state.max_nearby l.table
     × (pour l.state.capacity l.state.k l.seen l.lent (walk_from (lists_of l.state l.distances) l.state.len l.state.k l.state.min_segment_len l.first)
     ≡ pour l.state.capacity l.state.k 0 l.initial.lent (sets_of_state l.state l.distances))
-
-abbrev pub decreases-loop-first : goal.decreases-loop-first
-decreases-loop-first l = l.state.len + 1 - l.first

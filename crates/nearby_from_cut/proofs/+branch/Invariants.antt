@@ -23,7 +23,3 @@ invariant-loop-i l =
     × Memo l.distances l.state.len l.state.max_nearby l.table
     × (pour l.state.capacity l.state.k l.seen l.lent (behind_front (take (l.state.k - 1 - l.behind) l.cuts) (walk.branch (lists_of l.state l.distances) l.behind (drop l.i l.entries)))
     ≡ pour l.state.capacity l.state.k l.seen-2 l.initial.lent (behind_front (take (l.state.k - 1 - l.behind) l.cuts) (walk.branch (lists_of l.state l.distances) l.behind l.entries)))
-
-abbrev pub decreases-loop-i : goal.decreases-loop-i
-decreases-loop-i l =
-    length l.entries - l.i

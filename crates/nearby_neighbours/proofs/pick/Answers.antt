@@ -6,20 +6,20 @@ use Rattle.nearby_neighbours.specs.Memo.{between}
 use Rattle.nearby_nearest.proofs.Query.{picked_next, picked_all, counted_most}
 use Rattle.nearby_neighbours.proofs.pick.Goals as goal
 
-pub loop-i-preserved : goal.loop-i-preserved
-loop-i-preserved c =
-    let l = c.loop-i in
+pub loop-entry-preserved : goal.loop-entry-preserved
+loop-entry-preserved c =
+    let l = c.loop-entry in
     let t = between c.args.low c.args.high in (
-      rw c.counted-size.ensures (counted_most (t (get_or c.args.row.now l.i 0)) l.size l.i l.invariant.0),
+      rw c.counted-size.ensures (counted_most (t (get_or c.args.row.now l.entry-index 0)) l.size l.entry-index l.invariant.0),
       omega arith,
       length-set l.own l.size _ ∙ l.invariant.2,
-      rw c.counted-size.ensures (picked_next t c.args.row.now l.own l.size l.i l.invariant.0 (omega arith) (omega (arith, l.invariant.2, c.requires.0)) l.invariant.3),
+      rw c.counted-size.ensures (picked_next t c.args.row.now l.own l.size l.entry-index l.invariant.0 (omega arith) (omega (arith, l.invariant.2, c.requires.0)) l.invariant.3),
     )
 
 pub returns : goal.returns
 returns c =
-    let l = c.loop-i in
+    let l = c.loop-entry in
     record {
       within = omega (arith, l.invariant.0, l.invariant.1, l.invariant.2, c.requires.0);
-      list_is = picked_all (between c.args.low c.args.high) c.args.row.now l.own l.size l.i (omega arith) l.invariant.3;
+      list_is = picked_all (between c.args.low c.args.high) c.args.row.now l.own l.size l.entry-index (omega arith) l.invariant.3;
     }

@@ -7,9 +7,6 @@ use Rattle.nearby_nearest.specs.Neighbours.{passing}
 use Rattle.nearby_neighbours.specs.Memo.{between}
 use Rattle.nearby_neighbours.proofs.pick.Given as goal
 
-abbrev pub invariant-loop-i : goal.invariant-loop-i
-invariant-loop-i l =
-    (l.size ≤ l.i) × (l.i ≤ length l.row) × (length l.own ≡ length l.initial.own) × (take l.size l.own ++ passing (between l.low l.high) (drop l.i l.row) ≡ passing (between l.low l.high) l.row)
-
-abbrev pub decreases-loop-i : goal.decreases-loop-i
-decreases-loop-i l = length l.row - l.i
+abbrev pub invariant-loop-entry : goal.invariant-loop-entry
+invariant-loop-entry l =
+    (l.size ≤ l.entry-index) × (l.entry-index ≤ length l.row) × (length l.own ≡ length l.initial.own) × (take l.size l.own ++ passing (between l.low l.high) (drop l.entry-index l.row) ≡ passing (between l.low l.high) l.row)

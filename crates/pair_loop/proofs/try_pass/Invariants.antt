@@ -1,7 +1,7 @@
 -- `pair_loop::try_pass` meets its contract. The invariant: what is left of the pass makes the pass of what stands. Assumes nothing.
 use mathlib.Core.Path.{◌≡◌}
 use mathlib.Core.List.{[]}
-use Prim.Native.Nat.{◌-◌, ◌≤◌}
+use Prim.Native.Nat.{◌≤◌}
 use lib.ListN.{length}
 use Rattle.theory.specs.Tables.{problem, trip}
 use Rattle.pair_loop.specs.PairLoop.{reply_so_far, pass}
@@ -16,6 +16,3 @@ invariant-loop-i l =
     × (l.i ≤ length l.initial.route)
     × (pass_left (problem (trip l.locations l.legs l.latest l.service l.depot l.depot [])) l.allowance (length l.initial.route) (reply_so_far l.passed l.route) l.i
     ≡ pass (problem (trip l.locations l.legs l.latest l.service l.depot l.depot [])) l.allowance (length l.initial.route) (reply_so_far l.initial.passed l.initial.route))
-
-abbrev pub decreases-loop-i : goal.decreases-loop-i
-decreases-loop-i l = length l.initial.route - l.i

@@ -48,7 +48,7 @@ returns-then-examined-allowance c =
 pub try_pair-requires : goal.try_pair-requires
 try_pair-requires c =
     let l = c.loop-j in
-    record { timed = l.invariant.0; a_known = l.invariant.6; b_known = l.invariant.7; rising = l.invariant.2; inside = c.loop-j-test.true }
+    record { timed = l.invariant.0; a_known = l.invariant.6; b_known = l.invariant.7; rising = l.invariant.2; inside = omega (arith, c.loop-j-test.true, l.invariant.1) }
 
 pub loop-j-preserved : goal.loop-j-preserved
 loop-j-preserved c =

@@ -1,7 +1,7 @@
 -- `pair_loop::try_sweep` meets its contract. The invariant: what is left of the row makes the row of what stands. Assumes nothing.
 use mathlib.Core.Path.{◌≡◌}
 use mathlib.Core.List.{[]}
-use Prim.Native.Nat.{◌-◌, ◌≤◌, ◌<◌}
+use Prim.Native.Nat.{◌≤◌, ◌<◌}
 use lib.ListN.{length}
 use Rattle.theory.specs.Tables.{problem, Timed, trip}
 use Rattle.pair_loop.specs.PairLoop.{so_far, sweep}
@@ -20,7 +20,3 @@ invariant-loop-j l =
     × (l.b < l.locations)
     × (sweep_left (problem (trip l.locations l.legs l.latest l.service l.depot l.depot [])) l.allowance (length l.initial.route) l.a l.b l.i (so_far l.examined l.accepted l.route) l.j
     ≡ sweep (problem (trip l.locations l.legs l.latest l.service l.depot l.depot [])) l.allowance (length l.initial.route) (so_far l.initial.examined l.initial.accepted l.initial.route) l.i)
-
-abbrev pub decreases-loop-j : goal.decreases-loop-j
-decreases-loop-j l =
-    length l.initial.route - l.j

@@ -1,6 +1,6 @@
 -- `generate_permutations`: the rows still to be written, stored from the next place, give all rows. The measure is the number of items left.
 use mathlib.Core.Path.{◌≡◌}
-use Prim.Native.Nat.{◌≤◌, ◌-◌, ◌+◌, ◌<◌}
+use Prim.Native.Nat.{◌≤◌, ◌+◌, ◌<◌}
 use lib.ListN.{length, take}
 use lib.Seq.{sets}
 use Rattle.pattern_orders.specs.Rows.{permutations}
@@ -19,6 +19,3 @@ invariant-loop-i l =
     × (length l.out ≡ length l.initial.out)
     × (l.next + length (rows_from (take l.depth l.row) l.left (take l.left l.items) l.i) ≡ l.at + length (permutations l.items l.left l.row l.depth))
     × (sets l.out l.next (rows_from (take l.depth l.row) l.left (take l.left l.items) l.i) ≡ sets l.initial.out l.at (permutations l.items l.left l.row l.depth))
-
-abbrev pub decreases-loop-i : goal.decreases-loop-i
-decreases-loop-i l = l.left - l.i

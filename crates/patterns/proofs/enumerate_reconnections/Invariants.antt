@@ -1,7 +1,7 @@
 -- `enumerate_reconnections`: the patterns from the index on, stored from their places, give all patterns.
 use mathlib.Core.Path.{◌≡◌}
 use mathlib.Core.List.{flatten}
-use Prim.Native.Nat.{◌+◌, ◌-◌, ◌*◌, ◌≤◌}
+use Prim.Native.Nat.{◌+◌, ◌*◌, ◌≤◌}
 use lib.ListN.{length, take, drop}
 use lib.Seq.{sets}
 use Rattle.theory.specs.Moves.{patterns}
@@ -19,6 +19,3 @@ invariant-loop-index l =
     × (length l.masks ≡ length l.initial.masks)
     × (sets l.orders (l.index * (l.k + 1)) (orders_of (drop l.index (patterns l.k))) ≡ sets l.initial.orders 0 (orders_of (patterns l.k)))
     × (sets l.masks l.index (masks_of (drop l.index (patterns l.k))) ≡ sets l.initial.masks 0 (masks_of (patterns l.k)))
-
-abbrev pub decreases-loop-index : goal.decreases-loop-index
-decreases-loop-index l = l.count - l.index

@@ -9,27 +9,6 @@ use Rattle.precedence.proofs.fill_members.Goals as goal
 pub loop-q-init : goal.loop-q-init
 loop-q-init c = (omega arith, c.requires.places, no_members c.args.members.now c.requires.empty)
 
-pub overflow_mul-q : goal.overflow_mul-q
-overflow_mul-q c = omega (arith, c.loop-q-test.true, c.requires.list.few)
-
-pub offset_bounds-pairs-q : goal.offset_bounds-pairs-q
-offset_bounds-pairs-q c = omega (arith, c.loop-q-test.true, c.requires.list.few)
-
-pub bounds-pairs-q : goal.bounds-pairs-q
-bounds-pairs-q c = omega (arith, c.loop-q-test.true)
-
-pub overflow_mul-q-in-loop-q : goal.overflow_mul-q-in-loop-q
-overflow_mul-q-in-loop-q c = omega (arith, c.loop-q-test.true, c.requires.list.few)
-
-pub overflow_add-q : goal.overflow_add-q
-overflow_add-q c = omega (arith, c.loop-q-test.true, c.requires.list.few)
-
-pub offset_bounds-pairs-q-in-loop-q : goal.offset_bounds-pairs-q-in-loop-q
-offset_bounds-pairs-q-in-loop-q c = omega (arith, c.loop-q-test.true, c.requires.list.few)
-
-pub bounds-pairs-q-in-loop-q : goal.bounds-pairs-q-in-loop-q
-bounds-pairs-q-in-loop-q c = omega (arith, c.loop-q-test.true)
-
 pub put_pair-requires : goal.put_pair-requires
 put_pair-requires c =
     let l = c.loop-q in
@@ -47,12 +26,6 @@ put_pair-requires c =
       room = rw (l.invariant.2.firsts _ a) (below _);
       second_room = rw (l.invariant.2.seconds _ b) (below _);
     }
-
-pub overflow_add-q-in-loop-q : goal.overflow_add-q-in-loop-q
-overflow_add-q-in-loop-q c = omega (arith, c.loop-q-test.true, c.requires.list.few)
-
-pub loop-q-smaller : goal.loop-q-smaller
-loop-q-smaller c = omega (arith, c.loop-q-test.true)
 
 pub loop-q-preserved : goal.loop-q-preserved
 loop-q-preserved c =

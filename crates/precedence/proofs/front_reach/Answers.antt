@@ -8,25 +8,6 @@ use Rattle.precedence.proofs.front_reach.Goals as goal
 pub loop-i-init : goal.loop-i-init
 loop-i-init c = (omega arith, omega arith, λ ps m. front_start ps c.args.route.now)
 
-pub offset_bounds-route-i : goal.offset_bounds-route-i
-offset_bounds-route-i c = omega (arith, c.loop-i.invariant.0, c.requires.short)
-
-pub bounds-route-i : goal.bounds-route-i
-bounds-route-i c = omega (arith, c.loop-i-test.true, c.loop-i.invariant.0)
-
-pub firsts_at-firsts-requires : goal.firsts_at-firsts-requires
-firsts_at-firsts-requires c =
-    let l = c.loop-i in
-    record { places = c.requires.places; known = c.requires.known (l.i - 1) (omega (arith, c.loop-i-test.true, l.invariant.0)) }
-
-pub seconds_at-second-requires : goal.seconds_at-second-requires
-seconds_at-second-requires c =
-    let l = c.loop-i in
-    record { places = c.requires.places; known = c.requires.known (l.i - 1) (omega (arith, c.loop-i-test.true, l.invariant.0)) }
-
-pub loop-i-smaller : goal.loop-i-smaller
-loop-i-smaller c = omega (arith, c.loop-i-test.true)
-
 pub loop-i-preserved : goal.loop-i-preserved
 loop-i-preserved c =
     let l = c.loop-i in
@@ -38,12 +19,3 @@ loop-i-preserved c =
           rw (c.place_if-reach.ensures.is, c.firsts_at-firsts.ensures, c.seconds_at-second.ensures)
           (front_step ps c.args.members.now c.args.route.now (l.i - 1) l.firsts l.reach m (omega (arith, h, l.invariant.0)) (c.requires.known (l.i - 1) (omega (arith, h, l.invariant.0))) (rw e (l.invariant.2 ps m))),
     )
-
-pub returns : goal.returns
-returns c =
-    let l = c.loop-i in
-    let e : l.i ≡ 0 = omega (arith, c.loop-i-test.false) in
-    record {
-      within = l.invariant.1;
-      is = λ ps m. let w = rw e at (l.invariant.2 ps m) in record { within = l.invariant.1; is = λ a h. w.is a (omega arith) h };
-    }

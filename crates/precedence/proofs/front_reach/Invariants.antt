@@ -9,6 +9,3 @@ use Rattle.precedence.proofs.front_reach.Given as goal
 abbrev pub invariant-loop-i : goal.invariant-loop-i
 invariant-loop-i l =
     (l.i ≤ length l.route) × (l.reach ≤ length l.route) × ((ps : List (ℕ × ℕ)) → Members ps l.members → FrontFrom ps l.route l.i l.firsts l.reach)
-
-abbrev pub decreases-loop-i : goal.decreases-loop-i
-decreases-loop-i l = l.i

@@ -2,15 +2,12 @@
 use mathlib.Core.Path.{◌≡◌}
 use mathlib.Core.Bool.{Bool}
 use mathlib.Core.List.{List}
-use Prim.Native.Nat.{ℕ, ◌-◌, ◌≤◌}
+use Prim.Native.Nat.{ℕ, ◌≤◌}
 use lib.ListN.{length, take}
 use Rattle.precedence.specs.Words.{marks, Members}
 use Rattle.precedence_contradictions.proofs.Left.{found_among}
 use Rattle.precedence_contradictions.proofs.behind_another.Given as goal
 
-abbrev pub invariant-loop-i : goal.invariant-loop-i
-invariant-loop-i l =
-    (l.i ≤ length l.route) × ((ps : List (ℕ × ℕ)) → Members ps l.members → (t : ℕ × ℕ → Bool) → l.left ≡ marks t ps → l.found ≡ found_among t ps (take l.i l.route))
-
-abbrev pub decreases-loop-i : goal.decreases-loop-i
-decreases-loop-i l = length l.route - l.i
+abbrev pub invariant-loop-stop : goal.invariant-loop-stop
+invariant-loop-stop l =
+    (l.stop-index ≤ length l.route) × ((ps : List (ℕ × ℕ)) → Members ps l.members → (t : ℕ × ℕ → Bool) → l.left ≡ marks t ps → l.found ≡ found_among t ps (take l.stop-index l.route))

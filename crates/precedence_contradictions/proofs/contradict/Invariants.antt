@@ -2,12 +2,9 @@
 use mathlib.Core.Path.{◌≡◌}
 use mathlib.Core.Bool.{Bool}
 use mathlib.Core.List.{List}
-use Prim.Native.Nat.{ℕ, ◌-◌, ◌≤◌}
+use Prim.Native.Nat.{ℕ}
 use Rattle.precedence.specs.Words.{marks, Members}
 use Rattle.precedence_contradictions.proofs.contradict.Given as goal
 
-abbrev pub invariant-loop-turns : goal.invariant-loop-turns
-invariant-loop-turns l = (l.turns ≤ 65) × ((ps : List (ℕ × ℕ)) → Members ps l.members → (t : ℕ × ℕ → Bool) × (l.left ≡ marks t ps))
-
-abbrev pub decreases-loop-turns : goal.decreases-loop-turns
-decreases-loop-turns l = 65 - l.turns
+abbrev pub invariant-loop : goal.invariant-loop
+invariant-loop l = (ps : List (ℕ × ℕ)) → Members ps l.members → (t : ℕ × ℕ → Bool) × (l.left ≡ marks t ps)

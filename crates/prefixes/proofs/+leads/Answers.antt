@@ -1,4 +1,5 @@
 -- `leads` meets its contract. The invariant: no way begins with one of the known segments below p. The measure is the number of segments left.
+use Prim.Native.Nat.{◌≤◌}
 use native.Mathlib.Omega.{arith}
 use Rattle.prefixes.proofs.Tried.{not_reached, known_tried, next_tried, all_tried}
 use Prim.Native.Nat.{◌-◌}
@@ -8,7 +9,7 @@ use Rattle.prefixes.proofs.+leads.Goals.{then-reaches+else-leads, else-reaches}
 pub loop-p-preserved : goal.loop-p-preserved
 loop-p-preserved t c =
     let l = c.loop-p in
-    let m = c.loop-p-test.true in
+    let m : l.p ≤ c.args.known = omega (arith, c.loop-p-test.true) in
     let h = c.hand_on-next in
     let f = c.farther-further in
     let r = c.reaches in (

@@ -16,14 +16,8 @@ pub loop-position-init : goal.loop-position-init
 loop-position-init c =
     (omega arith, omega arith, refl, from_start c.args.route.now c.args.cuts.now c.args.order.now c.args.out.now c.args.mask c.requires)
 
-pub overflow_cast-segment : goal.overflow_cast-segment
-overflow_cast-segment c = omega (arith, c.shared_slice_known-in-loop-position-1.given c.loop-position.position)
-
 pub segment_start-a-requires : goal.segment_start-a-requires
 segment_start-a-requires c = omega (arith, segment_named (goal.at.segment_start-a-requires c).In-loop-position)
-
-pub overflow_add-segment : goal.overflow_add-segment
-overflow_add-segment c = omega (arith, segment_named (goal.at.overflow_add-segment c).In-loop-position, c.requires.cut_set.most)
 
 pub segment_start-b-requires : goal.segment_start-b-requires
 segment_start-b-requires c = omega (arith, segment_named (goal.at.segment_start-b-requires c).In-loop-position)

@@ -1,5 +1,5 @@
 -- `reconnection::reconnect` meets its contract. The invariant: what stands in `out` up to `at`, and what is still to be put, are the whole. Assumes nothing.
-use Prim.Native.Nat.{◌≤◌, ◌-◌}
+use Prim.Native.Nat.{◌≤◌}
 use mathlib.Core.Path.{◌≡◌}
 use mathlib.Core.List.{◌++◌}
 use lib.ListN.{length, take}
@@ -13,6 +13,3 @@ invariant-loop-position l =
     × (l.at ≤ length l.out)
     × (length l.out ≡ length l.initial.out)
     × (take l.at l.out ++ rest l.mask (segments 0 l.cuts l.route) l.order l.position ≡ whole l.route l.cuts l.order l.mask)
-
-abbrev pub decreases-loop-position : goal.decreases-loop-position
-decreases-loop-position l = length l.order - l.position

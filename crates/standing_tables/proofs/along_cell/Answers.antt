@@ -5,13 +5,8 @@ use native.Mathlib.Omega.{arith}
 use lib.ListN.{get_or}
 use borrow.Author.Tests.{eqb-true}
 use Rattle.theory.specs.Route.{reverses}
-use Rattle.standing_tables.proofs.Cells.{along_beyond, along_none, along_some, row_of, column_of}
+use Rattle.standing_tables.proofs.Cells.{along_none, along_some, row_of, column_of}
 use Rattle.standing_tables.proofs.along_cell.Goals as goal
-
-pub returns-then-y-eq48 : goal.returns-then-y-eq48
-returns-then-y-eq48 c =
-    let g = c.args in
-    λ n old wanted pair same behind a y l e. along_beyond n old wanted g.same.now pair same a y (omega (arith, c.if-y-eq48.true, column_of a y g.i l e)) 0
 
 pub returns-then-word-y-eq0 : goal.returns-then-word-y-eq0
 unfolding reverses

@@ -4,11 +4,8 @@ use Prim.Native.Nat.{◌-◌}
 use native.Mathlib.Omega.{arith}
 use lib.ListN.{length-set}
 use Rattle.standing_tables.specs.Filling.{AgainstGood}
-use Rattle.standing_tables.proofs.Cells.{put_good, against_begun}
+use Rattle.standing_tables.proofs.Cells.{put_good}
 use Rattle.standing_tables.proofs.fill_against.Goals as goal
-
-pub loop-i-init : goal.loop-i-init
-loop-i-init c = (omega arith, c.requires, λ n old wanted pair same. against_begun n old wanted c.args.table.now pair)
 
 pub loop-i-preserved : goal.loop-i-preserved
 loop-i-preserved c =

@@ -6,11 +6,8 @@ use lib.Bits.{bit_or}
 use lib.ListN.{get_or, length-set}
 use Rattle.standing_tables.specs.Filling.{PartsGood}
 use Rattle.standing_tables.proofs.Cells.{put_good}
-use Rattle.standing_tables.proofs.Parts.{parts_begun, parts_cell, parts_table}
+use Rattle.standing_tables.proofs.Parts.{parts_cell, parts_table}
 use Rattle.standing_tables.proofs.fill_parts.Goals as goal
-
-pub loop-i-init : goal.loop-i-init
-loop-i-init c = (omega arith, c.requires, λ n old wanted pair marks. parts_begun n old wanted c.args.table.now pair)
 
 pub loop-i-preserved : goal.loop-i-preserved
 loop-i-preserved c =

@@ -10,6 +10,3 @@ use Rattle.standing_tables.proofs.fill_parts.Given as goal
 abbrev pub invariant-loop-i : goal.invariant-loop-i
 invariant-loop-i l =
     (l.i ≤ 2352) × (length l.table ≡ 2401) × ((n : ℕ) (old wanted : List ℕ) → Pair n old wanted → EndsTable n old wanted l.ends → PartsFrom n old wanted l.table l.i)
-
-abbrev pub decreases-loop-i : goal.decreases-loop-i
-decreases-loop-i l = l.i

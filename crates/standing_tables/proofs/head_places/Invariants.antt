@@ -1,12 +1,9 @@
 -- `head_places` meets its contract. The invariant: the cuts up to c are marked. Assumes nothing.
 use mathlib.Core.Path.{◌≡◌}
-use Prim.Native.Nat.{◌-◌, ◌≤◌}
+use Prim.Native.Nat.{◌≤◌}
 use lib.ListN.{length}
 use Rattle.standing_tables.proofs.Agreeing.{UpTo}
 use Rattle.standing_tables.proofs.head_places.Given as goal
 
 abbrev pub invariant-loop-c : goal.invariant-loop-c
 invariant-loop-c l = (l.c ≤ length l.old) × (length l.old ≤ 48) × (length l.wanted ≡ length l.old) × UpTo l.c l.places
-
-abbrev pub decreases-loop-c : goal.decreases-loop-c
-decreases-loop-c l = length l.old - l.c

@@ -4,9 +4,6 @@ use borrow.Author.Tests.{eq-eqb}
 use Rattle.standing_tables.proofs.Cells.{one_more}
 use Rattle.standing_tables.proofs.same_places.Goals as goal
 
-pub loop-z-init : goal.loop-z-init
-loop-z-init c = (omega arith, c.requires, λ x l e. absurd (omega arith))
-
 pub loop-z-preserved : goal.loop-z-preserved
 loop-z-preserved c =
     let l = c.loop-z in (
@@ -14,6 +11,3 @@ loop-z-preserved c =
       l.invariant.1,
       one_more c.args.wanted.now c.args.stop l.places c.place_if-places.result l.z l.invariant.2 (λ e. c.place_if-places.ensures (eq-eqb _ _ e)),
     )
-
-pub returns : goal.returns
-returns c = λ x l e. c.loop-z.invariant.2 x (omega (arith, c.loop-z-test.false)) e

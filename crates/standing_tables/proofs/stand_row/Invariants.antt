@@ -1,10 +1,6 @@
 -- `stand_row` meets its contract. The invariant is `RowKept`. Assumes nothing.
-use Prim.Native.Nat.{◌+◌, ◌-◌}
 use Rattle.standing_tables.specs.Filling.{RowKept}
 use Rattle.standing_tables.proofs.stand_row.Given as goal
 
 abbrev pub invariant-loop-e : goal.invariant-loop-e
 invariant-loop-e l = RowKept l.same l.initial.table l.n l.a l.along l.against l.table l.e
-
-abbrev pub decreases-loop-e : goal.decreases-loop-e
-decreases-loop-e l = l.n + 1 - l.e

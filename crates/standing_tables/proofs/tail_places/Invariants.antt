@@ -7,6 +7,3 @@ use Rattle.standing_tables.proofs.tail_places.Given as goal
 
 abbrev pub invariant-loop-c : goal.invariant-loop-c
 invariant-loop-c l = (l.c ≤ length l.old) × (length l.old ≤ 48) × (length l.wanted ≡ length l.old) × DownTo (length l.old) l.c l.places
-
-abbrev pub decreases-loop-c : goal.decreases-loop-c
-decreases-loop-c l = l.c
