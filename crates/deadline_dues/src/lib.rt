@@ -87,8 +87,7 @@ pub fn grow_dues(
     ensures { SegmentDues (clock_by (tables locations legs.now latest.now service.now)) (slice start to route.now) result.straight result.reversed }
 {
     let mut dues = Dues { straight, reversed };
-    let mut upto = from;
-    while upto < to {
+    for upto in from..to {
         dues = take_in(
             locations,
             legs,
@@ -102,7 +101,6 @@ pub fn grow_dues(
             dues.straight,
             dues.reversed,
         );
-        upto += 1;
     }
     dues
 }
@@ -174,15 +172,13 @@ fn fill_dues(
     requires { DuesFillable (tables locations legs.now latest.now service.now) route.now backward.now stayed.now cuts.now count dues.old }
     ensures { SegmentsDue (clock_by (tables locations legs.now latest.now service.now)) cuts.now route.now count dues.new }
 {
-    let mut i = 1;
-    while i <= count {
+    for i in 1..count + 1 {
         let start = cuts[i - 1];
         let end = cuts[i];
         let found = segment_dues(
             locations, legs, latest, service, route, backward, stayed, start, end,
         );
         put_dues(dues, i, found.straight, found.reversed);
-        i += 1;
     }
 }
 
@@ -258,13 +254,11 @@ fn state_stays(stayed: &[u64; CUT_PLACES], cuts: &[usize], stays: &mut [u64; DUE
     requires { StaysAsked stayed.now cuts.now stays.old }
     ensures { StaysTold stayed.now cuts.now stays.new }
 {
-    let mut i = 1;
-    while i < cuts.len() {
+    for i in 1..cuts.len() {
         let start = cuts[i - 1];
         let end = cuts[i];
         let stay = stayed[end] - stayed[start];
         put_dues(stays, i, stay, stay);
-        i += 1;
     }
 }
 
@@ -312,16 +306,13 @@ pub fn judge_row(
 {
     let mut from = HEAD;
     let mut now = clock;
-    let mut at = ROW * i;
-    let end = ROW * i + m;
-    while at < end {
+    for at in ROW * i..ROW * i + m {
         let state = scan_joints::wide(rows[at]);
         now += joint[WIDTH * from + state] + stays[state];
         if dues[state] <= now {
             return Timing::Late;
         }
         from = state;
-        at += 1;
     }
     Timing::InTime
 }

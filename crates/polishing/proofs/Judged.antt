@@ -10,7 +10,8 @@ use lib.ListN.{length, get_or, replicate}
 use borrow.Author.Tests.{ltb-false, leb-false, eqb-true, not-false}
 use Rattle.theory.specs.Pairs.{pairs_of}
 use Rattle.theory.specs.Tables.{Trip, Timed}
-use Rattle.theory.specs.Refusals.{any, pair_list, trip_rules, paired_rules}
+use Rattle.std.specs.List.{list_any}
+use Rattle.theory.specs.Refusals.{pair_list, trip_rules, paired_rules}
 use Rattle.theory.specs.Question.{Question, question_rules, paired_question_rules}
 use Rattle.theory.proofs.Refusals.{Passes}
 use Rattle.theory.proofs.Judged.{or_false, none_at, cut_count_fine, measurable_fine, times_fine}
@@ -51,9 +52,9 @@ paired_fine T route p =
 -- What 29 lets through: few members, each with its partner, each a location.
 pub pairs_fine : (locations : ℕ) (pairs : List ℕ) → locations ≤ 1024 → (pair_list locations pairs).1 ≡ false → PairsFillable pairs
 pairs_fine locations pairs few e =
-    let unknown : Bool = any (λ x. leb locations x) pairs in
+    let unknown : Bool = list_any (λ x. leb locations x) pairs in
     let odd : Bool = not (eqb (length pairs % 2) 0) in
-    let p = or_false ((ltb 128 (length pairs) || odd) || unknown) (any (λ p. eqb p.0 p.1) (pairs_of pairs)) e in
+    let p = or_false ((ltb 128 (length pairs) || odd) || unknown) (list_any (λ p. eqb p.0 p.1) (pairs_of pairs)) e in
     let q = or_false (ltb 128 (length pairs) || odd) unknown p.0 in
     let r = or_false (ltb 128 (length pairs)) odd q.0 in
     record {

@@ -28,16 +28,13 @@ use Rattle.polish_numbers.specs.Answer.{answer_of}
 use Rattle.polish_numbers.proofs.Answered.{length_without_deadlines, counts_are, reply_is}
 use Rattle.precedence.specs.Words.{PairsLent}
 use Rattle.precedence_visits.proofs.Visits.{no_visits}
-use Rattle.scan_loop.specs.Loop.{place_held, Scannable, ScanAsked, Scans}
+use Rattle.scan_loop.specs.Loop.{place_held, Scannable, ScanAsked}
 use Rattle.scan_loop.proofs.Scanning as Scanning
 use Rattle.scan_loop.specs.declared.Scanned.{Scanned}
 use Rattle.polishing.specs.declared.Sliced.{Sliced}
 use Rattle.polishing.specs.Loop.{PairedScan, PolishableRows, SliceableRows, ScannedWith, SlicedRows}
 
 -- ---- what closed rows are found by
-
-pub asked_plain : {k : ℕ} {T : Trip} {orders masks members start : List ℕ} {from : ℕ} {route visits : List ℕ} → Scannable k T orders masks members start from route → ScanAsked k T orders masks members start from route [] visits
-asked_plain w = record { scannable = w; closing = inl refl }
 
 pub asked_paired : {k : ℕ} {T : Trip} {orders masks members start : List ℕ} {from : ℕ} {route : List ℕ} → PairedScan k T orders masks members start from route →
     ScanAsked k T orders masks members start from route (replicate 383 0) (replicate 1027 0)
@@ -71,9 +68,6 @@ module _ (k : ℕ) (T : Trip) (orders masks members start : List ℕ) (from : �
 
   pub no_cut_set : length route + 1 < k → ScannedWith P ps k A start from route (record { finished = true; examined = 0; accepted = 0; kept = false; cuts = 0 ∷ 1 ∷ 2 ∷ 3 ∷ 4 ∷ []; index = 0 }) route
   no_cut_set h = record { scan = rw (Scanning.first_set k ok.rows.most) (sym (nowhere P ps k A (place_held k start from) route (omega arith))); kept = λ e. absurd (false≢true e) }
-
-  pub scanned_so : {scanned : Scanned} {route' : List ℕ} → Scans P ps k A start from route scanned route' → ScannedWith P ps k A start from route scanned route'
-  scanned_so s = record { scan = s.scan; kept = λ e. sym s.kept_is ∙ e }
 
   module _ (scanned : Scanned) (route' : List ℕ) (s : ScannedWith P ps k A start from route scanned route') where
     rearranged : (g : ℕ → ℕ) → total g route' ≡ total g route

@@ -5,6 +5,7 @@
 ghost use Rattle.theory.specs.Moves.{patterns};
 ghost use Rattle.theory.specs.Tables.{problem, pattern_rows, trip};
 ghost use Rattle.theory.specs.Answers.{Polishes};
+ghost use Rattle.scan_round.specs.Lending.{trip_of};
 ghost use Rattle.scan_loop.specs.Loop.{Scannable, Scans};
 ghost use Rattle.polishing.specs.Loop.{PairedScan, PolishableRows, Polishable, PolishableWithPairs, SliceableRows, Sliceable, SliceableWithPairs, ScannedWith, SlicedRows};
 
@@ -12,10 +13,11 @@ use precedence::MEMBERS;
 use precedence_closing::SIGNS;
 use precedence_visits::VISIT_PLACES;
 use scan_loop::Scanned;
+use scan_round::Lent;
 use theory::{Counts, Polished};
 
 // What a slice counted, as polishing does, and the place where the next one begins.
-#[derive(Clone, Copy)]
+#[derive(Clone, Copy, Debug, PartialEq, Eq)]
 pub struct Sliced {
     pub finished: bool,
     pub examined: u64,
@@ -31,22 +33,15 @@ pub struct Sliced {
 fn scan_plain(
     k: usize,
     allowance: u64,
-    locations: usize,
-    legs: &[u32],
-    latest: &[u32],
-    service: &[u32],
-    depot: u32,
-    end: u32,
-    pairs: &[u32],
-    members: &[u64],
+    lent: &Lent<'_>,
     orders: &[u8],
     masks: &[u8],
     start: [usize; 5],
     from: usize,
     route: &mut [u32],
 ) -> Scanned
-    requires { Scannable k (trip locations legs.now latest.now service.now depot end pairs.now) orders.now masks.now members.now start from route.old }
-    ensures { Scans (problem (trip locations legs.now latest.now service.now depot end pairs.now)) (pattern_rows k orders.now masks.now) k allowance start from route.old result route.new }
+    requires { Scannable k (trip_of lent.now) orders.now masks.now lent.now.members.now start from route.old }
+    ensures { Scans (problem (trip_of lent.now)) (pattern_rows k orders.now masks.now) k allowance start from route.old result route.new }
 {
     let mut signs = [0u16; 1];
     let mut visits = [0u64; 1];
@@ -54,14 +49,7 @@ fn scan_plain(
     scan_loop::scan_cut_sets(
         k,
         allowance,
-        locations,
-        legs,
-        latest,
-        service,
-        depot,
-        end,
-        pairs,
-        members,
+        lent,
         orders,
         masks,
         start,
@@ -76,36 +64,22 @@ fn scan_plain(
 fn scan_paired(
     k: usize,
     allowance: u64,
-    locations: usize,
-    legs: &[u32],
-    latest: &[u32],
-    service: &[u32],
-    depot: u32,
-    end: u32,
-    pairs: &[u32],
-    members: &[u64],
+    lent: &Lent<'_>,
     orders: &[u8],
     masks: &[u8],
     start: [usize; 5],
     from: usize,
     route: &mut [u32],
 ) -> Scanned
-    requires { PairedScan k (trip locations legs.now latest.now service.now depot end pairs.now) orders.now masks.now members.now start from route.old }
-    ensures { Scans (problem (trip locations legs.now latest.now service.now depot end pairs.now)) (pattern_rows k orders.now masks.now) k allowance start from route.old result route.new }
+    requires { PairedScan k (trip_of lent.now) orders.now masks.now lent.now.members.now start from route.old }
+    ensures { Scans (problem (trip_of lent.now)) (pattern_rows k orders.now masks.now) k allowance start from route.old result route.new }
 {
     let mut signs = [0u16; SIGNS];
     let mut visits = [0u64; VISIT_PLACES];
     scan_loop::scan_cut_sets(
         k,
         allowance,
-        locations,
-        legs,
-        latest,
-        service,
-        depot,
-        end,
-        pairs,
-        members,
+        lent,
         orders,
         masks,
         start,
@@ -120,22 +94,15 @@ fn scan_paired(
 fn scanned_with(
     k: usize,
     allowance: u64,
-    locations: usize,
-    legs: &[u32],
-    latest: &[u32],
-    service: &[u32],
-    depot: u32,
-    end: u32,
-    pairs: &[u32],
-    members: &[u64],
+    lent: &Lent<'_>,
     orders: &[u8],
     masks: &[u8],
     start: [usize; 5],
     from: usize,
     route: &mut [u32],
 ) -> Scanned
-    requires { SliceableRows k (trip locations legs.now latest.now service.now depot end pairs.now) orders.now masks.now members.now start from route.old }
-    ensures { ScannedWith (problem (trip locations legs.now latest.now service.now depot end pairs.now)) (pattern_rows k orders.now masks.now) k allowance start from route.old result route.new }
+    requires { SliceableRows k (trip_of lent.now) orders.now masks.now lent.now.members.now start from route.old }
+    ensures { ScannedWith (problem (trip_of lent.now)) (pattern_rows k orders.now masks.now) k allowance start from route.old result route.new }
 {
     if route.len() + 1 < k {
         return Scanned {
@@ -147,16 +114,10 @@ fn scanned_with(
             index: 0,
         };
     }
-    if members.len() == 0 {
-        return scan_plain(
-            k, allowance, locations, legs, latest, service, depot, end, pairs, members, orders,
-            masks, start, from, route,
-        );
+    if lent.members.len() == 0 {
+        return scan_plain(k, allowance, lent, orders, masks, start, from, route);
     }
-    scan_paired(
-        k, allowance, locations, legs, latest, service, depot, end, pairs, members, orders, masks,
-        start, from, route,
-    )
+    scan_paired(k, allowance, lent, orders, masks, start, from, route)
 }
 
 // A slice with lent rows of patterns for k cuts.
@@ -181,10 +142,17 @@ pub fn slice_rows(
     ensures { SlicedRows (problem (trip locations legs.now latest.now service.now depot end pairs.now)) (pattern_rows k orders.now masks.now) k allowance start from route.old result route.new }
 {
     let before = costs::route_length(locations, legs, depot, end, &route[..]);
-    let scanned = scanned_with(
-        k, allowance, locations, legs, latest, service, depot, end, pairs, members, orders, masks,
-        start, from, route,
-    );
+    let lent = Lent {
+        locations,
+        legs,
+        latest,
+        service,
+        depot,
+        end,
+        pairs,
+        members,
+    };
+    let scanned = scanned_with(k, allowance, &lent, orders, masks, start, from, route);
     let after = costs::route_length(locations, legs, depot, end, &route[..]);
     let late = deadlines::late_position(
         scanned.kept,

@@ -63,10 +63,8 @@ pub fn fill_signs(rows: &[u8; ROW_BYTES], count: usize, signs: &mut [u16])
     requires { SignsFillable rows.now count signs.old }
     ensures { Signed rows.now count signs.new }
 {
-    let mut i = 0;
-    while i < count {
+    for i in 0..count {
         signs[i] = row_sign(rows, i);
-        i += 1;
     }
 }
 
@@ -100,7 +98,7 @@ fn next_event(a: usize, b: usize) -> Event
     Event { a: a + 1, b }
 }
 
-// The signs of rows that break a pair on these cuts, wherever the last one is moved on.
+// The signs of rows that break a pair on these cuts, wherever the last one is moved on. Its steps are pairs of segments, one after the other by `next_event`: a range would be no plainer.
 pub fn closed_signs(visits: &[u64], cuts: &[usize]) -> u16
     requires { ClosingAsked visits.now cuts.now }
     ensures { ClosedBy visits.now cuts.now result }

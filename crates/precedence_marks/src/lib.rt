@@ -56,11 +56,9 @@ fn fill_marks(
     requires { MarksFillable members.now route.now cuts.now count held.old }
     ensures { MarksFilled members.now route.now cuts.now count held.new }
 {
-    let mut i = 1;
-    while i <= count {
+    for i in 1..count + 1 {
         let found = segment_marks(members, route, cuts[i - 1], cuts[i]);
         put_marks(held, i, found);
-        i += 1;
     }
 }
 
@@ -116,16 +114,13 @@ pub fn row_in_order(rows: &[u8; ROW_BYTES], held: &[u64; MARK_PLACES], i: usize,
     ensures { result ≡ in_order held.now 0 (slice (4 * i) (4 * i + m) rows.now) }
 {
     let mut passed = 0u64;
-    let mut at = ROW * i;
-    let end = ROW * i + m;
-    while at < end {
+    for at in ROW * i..ROW * i + m {
         let state = scan_joints::wide(rows[at]);
         let broken = (held[state / 2] & passed) | held[BROKEN_WORDS + state];
         if broken != 0 {
             return false;
         }
         passed = passed | held[SECOND_WORDS + state / 2];
-        at += 1;
     }
     true
 }

@@ -21,11 +21,9 @@ fn least_into(
     ensures { LeastInto locations legs.now from entries.now inside.now low.now p result }
 {
     let mut best = 17592186044416u64;
-    let mut w = 0;
-    while w < p {
+    for w in 0..p {
         let way = costs::route_distance(locations, legs, from, entries[w]) + inside[w];
         best = costs::least(best, low[w] + way);
-        w += 1;
     }
     best
 }
@@ -44,11 +42,9 @@ fn least_out(
     ensures { LeastOut locations legs.now exits.now to add.now start p result }
 {
     let mut best = start;
-    let mut u = 0;
-    while u < p {
+    for u in 0..p {
         let way = costs::route_distance(locations, legs, exits[u], to);
         best = costs::least(best, add[REVERSED + u] + way);
-        u += 1;
     }
     best
 }
@@ -114,15 +110,13 @@ pub fn next_promising(
     ensures { NextPromising locations legs.now depot end route.now cuts.now entries.now exits.now inside.now low.now result }
 {
     let head = costs::head_end(depot, route, cuts);
-    let mut c = cuts[cuts.len() - 1];
-    while c <= route.len() {
+    for c in cuts[cuts.len() - 1]..route.len() + 1 {
         if is_promising(
             locations, legs, depot, end, route, forward, backward, cuts, head, entries, exits,
             inside, low, zero, c,
         ) {
             return c;
         }
-        c += 1;
     }
-    c
+    route.len() + 1
 }

@@ -13,6 +13,14 @@ pub const CHAIN: usize = 5;
 
 pub const CHAIN_BYTES: usize = CHAIN * PATTERNS;
 
+// So many rows of states, with the places that they add up.
+#[derive(Clone, Copy)]
+pub struct ListedRows<'r> {
+    pub states: &'r [u8; ROW_BYTES],
+    pub chains: &'r [u8; CHAIN_BYTES],
+    pub count: usize,
+}
+
 // The five places of row i. The joint table's line of a begins at 16 a, the head's at 144; the tail is column 8.
 fn put_chain(rows: &[u8; ROW_BYTES], i: usize, chains: &mut [u8; CHAIN_BYTES])
     requires { ChainPuttable rows.now i chains.old }
@@ -36,10 +44,8 @@ pub fn fill_chains(rows: &[u8; ROW_BYTES], count: usize, chains: &mut [u8; CHAIN
     requires { ChainsFillable rows.now count chains.old }
     ensures { Chained rows.now count chains.new }
 {
-    let mut i = 0;
-    while i < count {
+    for i in 0..count {
         put_chain(rows, i, chains);
-        i += 1;
     }
 }
 

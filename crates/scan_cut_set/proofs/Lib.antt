@@ -1,3 +1,4 @@
 pub mod Kept
 pub mod Gain
 pub mod FirstDue
+pub mod Given

@@ -3,112 +3,114 @@
 
 ghost use Rattle.std.specs.Prelude.{◌≡◌, ◌&&◌, ◌+◌, ◌-◌, ◌*◌, length, get_or};
 ghost use Rattle.std.proofs.Math.Seq.{slice};
-ghost use Rattle.theory.specs.Tables.{trip};
 ghost use Rattle.deadline_dues.specs.Dues.{in_time};
 ghost use Rattle.precedence_marks.specs.Held.{in_order};
-ghost use Rattle.scan_cut_set.specs.Gain.{below, LateBehind, Findable, Found, Chains, NextShorter, RowJudged, DueRows, FirstDue, OrderRows, FirstOrdered};
+ghost use Rattle.scan_cut_set.specs.Gain.{below, LateBehind, Chains, NextShorter, RowJudged, DueRows, FirstDue, OrderRows, FirstOrdered};
+ghost use Rattle.scan_cut_set.specs.Asked.{GainAsked, FoundAt};
 
 use deadline_dues::{DUE_PLACES, Timing, time_states};
 use precedence_marks::MARK_PLACES;
-use scan_chains::CHAIN_BYTES;
-use scan_joints::{CELLS, ROW_BYTES, STATES};
-use theory::{CUT_PLACES, STOPS};
+use scan_chains::ListedRows;
+use scan_joints::{CELLS, EndStops};
+use scan_round::Round;
+use theory::CUT_PLACES;
 
-// The first pattern from `from` on that costs less than `standing`, or `limit`.
-fn next_shorter(
-    joint: &[u64; CELLS],
-    chains: &[u8; CHAIN_BYTES],
-    standing: u64,
-    from: usize,
-    limit: usize,
-) -> usize
-    requires { Chains joint.now chains.now from limit }
-    ensures { NextShorter joint.now chains.now standing from limit result }
-{
-    let mut i = from;
-    while i < limit {
-        if scan_chains::chain_cost(joint, chains, i) < standing {
-            return i;
-        }
-        i += 1;
-    }
-    i
+// What is held from one cut set to the next with the same first cuts: the joint table, and the dues and the words of the states.
+#[derive(Drop)]
+pub struct Held {
+    pub joint: [u64; CELLS],
+    pub dues: [u64; DUE_PLACES],
+    pub marks: [u64; MARK_PLACES],
 }
 
-// Whether row i is left in time, and then whether it keeps every pair.
-fn row_kept(
-    joint: &[u64; CELLS],
-    rows: &[u8; ROW_BYTES],
-    stays: &[u64; DUE_PLACES],
-    dues: &[u64; DUE_PLACES],
-    held: &[u64; MARK_PLACES],
-    i: usize,
-    m: usize,
-    clock: u64,
-) -> bool
-    requires { RowJudged joint.now rows.now stays.now dues.now held.now i m clock }
-    ensures { result ≡ (in_order held.now 0 (slice (4 * i) (4 * i + m) rows.now) && in_time joint.now stays.now dues.now 9 clock (slice (4 * i) (4 * i + m) rows.now)) }
-{
-    let judged = deadline_dues::judge_row(joint, rows, stays, dues, i, m, clock);
-    if let Timing::InTime = judged {
-        return precedence_marks::row_in_order(rows, held, i, m);
-    }
-    false
-}
-
-// The first row from `start` on that costs less than `below`, is left in time and keeps every pair, or `limit`.
-fn first_due(
-    joint: &[u64; CELLS],
-    rows: &[u8; ROW_BYTES],
-    chains: &[u8; CHAIN_BYTES],
-    stays: &[u64; DUE_PLACES],
-    dues: &[u64; DUE_PLACES],
-    held: &[u64; MARK_PLACES],
-    m: usize,
-    clock: u64,
-    below: u64,
-    start: usize,
-    limit: usize,
-) -> usize
-    requires { DueRows joint.now rows.now chains.now stays.now dues.now held.now m clock below start limit }
-    ensures { FirstDue joint.now rows.now chains.now stays.now dues.now held.now m clock below limit result }
-{
-    let mut i = start;
-    while i < limit {
-        if row_kept(joint, rows, stays, dues, held, i, m, clock) {
-            return i;
+impl Held {
+    // The first row from `from` on that costs less than `standing`, or their number.
+    fn next_shorter(&self, rows: &ListedRows<'_>, standing: u64, from: usize) -> usize
+        requires { Chains self.now.joint rows.now.chains.now from rows.now.count }
+        ensures { NextShorter self.now.joint rows.now.chains.now standing from rows.now.count result }
+    {
+        for i in from..rows.count {
+            if scan_chains::chain_cost(&self.joint, rows.chains, i) < standing {
+                return i;
+            }
         }
-        i = next_shorter(joint, chains, below, i + 1, limit);
+        rows.count
     }
-    i
-}
 
-// The first row from `shorter` on that costs less than `below` and keeps every pair, or `limit`; where there are no pairs, `shorter` itself.
-fn first_ordered(
-    joint: &[u64; CELLS],
-    rows: &[u8; ROW_BYTES],
-    chains: &[u8; CHAIN_BYTES],
-    held: &[u64; MARK_PLACES],
-    paired: bool,
-    m: usize,
-    below: u64,
-    shorter: usize,
-    limit: usize,
-) -> usize
-    requires { OrderRows joint.now rows.now chains.now held.now m below shorter limit }
-    ensures { FirstOrdered joint.now rows.now chains.now held.now m below limit result }
-{
-    if !paired {
-        return shorter;
-    }
-    let mut i = shorter;
-    while i < limit {
-        if precedence_marks::row_in_order(rows, held, i, m) {
-            return i;
+    // Whether row i is left in time, and then whether it keeps every pair.
+    fn row_kept(
+        &self,
+        rows: &ListedRows<'_>,
+        stays: &[u64; DUE_PLACES],
+        i: usize,
+        m: usize,
+        clock: u64,
+    ) -> bool
+        requires { RowJudged self.now.joint rows.now.states.now stays.now self.now.dues self.now.marks i m clock }
+        ensures { result ≡ (in_order self.now.marks 0 (slice (4 * i) (4 * i + m) rows.now.states.now) && in_time self.now.joint stays.now self.now.dues 9 clock (slice (4 * i) (4 * i + m) rows.now.states.now)) }
+    {
+        let judged = deadline_dues::judge_row(
+            &self.joint,
+            rows.states,
+            stays,
+            &self.dues,
+            i,
+            m,
+            clock,
+        );
+        if let Timing::InTime = judged {
+            return precedence_marks::row_in_order(rows.states, &self.marks, i, m);
         }
-        i = next_shorter(joint, chains, below, i + 1, limit);
+        false
     }
-    i
+
+    // The first row from `start` on that costs less than `below`, is left in time and keeps every pair, or their number. The index jumps from one that costs less to the next, so this is no `for`.
+    fn first_due(
+        &self,
+        rows: &ListedRows<'_>,
+        stays: &[u64; DUE_PLACES],
+        m: usize,
+        clock: u64,
+        below: u64,
+        start: usize,
+    ) -> usize
+        requires { DueRows self.now.joint rows.now.states.now rows.now.chains.now stays.now self.now.dues self.now.marks m clock below start rows.now.count }
+        ensures { FirstDue self.now.joint rows.now.states.now rows.now.chains.now stays.now self.now.dues self.now.marks m clock below rows.now.count result }
+    {
+        let mut i = start;
+        while i < rows.count {
+            if self.row_kept(rows, stays, i, m, clock) {
+                return i;
+            }
+            i = self.next_shorter(rows, below, i + 1);
+        }
+        i
+    }
+
+    // The first row from `shorter` on that costs less than `below` and keeps every pair, or their number; where there are no pairs, `shorter` itself. The index jumps here too.
+    fn first_ordered(
+        &self,
+        rows: &ListedRows<'_>,
+        paired: bool,
+        m: usize,
+        below: u64,
+        shorter: usize,
+    ) -> usize
+        requires { OrderRows self.now.joint rows.now.states.now rows.now.chains.now self.now.marks m below shorter rows.now.count }
+        ensures { FirstOrdered self.now.joint rows.now.states.now rows.now.chains.now self.now.marks m below rows.now.count result }
+    {
+        if !paired {
+            return shorter;
+        }
+        let mut i = shorter;
+        while i < rows.count {
+            if precedence_marks::row_in_order(rows.states, &self.marks, i, m) {
+                return i;
+            }
+            i = self.next_shorter(rows, below, i + 1);
+        }
+        i
+    }
 }
 
 // What a candidate must cost less than: what stands, and so much less that the tail is on time.
@@ -134,71 +136,70 @@ fn late_behind(lateness: &[u64; CUT_PLACES], cuts: &[usize]) -> u64
     lateness[c]
 }
 
-// The first of the first `limit` patterns on the cut set that improves the route, or `limit`. Pairs are looked at only where a pattern gains enough, deadlines where
+// The first of the listed patterns on the cut set that improves the route, or their number. Pairs are looked at only where a pattern gains enough, deadlines where
 // it keeps them as well; before `since` no tail keeps its pairs.
 pub fn first_gain(
-    locations: usize,
-    legs: &[u32],
-    latest: &[u32],
-    service: &[u32],
-    depot: u32,
-    end: u32,
-    pairs: &[u32],
-    members: &[u64],
-    route: &[u32],
-    forward: &[u64; STOPS],
-    backward: &[u64; STOPS],
-    stayed: &[u64; CUT_PLACES],
+    round: &Round<'_, '_>,
     cuts: &[usize],
-    rows: &[u8; ROW_BYTES],
-    chains: &[u8; CHAIN_BYTES],
-    lateness: &[u64; CUT_PLACES],
-    since: usize,
-    entries: &[u32; STATES],
-    exits: &[u32; STATES],
-    inside: &[u64; STATES],
-    joint: &mut [u64; CELLS],
-    dues: &mut [u64; DUE_PLACES],
-    held: &mut [u64; MARK_PLACES],
-    limit: usize,
+    rows: &ListedRows<'_>,
+    ends: &EndStops,
+    held: &mut Held,
 ) -> usize
-    requires { Findable (trip locations legs.now latest.now service.now depot end pairs.now) members.now route.now forward.now backward.now stayed.now cuts.now rows.now chains.now lateness.now since entries.now exits.now inside.now joint.old dues.old held.old limit }
-    ensures { Found (trip locations legs.now latest.now service.now depot end pairs.now) members.now route.now cuts.now rows.now limit result joint.new dues.new held.new }
+    requires { GainAsked round.now cuts.now rows.now ends.now held.old }
+    ensures { FoundAt round.now cuts.now rows.now.states.now rows.now.count result held.new }
 {
-    if cuts[cuts.len() - 1] < since {
-        return limit;
+    let lent = &round.lent;
+    let sums = round.sums;
+    if cuts[cuts.len() - 1] < round.since {
+        return rows.count;
     }
     scan_reach::reach_joint(
-        locations, legs, depot, end, route, forward, backward, cuts, entries, exits, inside, joint,
+        lent.locations,
+        lent.legs,
+        lent.depot,
+        lent.end,
+        round.route,
+        &sums.forward,
+        &sums.backward,
+        cuts,
+        &ends.entries,
+        &ends.exits,
+        &ends.inside,
+        &mut held.joint,
     );
-    let standing = scan_joints::standing_cost(joint, cuts.len());
-    let below = threshold(standing, late_behind(lateness, cuts));
-    let shorter = next_shorter(joint, chains, below, 0, limit);
-    if shorter == limit {
-        return limit;
+    let standing = scan_joints::standing_cost(&held.joint, cuts.len());
+    let below = threshold(standing, late_behind(&sums.lateness, cuts));
+    let shorter = held.next_shorter(rows, below, 0);
+    if shorter == rows.count {
+        return rows.count;
     }
-    precedence_marks::mark_states(members, route, cuts, held);
+    precedence_marks::mark_states(lent.members, round.route, cuts, &mut held.marks);
     let m = cuts.len() - 1;
-    let ordered = first_ordered(
-        joint,
-        rows,
-        chains,
-        held,
-        members.len() != 0,
-        m,
-        below,
-        shorter,
-        limit,
-    );
-    if ordered == limit {
-        return limit;
+    let ordered = held.first_ordered(rows, lent.members.len() != 0, m, below, shorter);
+    if ordered == rows.count {
+        return rows.count;
     }
     let mut stays = [0u64; DUE_PLACES];
     time_states(
-        locations, legs, latest, service, route, backward, stayed, cuts, dues, &mut stays,
+        lent.locations,
+        lent.legs,
+        lent.latest,
+        lent.service,
+        round.route,
+        &sums.backward,
+        &sums.stayed,
+        cuts,
+        &mut held.dues,
+        &mut stays,
     );
-    let clock = deadline_dues::head_clock(locations, legs, depot, route, forward, stayed, cuts);
-    first_due(
-        joint, rows, chains, &stays, dues, held, m, clock, below, ordered, limit,
-    )
+    let clock = deadline_dues::head_clock(
+        lent.locations,
+        lent.legs,
+        lent.depot,
+        round.route,
+        &sums.forward,
+        &sums.stayed,
+        cuts,
+    );
+    held.first_due(rows, &stays, m, clock, below, ordered)
 }

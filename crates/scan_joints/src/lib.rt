@@ -30,6 +30,14 @@ pub const WIDTH: usize = 16;
 
 pub const CELLS: usize = 10 * WIDTH;
 
+// Where each state is entered and left, and the legs inside it.
+#[derive(Drop)]
+pub struct EndStops {
+    pub entries: [u32; STATES],
+    pub exits: [u32; STATES],
+    pub inside: [u64; STATES],
+}
+
 // Two stops as s and s + 1.
 fn put_two(ends: &mut [u32; STATES], s: usize, first: u32, second: u32)
     requires { (length ends.old ≡ 8) × (s + 1 < 8) }
@@ -75,8 +83,7 @@ pub fn fill_ends(
     requires { EndsFillable route.now forward.now backward.now cuts.now entries.old exits.old inside.old }
     ensures { StateEnds route.now forward.now backward.now cuts.now (state_count (length cuts.now)) entries.new exits.new inside.new }
 {
-    let mut i = 1;
-    while i < cuts.len() {
+    for i in 1..cuts.len() {
         let s = 2 * i - 2;
         put_ends(
             route,
@@ -89,7 +96,6 @@ pub fn fill_ends(
             exits,
             inside,
         );
-        i += 1;
     }
 }
 
@@ -108,10 +114,8 @@ pub fn fill_row(
     ensures { RowFilled locations legs.now from count entries.now inside.now a table.old table.new }
 {
     let start = WIDTH * a;
-    let mut b = 0;
-    while b < count {
+    for b in 0..count {
         table[start + b] = costs::route_distance(locations, legs, from, entries[b]) + inside[b];
-        b += 1;
     }
 }
 

@@ -2,16 +2,24 @@
 #![tactic(auto)]
 
 ghost use Rattle.std.specs.Prelude.{◌≡◌};
-ghost use Rattle.theory.specs.Tables.{problem, pattern_rows, trip};
+ghost use Rattle.theory.specs.Tables.{problem, pattern_rows};
+ghost use Rattle.scan_round.specs.Lending.{trip_of};
 ghost use Rattle.scan_loop.specs.Loop.{Spendable, spent_at, ScanAsked, Scans};
 
+use deadline_dues::DUE_PLACES;
+use precedence_marks::MARK_PLACES;
 use scan_chains::CHAIN_BYTES;
+use scan_cut_set::Held;
 use scan_joints::{CELLS, ROW_BYTES};
+use scan_open::{HAND_PLACES, Hand};
+use scan_rest::Rows;
+use scan_round::{Lent, Round, Sums};
+use scan_stretch::Work;
 use scan_taking::Limits;
 use theory::{CUT_PLACES, STOPS};
 
 // What the scan counted when it ended, and whether the route then keeps every deadline; and the place of the next candidate, or the first place where it has finished.
-#[derive(Clone, Copy)]
+#[derive(Clone, Copy, Debug, PartialEq, Eq)]
 pub struct Scanned {
     pub finished: bool,
     pub examined: u64,
@@ -52,14 +60,7 @@ fn spent(
 pub fn scan_cut_sets(
     k: usize,
     allowance: u64,
-    locations: usize,
-    legs: &[u32],
-    latest: &[u32],
-    service: &[u32],
-    depot: u32,
-    end: u32,
-    pairs: &[u32],
-    members: &[u64],
+    lent: &Lent<'_>,
     orders: &[u8],
     masks: &[u8],
     start: [usize; 5],
@@ -68,66 +69,56 @@ pub fn scan_cut_sets(
     signs: &mut [u16],
     visits: &mut [u64],
 ) -> Scanned
-    requires { ScanAsked k (trip locations legs.now latest.now service.now depot end pairs.now) orders.now masks.now members.now start from route.old signs.old visits.old }
-    ensures { Scans (problem (trip locations legs.now latest.now service.now depot end pairs.now)) (pattern_rows k orders.now masks.now) k allowance start from route.old result route.new }
+    requires { ScanAsked k (trip_of lent.now) orders.now masks.now lent.now.members.now start from route.old signs.old visits.old }
+    ensures { Scans (problem (trip_of lent.now)) (pattern_rows k orders.now masks.now) k allowance start from route.old result route.new }
 {
-    let mut forward = [0u64; STOPS];
-    let mut backward = [0u64; STOPS];
-    let mut joint = [0u64; CELLS];
-    let mut shared = [0u64; CELLS];
-    let mut stayed = [0u64; CUT_PLACES];
-    let mut lateness = [0u64; CUT_PLACES];
-    let mut limits = scan_taking::measure(
-        locations,
-        legs,
-        latest,
-        service,
-        depot,
-        members,
-        &route[..],
-        &mut forward,
-        &mut backward,
-        &mut stayed,
-        &mut lateness,
-    );
+    let mut sums = Sums {
+        forward: [0; STOPS],
+        backward: [0; STOPS],
+        stayed: [0; CUT_PLACES],
+        lateness: [0; CUT_PLACES],
+    };
+    let mut work = Work {
+        held: Held {
+            joint: [0; CELLS],
+            dues: [0; DUE_PLACES],
+            marks: [0; MARK_PLACES],
+        },
+        shared: [0; CELLS],
+        hand: Hand {
+            rows: [0; ROW_BYTES],
+            chains: [0; CHAIN_BYTES],
+            kept: [0; HAND_PLACES],
+        },
+    };
+    let mut rows = Rows {
+        states: [0; ROW_BYTES],
+        chains: [0; CHAIN_BYTES],
+    };
+    let mut limits = scan_taking::measure(lent, &route[..], &mut sums);
     let mut cut = start;
     let mut index = from;
-    let mut rows = [0u8; ROW_BYTES];
-    let mut chains = [0u8; CHAIN_BYTES];
-    let mut hand = [0u8; ROW_BYTES];
-    let mut hand_chains = [0u8; CHAIN_BYTES];
     let mut filled = masks.len();
     let mut examined = 0u64;
     let mut accepted = 0u64;
     loop {
         let last = cut[k - 1];
+        let round = Round {
+            lent: *lent,
+            route: &route[..],
+            sums: &sums,
+            heads: limits.heads,
+            since: limits.since,
+        };
         let stretch = scan_rest::scan_part(
-            locations,
-            legs,
-            latest,
-            service,
-            depot,
-            end,
-            pairs,
-            members,
+            &round,
             orders,
             masks,
             &mut rows,
-            &mut chains,
             signs,
             index,
-            &route[..],
-            &forward,
-            &backward,
-            &stayed,
-            limits.heads,
-            &lateness,
-            limits.since,
             &mut cut[..k],
-            &mut joint,
-            &mut shared,
-            &mut hand,
-            &mut hand_chains,
+            &mut work,
             visits,
             filled,
             allowance - examined,
@@ -136,18 +127,13 @@ pub fn scan_cut_sets(
         examined += stretch.examined;
         if stretch.gains {
             scan_taking::take_gain(
-                locations,
-                legs,
-                service,
+                lent,
                 &cut[..k],
                 orders,
                 masks,
                 stretch.pattern,
                 route,
-                &mut forward,
-                &mut backward,
-                &mut stayed,
-                &mut lateness,
+                &mut sums,
             );
             precedence_visits::forget_visits(visits);
             let heads = route.len() + 1;
@@ -166,7 +152,7 @@ pub fn scan_cut_sets(
                     masks.len(),
                     examined,
                     accepted,
-                    lateness[0] == 0,
+                    sums.lateness[0] == 0,
                 );
             }
             if !cut_step::next_cut_set(&mut cut[..k], route.len()) {
@@ -174,7 +160,7 @@ pub fn scan_cut_sets(
                     finished: true,
                     examined,
                     accepted,
-                    kept: lateness[0] == 0,
+                    kept: sums.lateness[0] == 0,
                     cuts: [0, 1, 2, 3, 4],
                     index: 0,
                 };

@@ -50,12 +50,10 @@ fn move_rows(
     requires { RowsMovable locations legs.now exits.now front back tail on turned p joint.old }
     ensures { RowsMoved locations legs.now exits.now front back tail on turned p joint.old joint.new }
 {
-    let mut a = 0;
-    while a < p {
+    for a in 0..p {
         move_row(
             locations, legs, exits[a], front, back, tail, on, turned, p, a, joint,
         );
-        a += 1;
     }
 }
 
@@ -72,10 +70,8 @@ fn fix_rows(
     requires { RowsFixable locations legs.now entries.now exits.now inside.now p joint.old }
     ensures { RowsFixed locations legs.now entries.now exits.now inside.now p joint.new }
 {
-    let mut a = 0;
-    while a < p {
+    for a in 0..p {
         scan_joints::fill_row(locations, legs, exits[a], p, entries, inside, a, joint);
-        a += 1;
     }
 }
 

@@ -1,2 +1,3 @@
 mod Listing
 mod Parts
+pub mod Given

@@ -2,14 +2,22 @@
 #![tactic(auto)]
 
 ghost use Rattle.std.specs.Prelude.{◌≡◌, true, ◌≤◌, length};
-ghost use Rattle.theory.specs.Tables.{problem, pattern_rows, trip};
 ghost use Rattle.scan_chains.specs.Chains.{Chained};
-ghost use Rattle.scan_rest.specs.Rest.{RowsFrom, RowsKeepable, RowsKept, SignsKeepable, SignsFit, ChainsKeepable, PartAllowed, RestEnded, PartScannable, PartScanned, PartLeft};
+ghost use Rattle.scan_rest.specs.Rest.{RowsFrom, RowsKeepable, RowsKept, SignsKeepable, SignsFit, ChainsKeepable, PartAllowed, RestEnded};
+ghost use Rattle.scan_rest.specs.Asked.{PartAsked, PartScannedAt, PartLeftAt};
 
-use scan_chains::CHAIN_BYTES;
-use scan_joints::{CELLS, ROW_BYTES};
+use scan_chains::{CHAIN_BYTES, ListedRows};
+use scan_joints::ROW_BYTES;
+use scan_round::Round;
 use scan_step::Stretch;
-use theory::{CUT_PLACES, STOPS};
+use scan_stretch::Work;
+
+// The rows of the patterns from one on, with the places that they add up.
+#[derive(Drop)]
+pub struct Rows {
+    pub states: [u8; ROW_BYTES],
+    pub chains: [u8; CHAIN_BYTES],
+}
 
 // The rows of the patterns from an index on, unless they were filled from there.
 fn keep_rows(
@@ -100,71 +108,39 @@ fn rest_end(index: usize, patterns: usize, stretch: Stretch) -> Stretch
 
 // A stretch from a cut set on, or from one of its patterns on the rest of that cut set, which is left at hand. `filled` is where the rows were filled from.
 pub fn scan_part(
-    locations: usize,
-    legs: &[u32],
-    latest: &[u32],
-    service: &[u32],
-    depot: u32,
-    end: u32,
-    pairs: &[u32],
-    members: &[u64],
+    round: &Round<'_, '_>,
     orders: &[u8],
     masks: &[u8],
-    rows: &mut [u8; ROW_BYTES],
-    chains: &mut [u8; CHAIN_BYTES],
+    rows: &mut Rows,
     signs: &mut [u16],
     index: usize,
-    route: &[u32],
-    forward: &[u64; STOPS],
-    backward: &[u64; STOPS],
-    stayed: &[u64; CUT_PLACES],
-    heads: usize,
-    lateness: &[u64; CUT_PLACES],
-    since: usize,
     cuts: &mut [usize],
-    joint: &mut [u64; CELLS],
-    shared: &mut [u64; CELLS],
-    hand: &mut [u8; ROW_BYTES],
-    hand_chains: &mut [u8; CHAIN_BYTES],
+    work: &mut Work,
     visits: &mut [u64],
     filled: usize,
     left: u64,
 ) -> Stretch
-    requires { PartScannable (trip locations legs.now latest.now service.now depot end pairs.now) members.now rows.old chains.old signs.old orders.now masks.now index route.now forward.now backward.now stayed.now heads lateness.now since cuts.old joint.old shared.old hand.old hand_chains.old visits.old filled }
-    ensures { PartScanned (problem (trip locations legs.now latest.now service.now depot end pairs.now)) (pattern_rows (length cuts.old) orders.now masks.now) route.now cuts.old index left result cuts.new joint.new × PartLeft (problem (trip locations legs.now latest.now service.now depot end pairs.now)) members.now orders.now masks.now index route.now (length cuts.old) rows.new chains.new signs.new shared.new hand.new hand_chains.new visits.new }
+    requires { PartAsked round.now orders.now masks.now rows.old signs.old index cuts.old work.old visits.old filled }
+    ensures { PartScannedAt round.now orders.now masks.now cuts.old index left result cuts.new work.new × PartLeftAt round.now orders.now masks.now index (length cuts.old) rows.new signs.new work.new visits.new }
 {
-    keep_rows(cuts.len(), orders, masks, filled, index, rows);
+    keep_rows(cuts.len(), orders, masks, filled, index, &mut rows.states);
     let patterns = masks.len() - index;
-    keep_signs(rows, patterns, filled, index, signs);
-    keep_chains(rows, patterns, filled, index, chains);
+    keep_signs(&rows.states, patterns, filled, index, signs);
+    keep_chains(&rows.states, patterns, filled, index, &mut rows.chains);
     let allowed = part_allowed(index, patterns, left);
     let last = cuts.len() - 1;
     let here = cuts[last];
+    let listed = ListedRows {
+        states: &rows.states,
+        chains: &rows.chains,
+        count: patterns,
+    };
     let stretch = scan_stretch::scan_stretch(
-        locations,
-        legs,
-        latest,
-        service,
-        depot,
-        end,
-        pairs,
-        members,
-        rows,
-        chains,
-        patterns,
+        round,
+        &listed,
         &signs[..],
-        route,
-        forward,
-        backward,
-        stayed,
-        heads,
-        lateness,
-        since,
         cuts,
-        joint,
-        shared,
-        hand,
-        hand_chains,
+        work,
         visits,
         allowed,
     );

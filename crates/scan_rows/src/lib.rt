@@ -49,11 +49,9 @@ pub fn fill_rows(k: usize, orders: &[u8], masks: &[u8], rows: &mut [u8; ROW_BYTE
     ensures { StateRows k orders.now masks.now (length masks.now) rows.new }
 {
     let width = k + 1;
-    let mut i = 0;
-    while i < masks.len() {
+    for i in 0..masks.len() {
         let at = i * width;
         let end = at + width;
         put_row(k, &orders[at..end], masks[i], i, rows);
-        i += 1;
     }
 }

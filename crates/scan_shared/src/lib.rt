@@ -19,6 +19,21 @@ pub const STANDING: usize = 20;
 
 pub const LOW_PLACES: usize = 21;
 
+// The signs of the rows, or none, and what is blocked: a row that has a sign of it is closed.
+#[derive(Clone, Copy)]
+pub struct Closing<'r> {
+    pub signs: &'r [u16],
+    pub blocked: u16,
+}
+
+// The least costs, places that hold nothing, and whether a row is open that the least costs are of.
+#[derive(Drop)]
+pub struct LeastCosts {
+    pub low: [u64; LOW_PLACES],
+    pub zero: [u64; LOW_PLACES],
+    pub some: bool,
+}
+
 // Lowers the least cost of class c.
 fn lower(low: &mut [u64; LOW_PLACES], c: usize, cost: u64)
     requires { (length low.old ≡ 21) × (c < 21) }
@@ -77,10 +92,8 @@ fn clear_low(low: &mut [u64; LOW_PLACES])
     requires { length low.old ≡ 21 }
     ensures { (length low.new ≡ 21) × ((c : ℕ) → get_or low.new c 0 ≤ 2 ^ 40) }
 {
-    let mut c = 0;
-    while c < LOW_PLACES {
+    for c in 0..LOW_PLACES {
         low[c] = 1099511627776;
-        c += 1;
     }
 }
 
@@ -95,11 +108,9 @@ fn fill_low(
     requires { LowFillable rows.now count p table.now low.old }
     ensures { LowOf all_open rows.now count p table.now low.new }
 {
-    let mut i = 0;
-    while i < count {
+    for i in 0..count {
         let class = row_class(rows, i, p);
         lower(low, class, scan_joints::chain4(table, rows, i));
-        i += 1;
     }
 }
 
@@ -139,10 +150,8 @@ fn fill_open(
     ensures { OpenLow signs.now blocked rows.now count p table.now low.new result }
 {
     let mut some = false;
-    let mut i = 0;
-    while i < count {
+    for i in 0..count {
         some = lower_row(rows, i, p, table, signs, blocked, some, low);
-        i += 1;
     }
     some
 }
@@ -200,10 +209,8 @@ fn fill_fixed_rows(
     requires { Fixable locations legs.now p entries.now exits.now inside.now table.old }
     ensures { FixedRows locations legs.now p entries.now exits.now inside.now p table.new }
 {
-    let mut a = 0;
-    while a < p {
+    for a in 0..p {
         scan_joints::fill_row(locations, legs, exits[a], p + 1, entries, inside, a, table);
-        a += 1;
     }
 }
 

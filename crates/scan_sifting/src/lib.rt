@@ -43,10 +43,8 @@ pub fn sift_rows(
     ensures { (result ≡ length (opens (open_by signs.now blocked) patterns)) × Sifted (open_by signs.now blocked) rows.now patterns hand.new }
 {
     let mut count = 0;
-    let mut i = 0;
-    while i < patterns {
+    for i in 0..patterns {
         count = put_open(rows, i, signs, blocked, count, hand);
-        i += 1;
     }
     count
 }
@@ -68,10 +66,8 @@ pub fn open_before(signs: &[u16], blocked: u16, limit: usize) -> usize
     ensures { result ≡ length (opens (open_by signs.now blocked) limit) }
 {
     let mut count = 0;
-    let mut i = 0;
-    while i < limit {
+    for i in 0..limit {
         count = one_more(signs, blocked, i, count);
-        i += 1;
     }
     count
 }
@@ -83,13 +79,11 @@ pub fn open_row(signs: &[u16], blocked: u16, n: usize, limit: usize) -> usize
     ensures { result ≡ get_or (opens (open_by signs.now blocked) limit) n 0 }
 {
     let mut count = 0;
-    let mut i = 0;
-    while i < limit {
+    for i in 0..limit {
         count = one_more(signs, blocked, i, count);
         if n < count {
             return i;
         }
-        i += 1;
     }
-    i
+    limit
 }

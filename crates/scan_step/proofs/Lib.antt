@@ -3,3 +3,4 @@ pub mod LastCut
 mod Closing
 mod Ends
 pub mod Steps
+pub mod Given

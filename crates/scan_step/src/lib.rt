@@ -2,20 +2,19 @@
 #![tactic(auto)]
 
 ghost use Rattle.std.specs.Prelude.{◌≡◌, min, ◌*◌, ◌≤◌};
-ghost use Rattle.theory.specs.Tables.{trip};
 ghost use Rattle.scan_bound.specs.Tests.{Nextable};
-ghost use Rattle.scan_step.specs.Stepping.{idle_end, BlockAsked, BlockedAt, NextHit, Trying, Tried, Steppable, Stepped};
+ghost use Rattle.scan_step.specs.Stepping.{idle_end, BlockAsked, BlockedAt, NextHit};
+ghost use Rattle.scan_step.specs.Asked.{TryAsked, TriedAt, StepAsked, SteppedAt};
 
-use deadline_dues::DUE_PLACES;
-use precedence_marks::MARK_PLACES;
-use scan_chains::CHAIN_BYTES;
-use scan_joints::{CELLS, ROW_BYTES, STATES};
-use scan_open::HAND_PLACES;
-use scan_shared::LOW_PLACES;
-use theory::{CUT_PLACES, STOPS};
+use scan_chains::ListedRows;
+use scan_cut_set::Held;
+use scan_joints::EndStops;
+use scan_open::Hand;
+use scan_round::Round;
+use scan_shared::{Closing, LeastCosts};
 
 // How a stretch ended: at an improving candidate, whose pattern is told and whose cuts are at hand; or through it; or else with the candidates allowed. Those before were examined.
-#[derive(Clone, Copy)]
+#[derive(Clone, Copy, Debug, PartialEq, Eq)]
 pub struct Stretch {
     pub examined: u64,
     pub gains: bool,
@@ -24,7 +23,7 @@ pub struct Stretch {
 }
 
 // What a step came to: the stretch has ended; or the next last cut is at hand and so many candidates before it are examined; or the same, and rows are closed there that were open.
-#[derive(Clone, Copy)]
+#[derive(Clone, Copy, Debug, PartialEq, Eq)]
 pub enum Step {
     Done(Stretch),
     On(u64),
@@ -85,72 +84,28 @@ pub fn blocked_now(
 
 // The patterns at the last cut at hand, and with none the last cut behind it.
 fn try_cut_set(
-    locations: usize,
-    legs: &[u32],
-    latest: &[u32],
-    service: &[u32],
-    depot: u32,
-    end: u32,
-    pairs: &[u32],
-    members: &[u64],
-    rows: &[u8; ROW_BYTES],
-    chains: &[u8; CHAIN_BYTES],
-    patterns: usize,
-    signs: &[u16],
-    blocked: u16,
-    route: &[u32],
-    forward: &[u64; STOPS],
-    backward: &[u64; STOPS],
-    stayed: &[u64; CUT_PLACES],
-    lateness: &[u64; CUT_PLACES],
-    since: usize,
+    round: &Round<'_, '_>,
+    rows: &ListedRows<'_>,
+    closing: &Closing<'_>,
     cuts: &mut [usize],
-    entries: &[u32; STATES],
-    exits: &[u32; STATES],
-    inside: &[u64; STATES],
-    joint: &mut [u64; CELLS],
-    dues: &mut [u64; DUE_PLACES],
-    held: &mut [u64; MARK_PLACES],
-    hand: &mut [u8; ROW_BYTES],
-    hand_chains: &mut [u8; CHAIN_BYTES],
-    kept: &mut [usize; HAND_PLACES],
+    ends: &EndStops,
+    held: &mut Held,
+    hand: &mut Hand,
     examined: u64,
     left: u64,
 ) -> Step
-    requires { Trying (trip locations legs.now latest.now service.now depot end pairs.now) members.now rows.now chains.now patterns signs.now blocked route.now forward.now backward.now stayed.now lateness.now since cuts.old entries.now exits.now inside.now joint.old dues.old held.old hand.old hand_chains.old kept.old examined left }
-    ensures { Tried (trip locations legs.now latest.now service.now depot end pairs.now) members.now rows.now patterns signs.now route.now cuts.old joint.old dues.old held.old examined left result cuts.new joint.new dues.new held.new hand.new hand_chains.new kept.new }
+    requires { TryAsked round.now rows.now closing.now cuts.old ends.now held.old hand.old examined left }
+    ensures { TriedAt round.now rows.now closing.now cuts.old held.old examined left result cuts.new held.new hand.new }
 {
-    let limit = still_allowed(patterns, left - examined);
+    let limit = still_allowed(rows.count, left - examined);
     let found = scan_open::first_open_gain(
-        locations,
-        legs,
-        latest,
-        service,
-        depot,
-        end,
-        pairs,
-        members,
-        route,
-        forward,
-        backward,
-        stayed,
+        round,
         &cuts[..],
         rows,
-        chains,
-        patterns,
-        signs,
-        blocked,
-        lateness,
-        since,
-        entries,
-        exits,
-        inside,
-        joint,
-        dues,
+        closing,
+        ends,
         held,
         hand,
-        hand_chains,
-        kept,
         limit,
     );
     let reached = examined + found as u64;
@@ -162,12 +117,12 @@ fn try_cut_set(
             pattern: found,
         });
     }
-    if limit < patterns {
+    if limit < rows.count {
         return Step::Done(without_gain(reached, false));
     }
     let last = cuts.len() - 1;
     let here = cuts[last];
-    if here == route.len() {
+    if here == round.route.len() {
         return Step::Done(without_gain(reached, true));
     }
     cuts[last] = here + 1;
@@ -175,137 +130,72 @@ fn try_cut_set(
 }
 
 // The first last cut, from the one at hand on, that may hold a gain, or one beyond the route: that one where no row is open.
-fn next_hit(
-    locations: usize,
-    legs: &[u32],
-    depot: u32,
-    end: u32,
-    route: &[u32],
-    forward: &[u64; STOPS],
-    backward: &[u64; STOPS],
-    cuts: &[usize],
-    entries: &[u32; STATES],
-    exits: &[u32; STATES],
-    inside: &[u64; STATES],
-    low: &[u64; LOW_PLACES],
-    zero: &[u64; LOW_PLACES],
-    some: bool,
-) -> usize
-    requires { Nextable locations legs.now depot end route.now forward.now backward.now cuts.now entries.now exits.now inside.now low.now zero.now }
-    ensures { NextHit locations legs.now depot end route.now cuts.now entries.now exits.now inside.now low.now some result }
+fn next_hit(round: &Round<'_, '_>, cuts: &[usize], ends: &EndStops, least: &LeastCosts) -> usize
+    requires { Nextable round.now.lent.locations round.now.lent.legs.now round.now.lent.depot round.now.lent.end round.now.route.now round.now.sums.now.forward round.now.sums.now.backward cuts.now ends.now.entries ends.now.exits ends.now.inside least.now.low least.now.zero }
+    ensures { NextHit round.now.lent.locations round.now.lent.legs.now round.now.lent.depot round.now.lent.end round.now.route.now cuts.now ends.now.entries ends.now.exits ends.now.inside least.now.low least.now.some result }
 {
+    let lent = &round.lent;
+    let sums = round.sums;
+    let some = least.some;
     if some {
         return scan_bound::next_promising(
-            locations, legs, depot, end, route, forward, backward, cuts, entries, exits, inside,
-            low, zero,
+            lent.locations,
+            lent.legs,
+            lent.depot,
+            lent.end,
+            round.route,
+            &sums.forward,
+            &sums.backward,
+            cuts,
+            &ends.entries,
+            &ends.exits,
+            &ends.inside,
+            &least.low,
+            &least.zero,
         );
     }
-    route.len() + 1
+    round.route.len() + 1
 }
 
 // Over the last cuts that can hold no gain to the first that is promising, which is tried, unless rows are closed there that were open: then their least costs are of no use any more.
 pub fn take_step(
-    locations: usize,
-    legs: &[u32],
-    latest: &[u32],
-    service: &[u32],
-    depot: u32,
-    end: u32,
-    pairs: &[u32],
-    members: &[u64],
-    rows: &[u8; ROW_BYTES],
-    chains: &[u8; CHAIN_BYTES],
-    patterns: usize,
-    signs: &[u16],
-    blocked: u16,
-    some: bool,
-    route: &[u32],
-    forward: &[u64; STOPS],
-    backward: &[u64; STOPS],
-    stayed: &[u64; CUT_PLACES],
-    lateness: &[u64; CUT_PLACES],
-    since: usize,
+    round: &Round<'_, '_>,
+    rows: &ListedRows<'_>,
+    closing: &Closing<'_>,
     cuts: &mut [usize],
-    entries: &[u32; STATES],
-    exits: &[u32; STATES],
-    inside: &[u64; STATES],
-    low: &[u64; LOW_PLACES],
-    zero: &[u64; LOW_PLACES],
-    joint: &mut [u64; CELLS],
-    dues: &mut [u64; DUE_PLACES],
-    held: &mut [u64; MARK_PLACES],
-    hand: &mut [u8; ROW_BYTES],
-    hand_chains: &mut [u8; CHAIN_BYTES],
-    kept: &mut [usize; HAND_PLACES],
+    ends: &EndStops,
+    least: &LeastCosts,
+    held: &mut Held,
+    hand: &mut Hand,
     visits: &mut [u64],
     examined: u64,
     left: u64,
 ) -> Step
-    requires { Steppable (trip locations legs.now latest.now service.now depot end pairs.now) members.now rows.now chains.now patterns signs.now blocked some route.now forward.now backward.now stayed.now lateness.now since cuts.old entries.now exits.now inside.now low.now zero.now joint.old dues.old held.old hand.old hand_chains.old kept.old visits.old examined left }
-    ensures { Stepped (trip locations legs.now latest.now service.now depot end pairs.now) members.now rows.now patterns signs.now blocked route.now cuts.old joint.old dues.old held.old examined left result cuts.new joint.new dues.new held.new hand.new hand_chains.new kept.new visits.new }
+    requires { StepAsked round.now rows.now closing.now cuts.old ends.now least.now held.old hand.old visits.old examined left }
+    ensures { SteppedAt round.now rows.now closing.now cuts.old held.old examined left result cuts.new held.new hand.new visits.new }
 {
     let last = cuts.len() - 1;
-    let hit = next_hit(
-        locations,
-        legs,
-        depot,
-        end,
-        route,
-        forward,
-        backward,
-        &cuts[..],
-        entries,
-        exits,
-        inside,
-        low,
-        zero,
-        some,
-    );
-    let over = passed_patterns(hit - cuts[last], patterns);
+    let hit = next_hit(round, &cuts[..], ends, least);
+    let over = passed_patterns(hit - cuts[last], rows.count);
     if left - examined < over {
         return Step::Done(without_gain(left, false));
     }
     let reached = examined + over;
-    if route.len() < hit {
-        cuts[last] = route.len();
+    if round.route.len() < hit {
+        cuts[last] = round.route.len();
         return Step::Done(without_gain(reached, true));
     }
     cuts[last] = hit;
-    let closed = blocked_now(members, route, since, &cuts[..], signs, visits);
-    if blocked < closed {
+    let closed = blocked_now(
+        round.lent.members,
+        round.route,
+        round.since,
+        &cuts[..],
+        closing.signs,
+        visits,
+    );
+    if closing.blocked < closed {
         return Step::Closed(reached, closed);
     }
-    try_cut_set(
-        locations,
-        legs,
-        latest,
-        service,
-        depot,
-        end,
-        pairs,
-        members,
-        rows,
-        chains,
-        patterns,
-        signs,
-        blocked,
-        route,
-        forward,
-        backward,
-        stayed,
-        lateness,
-        since,
-        cuts,
-        entries,
-        exits,
-        inside,
-        joint,
-        dues,
-        held,
-        hand,
-        hand_chains,
-        kept,
-        reached,
-        left,
-    )
+    try_cut_set(round, rows, closing, cuts, ends, held, hand, reached, left)
 }

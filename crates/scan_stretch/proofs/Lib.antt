@@ -1,3 +1,4 @@
 mod Opening
 mod Stretching
 pub mod Hopeless
+pub mod Given

@@ -2,19 +2,28 @@
 #![tactic(auto)]
 
 ghost use Rattle.std.specs.Prelude.{◌≡◌};
-ghost use Rattle.theory.specs.Tables.{problem, trip};
 ghost use Rattle.scan_shared.specs.Filling.{Sharing};
-ghost use Rattle.scan_stretch.specs.Stretch.{Passable, Passed, Openable, Scannable, Stretchable, Stretched};
+ghost use Rattle.scan_stretch.specs.Stretch.{Passable, Passed, Openable};
+ghost use Rattle.scan_stretch.specs.Asked.{LastCutsAsked, StretchAsked, StretchedAt};
 
 use deadline_dues::DUE_PLACES;
 use precedence_marks::MARK_PLACES;
-use scan_chains::CHAIN_BYTES;
-use scan_joints::{CELLS, ROW_BYTES, STATES};
-use scan_open::HAND_PLACES;
+use scan_chains::ListedRows;
+use scan_cut_set::Held;
+use scan_joints::{CELLS, EndStops, STATES};
+use scan_open::{HAND_PLACES, Hand};
 use scan_reach::HELD;
-use scan_shared::LOW_PLACES;
+use scan_round::Round;
+use scan_shared::{Closing, LOW_PLACES, LeastCosts};
 use scan_step::{Step, Stretch};
-use theory::{CUT_PLACES, STOPS};
+
+// What one stretch after another works in: what is held, the table that the cut sets of a stretch share, and the rows at hand.
+#[derive(Drop)]
+pub struct Work {
+    pub held: Held,
+    pub shared: [u64; CELLS],
+    pub hand: Hand,
+}
 
 // The whole stretch is passed over: none of its candidates improves the route.
 fn pass_stretch(stops: usize, patterns: usize, cuts: &mut [usize], left: u64) -> Stretch
@@ -32,44 +41,35 @@ fn pass_stretch(stops: usize, patterns: usize, cuts: &mut [usize], left: u64) ->
 
 // What the cut sets with the same first cuts share, from whichever of them: the first stands at hand while it is prepared.
 fn prepare_opened(
-    locations: usize,
-    legs: &[u32],
-    depot: u32,
-    route: &[u32],
-    forward: &[u64; STOPS],
-    backward: &[u64; STOPS],
+    round: &Round<'_, '_>,
     cuts: &mut [usize],
-    rows: &[u8; ROW_BYTES],
-    patterns: usize,
-    signs: &[u16],
-    blocked: u16,
-    entries: &mut [u32; STATES],
-    exits: &mut [u32; STATES],
-    inside: &mut [u64; STATES],
+    rows: &ListedRows<'_>,
+    closing: &Closing<'_>,
+    ends: &mut EndStops,
     low: &mut [u64; LOW_PLACES],
     shared: &mut [u64; CELLS],
 ) -> bool
-    requires { Openable locations legs.now depot route.now forward.now backward.now cuts.old rows.now patterns signs.now blocked entries.old exits.old inside.old low.old shared.old }
-    ensures { (cuts.new ≡ cuts.old) × Sharing locations legs.now depot route.now cuts.old rows.now patterns signs.now blocked entries.new exits.new inside.new low.new shared.new result }
+    requires { Openable round.now.lent.locations round.now.lent.legs.now round.now.lent.depot round.now.route.now round.now.sums.now.forward round.now.sums.now.backward cuts.old rows.now.states.now rows.now.count closing.now.signs.now closing.now.blocked ends.old.entries ends.old.exits ends.old.inside low.old shared.old }
+    ensures { (cuts.new ≡ cuts.old) × Sharing round.now.lent.locations round.now.lent.legs.now round.now.lent.depot round.now.route.now cuts.old rows.now.states.now rows.now.count closing.now.signs.now closing.now.blocked ends.new.entries ends.new.exits ends.new.inside low.new shared.new result }
 {
     let last = cuts.len() - 1;
     let here = cuts[last];
     cuts[last] = cuts[last - 1] + 1;
     let some = scan_shared::prepare(
-        locations,
-        legs,
-        depot,
-        route,
-        forward,
-        backward,
+        round.lent.locations,
+        round.lent.legs,
+        round.lent.depot,
+        round.route,
+        &round.sums.forward,
+        &round.sums.backward,
         &cuts[..],
-        rows,
-        patterns,
-        signs,
-        blocked,
-        entries,
-        exits,
-        inside,
+        rows.states,
+        rows.count,
+        closing.signs,
+        closing.blocked,
+        &mut ends.entries,
+        &mut ends.exits,
+        &mut ends.inside,
         low,
         shared,
     );
@@ -79,99 +79,63 @@ fn prepare_opened(
 
 // Last cut by last cut, behind a head that is on time and keeps its pairs; where rows are closed, with the least costs of those that are left.
 fn scan_last_cuts(
-    locations: usize,
-    legs: &[u32],
-    latest: &[u32],
-    service: &[u32],
-    depot: u32,
-    end: u32,
-    pairs: &[u32],
-    members: &[u64],
-    rows: &[u8; ROW_BYTES],
-    chains: &[u8; CHAIN_BYTES],
-    patterns: usize,
+    round: &Round<'_, '_>,
+    rows: &ListedRows<'_>,
     signs: &[u16],
-    route: &[u32],
-    forward: &[u64; STOPS],
-    backward: &[u64; STOPS],
-    stayed: &[u64; CUT_PLACES],
-    lateness: &[u64; CUT_PLACES],
-    since: usize,
     cuts: &mut [usize],
-    joint: &mut [u64; CELLS],
-    shared: &mut [u64; CELLS],
-    hand: &mut [u8; ROW_BYTES],
-    hand_chains: &mut [u8; CHAIN_BYTES],
+    work: &mut Work,
     visits: &mut [u64],
     left: u64,
 ) -> Stretch
-    requires { Scannable (trip locations legs.now latest.now service.now depot end pairs.now) members.now rows.now chains.now patterns signs.now route.now forward.now backward.now stayed.now lateness.now since cuts.old joint.old shared.old hand.old hand_chains.old visits.old }
-    ensures { Stretched (problem (trip locations legs.now latest.now service.now depot end pairs.now)) members.now patterns rows.now signs.now route.now cuts.old left result cuts.new joint.new shared.new hand.new hand_chains.new visits.new }
+    requires { LastCutsAsked round.now rows.now signs.now cuts.old work.old visits.old }
+    ensures { StretchedAt round.now rows.now signs.now cuts.old left result cuts.new work.new visits.new }
 {
-    let mut entries = [0u32; STATES];
-    let mut exits = [0u32; STATES];
-    let mut inside = [0u64; STATES];
-    let mut low = [0u64; LOW_PLACES];
-    let mut dues = [0u64; DUE_PLACES];
-    let mut held = [0u64; MARK_PLACES];
-    let mut kept = [0usize; HAND_PLACES];
-    let zero = [0u64; LOW_PLACES];
-    joint[HELD] = 0;
-    let mut blocked = scan_step::blocked_now(members, route, since, &cuts[..], signs, visits);
-    let mut some = prepare_opened(
-        locations,
-        legs,
-        depot,
-        route,
-        forward,
-        backward,
+    let mut ends = EndStops {
+        entries: [0; STATES],
+        exits: [0; STATES],
+        inside: [0; STATES],
+    };
+    let mut least = LeastCosts {
+        low: [0; LOW_PLACES],
+        zero: [0; LOW_PLACES],
+        some: false,
+    };
+    work.held.joint[HELD] = 0;
+    work.held.dues = [0; DUE_PLACES];
+    work.held.marks = [0; MARK_PLACES];
+    work.hand.kept = [0; HAND_PLACES];
+    let mut blocked = scan_step::blocked_now(
+        round.lent.members,
+        round.route,
+        round.since,
+        &cuts[..],
+        signs,
+        visits,
+    );
+    let first_closing = Closing { signs, blocked };
+    let some = prepare_opened(
+        round,
         cuts,
         rows,
-        patterns,
-        signs,
-        blocked,
-        &mut entries,
-        &mut exits,
-        &mut inside,
-        &mut low,
-        shared,
+        &first_closing,
+        &mut ends,
+        &mut least.low,
+        &mut work.shared,
     );
+    least.some = some;
     let p = 2 * (cuts.len() - 2);
     let mut examined = 0u64;
     loop {
+        let closing = Closing { signs, blocked };
         let step = scan_step::take_step(
-            locations,
-            legs,
-            latest,
-            service,
-            depot,
-            end,
-            pairs,
-            members,
+            round,
             rows,
-            chains,
-            patterns,
-            signs,
-            blocked,
-            some,
-            route,
-            forward,
-            backward,
-            stayed,
-            lateness,
-            since,
+            &closing,
             cuts,
-            &entries,
-            &exits,
-            &inside,
-            &low,
-            &zero,
-            joint,
-            &mut dues,
-            &mut held,
-            hand,
-            hand_chains,
-            &mut kept,
+            &ends,
+            &least,
+            &mut work.held,
+            &mut work.hand,
             visits,
             examined,
             left,
@@ -182,75 +146,37 @@ fn scan_last_cuts(
             Step::Closed(reached, closed) => {
                 examined = reached;
                 blocked = closed;
-                some = scan_shared::lower_again(
-                    rows, patterns, p, shared, signs, blocked, &mut low,
+                let open = scan_shared::lower_again(
+                    rows.states,
+                    rows.count,
+                    p,
+                    &work.shared,
+                    signs,
+                    blocked,
+                    &mut least.low,
                 );
+                least.some = open;
             }
         }
     }
 }
 
-// From a cut set on, along those with its first cuts, the first of the `left` candidates still allowed that improves the route. With a head that is none of the first `heads`,
-// no candidate keeps every deadline and every pair.
+// From a cut set on, along those with its first cuts, the first of the `left` candidates still allowed that improves the route. With a head that is none of those left
+// to the round, no candidate keeps every deadline and every pair.
 pub fn scan_stretch(
-    locations: usize,
-    legs: &[u32],
-    latest: &[u32],
-    service: &[u32],
-    depot: u32,
-    end: u32,
-    pairs: &[u32],
-    members: &[u64],
-    rows: &[u8; ROW_BYTES],
-    chains: &[u8; CHAIN_BYTES],
-    patterns: usize,
+    round: &Round<'_, '_>,
+    rows: &ListedRows<'_>,
     signs: &[u16],
-    route: &[u32],
-    forward: &[u64; STOPS],
-    backward: &[u64; STOPS],
-    stayed: &[u64; CUT_PLACES],
-    heads: usize,
-    lateness: &[u64; CUT_PLACES],
-    since: usize,
     cuts: &mut [usize],
-    joint: &mut [u64; CELLS],
-    shared: &mut [u64; CELLS],
-    hand: &mut [u8; ROW_BYTES],
-    hand_chains: &mut [u8; CHAIN_BYTES],
+    work: &mut Work,
     visits: &mut [u64],
     left: u64,
 ) -> Stretch
-    requires { Stretchable (trip locations legs.now latest.now service.now depot end pairs.now) members.now rows.now chains.now patterns signs.now route.now forward.now backward.now stayed.now heads lateness.now since cuts.old joint.old shared.old hand.old hand_chains.old visits.old }
-    ensures { Stretched (problem (trip locations legs.now latest.now service.now depot end pairs.now)) members.now patterns rows.now signs.now route.now cuts.old left result cuts.new joint.new shared.new hand.new hand_chains.new visits.new }
+    requires { StretchAsked round.now rows.now signs.now cuts.old work.old visits.old }
+    ensures { StretchedAt round.now rows.now signs.now cuts.old left result cuts.new work.new visits.new }
 {
-    if heads <= cuts[0] {
-        return pass_stretch(route.len(), patterns, cuts, left);
+    if round.heads <= cuts[0] {
+        return pass_stretch(round.route.len(), rows.count, cuts, left);
     }
-    scan_last_cuts(
-        locations,
-        legs,
-        latest,
-        service,
-        depot,
-        end,
-        pairs,
-        members,
-        rows,
-        chains,
-        patterns,
-        signs,
-        route,
-        forward,
-        backward,
-        stayed,
-        lateness,
-        since,
-        cuts,
-        joint,
-        shared,
-        hand,
-        hand_chains,
-        visits,
-        left,
-    )
+    scan_last_cuts(round, rows, signs, cuts, work, visits, left)
 }

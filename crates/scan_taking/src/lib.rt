@@ -2,17 +2,18 @@
 #![tactic(auto)]
 
 ghost use Rattle.std.specs.Prelude.{◌≡◌, min};
-ghost use Rattle.theory.specs.Tables.{tables};
+ghost use Rattle.scan_round.specs.Lending.{trip_of};
 ghost use Rattle.deadlines.specs.Stays.{StaysFillable};
 ghost use Rattle.precedence_marks.specs.Held.{RouteTellable};
 ghost use Rattle.scan_taking.specs.Measure.{HeadsAsked, HeadsTold, LimitsTold, MeasureAsked, Measured, Clearable, Cleared, StaysAnew, Takeable, Taken};
 
 use deadlines::fill_lateness;
+use scan_round::{Lent, Sums};
 use theory::{CUT_PLACES, STOPS};
 
 // What a route leaves to its candidates: how many of its heads are on time and keep their pairs, from the empty one on, and none where its pairs contradict each other;
 // and where the longest tail begins that keeps its own.
-#[derive(Clone, Copy)]
+#[derive(Clone, Copy, Debug, PartialEq, Eq)]
 pub struct Limits {
     pub heads: usize,
     pub since: usize,
@@ -57,29 +58,25 @@ fn tell_limits(punctual: usize, members: &[u64], route: &[u32]) -> Limits
 }
 
 // The running sums of a route, and what it leaves to its candidates; `members` are the words of the pairs.
-pub fn measure(
-    locations: usize,
-    legs: &[u32],
-    latest: &[u32],
-    service: &[u32],
-    depot: u32,
-    members: &[u64],
-    route: &[u32],
-    forward: &mut [u64; STOPS],
-    backward: &mut [u64; STOPS],
-    stayed: &mut [u64; CUT_PLACES],
-    lateness: &mut [u64; CUT_PLACES],
-) -> Limits
-    requires { MeasureAsked (tables locations legs.now latest.now service.now) depot members.now route.now forward.old backward.old stayed.old lateness.old }
-    ensures { Measured (tables locations legs.now latest.now service.now) depot members.now route.now forward.new backward.new stayed.new result lateness.new }
+pub fn measure(lent: &Lent<'_>, route: &[u32], sums: &mut Sums) -> Limits
+    requires { MeasureAsked (trip_of lent.now).tables lent.now.depot lent.now.members.now route.now sums.old.forward sums.old.backward sums.old.stayed sums.old.lateness }
+    ensures { Measured (trip_of lent.now).tables lent.now.depot lent.now.members.now route.now sums.new.forward sums.new.backward sums.new.stayed result sums.new.lateness }
 {
-    costs::forward_sums(locations, legs, route, forward);
-    costs::backward_sums(locations, legs, route, backward);
-    deadlines::fill_stays(service, route, stayed);
+    costs::forward_sums(lent.locations, lent.legs, route, &mut sums.forward);
+    costs::backward_sums(lent.locations, lent.legs, route, &mut sums.backward);
+    deadlines::fill_stays(lent.service, route, &mut sums.stayed);
     let punctual = fill_lateness(
-        locations, legs, latest, service, depot, route, forward, stayed, lateness,
+        lent.locations,
+        lent.legs,
+        lent.latest,
+        lent.service,
+        lent.depot,
+        route,
+        &sums.forward,
+        &sums.stayed,
+        &mut sums.lateness,
     );
-    tell_limits(punctual, members, route)
+    tell_limits(punctual, lent.members, route)
 }
 
 // No stop of an accepted route is late. Where none was before, the table says so already.
@@ -90,10 +87,8 @@ fn clear_lateness(stops: usize, lateness: &mut [u64; CUT_PLACES])
     if lateness[0] == 0 {
         return;
     }
-    let mut c = 0;
-    while c <= stops {
+    for c in 0..stops + 1 {
         lateness[c] = 0;
-        c += 1;
     }
 }
 
@@ -111,28 +106,23 @@ fn stay_anew(service: &[u32], route: &[u32], stayed: &mut [u64; CUT_PLACES])
 
 // The candidate of pattern i as the route, with its sums and stays: the old ones say nothing of it. No stop of it is late.
 pub fn take_gain(
-    locations: usize,
-    legs: &[u32],
-    service: &[u32],
+    lent: &Lent<'_>,
     cuts: &[usize],
     orders: &[u8],
     masks: &[u8],
     i: usize,
     route: &mut [u32],
-    forward: &mut [u64; STOPS],
-    backward: &mut [u64; STOPS],
-    stayed: &mut [u64; CUT_PLACES],
-    lateness: &mut [u64; CUT_PLACES],
+    sums: &mut Sums,
 )
-    requires { Takeable locations legs.now service.now cuts.now orders.now masks.now i route.old forward.old backward.old stayed.old lateness.old }
-    ensures { Taken locations legs.now service.now cuts.now orders.now masks.now i route.old stayed.old lateness.old route.new forward.new backward.new stayed.new lateness.new }
+    requires { Takeable lent.now.locations lent.now.legs.now lent.now.service.now cuts.now orders.now masks.now i route.old sums.old.forward sums.old.backward sums.old.stayed sums.old.lateness }
+    ensures { Taken lent.now.locations lent.now.legs.now lent.now.service.now cuts.now orders.now masks.now i route.old sums.old.stayed sums.old.lateness route.new sums.new.forward sums.new.backward sums.new.stayed sums.new.lateness }
 {
     let n = route.len();
     let mut spare = [0u32; STOPS];
     candidates::build_front(&route[..], cuts, orders, masks, i, &mut spare);
     reconnection::copy_in(&spare[..n], route, 0);
-    costs::forward_sums(locations, legs, &route[..], forward);
-    costs::backward_sums(locations, legs, &route[..], backward);
-    stay_anew(service, &route[..], stayed);
-    clear_lateness(n, lateness);
+    costs::forward_sums(lent.locations, lent.legs, &route[..], &mut sums.forward);
+    costs::backward_sums(lent.locations, lent.legs, &route[..], &mut sums.backward);
+    stay_anew(lent.service, &route[..], &mut sums.stayed);
+    clear_lateness(n, &mut sums.lateness);
 }

@@ -32,18 +32,12 @@ bounds-cuts-i-in-loop-i c = omega (arith, c.loop-i-test.true, c.requires.fewer)
 pub segment_dues-found-requires : goal.segment_dues-found-requires
 segment_dues-found-requires c =
     let l = c.loop-i in
-    segment_spanned c.requires l.i l.invariant.0 c.loop-i-test.true
+    segment_spanned c.requires l.i l.invariant.0 (omega (arith, c.loop-i-test.true))
 
 pub put_dues-requires : goal.put_dues-requires
 put_dues-requires c =
     let l = c.loop-i in
     record { places = l.invariant.2.places; least = l.invariant.0; most = omega (arith, c.loop-i-test.true, c.requires.fewer, c.requires.cut_set.most) }
-
-pub overflow_add-i : goal.overflow_add-i
-overflow_add-i c = omega (arith, c.loop-i-test.true, c.requires.fewer, c.requires.cut_set.most)
-
-pub loop-i-smaller : goal.loop-i-smaller
-loop-i-smaller c = omega (arith, c.loop-i-test.true)
 
 pub loop-i-preserved : goal.loop-i-preserved
 loop-i-preserved c =

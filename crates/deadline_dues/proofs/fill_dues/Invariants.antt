@@ -7,6 +7,3 @@ use Rattle.deadline_dues.proofs.fill_dues.Given as goal
 abbrev pub invariant-loop-i : goal.invariant-loop-i
 invariant-loop-i l =
     (1 ≤ l.i) × (l.i ≤ l.count + 1) × SegmentsDue (clock_by (tables l.locations l.legs l.latest l.service)) l.cuts l.route (l.i - 1) l.dues
-
-abbrev pub decreases-loop-i : goal.decreases-loop-i
-decreases-loop-i l = l.count + 1 - l.i

@@ -8,6 +8,3 @@ use Rattle.deadline_dues.proofs.grow_dues.Given as goal
 abbrev pub invariant-loop-upto : goal.invariant-loop-upto
 invariant-loop-upto l =
     (l.from ≤ l.upto) × (l.upto ≤ l.to) × SegmentDues (clock_by (tables l.locations l.legs l.latest l.service)) (slice l.start l.upto l.route) l.dues.straight l.dues.reversed
-
-abbrev pub decreases-loop-upto : goal.decreases-loop-upto
-decreases-loop-upto l = l.to - l.upto

@@ -12,6 +12,3 @@ invariant-loop-at l =
     × (l.from ≤ 9)
     × (l.now ≤ 2 ^ 41 * (1 + (l.at - 4 * l.i)))
     × (in_time l.joint l.stays l.dues 9 l.clock (slice (4 * l.i) (4 * l.i + l.m) l.rows) ≡ in_time l.joint l.stays l.dues l.from l.now (slice l.at (4 * l.i + l.m) l.rows))
-
-abbrev pub decreases-loop-at : goal.decreases-loop-at
-decreases-loop-at l = 4 * l.i + l.m - l.at

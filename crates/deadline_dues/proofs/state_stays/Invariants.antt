@@ -6,6 +6,3 @@ use Rattle.deadline_dues.proofs.state_stays.Given as goal
 
 abbrev pub invariant-loop-i : goal.invariant-loop-i
 invariant-loop-i l = (1 ≤ l.i) × (l.i ≤ length l.cuts) × SegmentStays l.stayed l.cuts (l.i - 1) l.stays × ((s : ℕ) → get_or l.stays s 0 ≤ 512 * 1000000)
-
-abbrev pub decreases-loop-i : goal.decreases-loop-i
-decreases-loop-i l = length l.cuts - l.i

@@ -18,12 +18,6 @@ offset_bounds-signs-i c = omega (arith, c.loop-i-test.true, c.requires.few)
 pub bounds-signs-i : goal.bounds-signs-i
 bounds-signs-i c = omega (arith, c.loop-i-test.true, c.requires.few, c.loop-i.invariant.1.places)
 
-pub overflow_add-i : goal.overflow_add-i
-overflow_add-i c = omega (arith, c.loop-i-test.true, c.requires.few)
-
-pub loop-i-smaller : goal.loop-i-smaller
-loop-i-smaller c = omega (arith, c.loop-i-test.true)
-
 pub loop-i-preserved : goal.loop-i-preserved
 loop-i-preserved c =
     let l = c.loop-i in

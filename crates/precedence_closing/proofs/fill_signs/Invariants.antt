@@ -5,6 +5,3 @@ use Rattle.precedence_closing.proofs.fill_signs.Given as goal
 
 abbrev pub invariant-loop-i : goal.invariant-loop-i
 invariant-loop-i l = (l.i ≤ l.count) × Signed l.rows l.i l.signs
-
-abbrev pub decreases-loop-i : goal.decreases-loop-i
-decreases-loop-i l = l.count - l.i

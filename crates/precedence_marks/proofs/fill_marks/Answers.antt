@@ -39,12 +39,6 @@ put_marks-requires c =
     let l = c.loop-i in
     record { places = l.invariant.2; least = l.invariant.0; most = omega (arith, c.loop-i-test.true, c.requires.fewer, c.requires.cut_set.most) }
 
-pub overflow_add-i : goal.overflow_add-i
-overflow_add-i c = omega (arith, c.loop-i-test.true, c.requires.fewer, c.requires.cut_set.most)
-
-pub loop-i-smaller : goal.loop-i-smaller
-loop-i-smaller c = omega (arith, c.loop-i-test.true)
-
 pub loop-i-preserved : goal.loop-i-preserved
 loop-i-preserved c =
     let l = c.loop-i in

@@ -10,6 +10,3 @@ use Rattle.precedence_marks.proofs.fill_marks.Given as goal
 abbrev pub invariant-loop-i : goal.invariant-loop-i
 invariant-loop-i l =
     (1 ≤ l.i) × (l.i ≤ l.count + 1) × (length l.held ≡ 17) × ((ps : List (ℕ × ℕ)) → Members ps l.members → SegmentsMarked ps l.cuts l.route (l.i - 1) l.held)
-
-abbrev pub decreases-loop-i : goal.decreases-loop-i
-decreases-loop-i l = l.count + 1 - l.i

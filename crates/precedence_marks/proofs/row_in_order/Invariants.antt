@@ -8,6 +8,3 @@ use Rattle.precedence_marks.proofs.row_in_order.Given as goal
 abbrev pub invariant-loop-at : goal.invariant-loop-at
 invariant-loop-at l =
     (4 * l.i ≤ l.at) × (l.at ≤ 4 * l.i + l.m) × (in_order l.held 0 (slice (4 * l.i) (4 * l.i + l.m) l.rows) ≡ in_order l.held l.passed (slice l.at (4 * l.i + l.m) l.rows))
-
-abbrev pub decreases-loop-at : goal.decreases-loop-at
-decreases-loop-at l = 4 * l.i + l.m - l.at

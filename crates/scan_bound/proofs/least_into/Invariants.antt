@@ -5,6 +5,3 @@ use Rattle.scan_bound.proofs.least_into.Given as goal
 
 abbrev pub invariant-loop-w : goal.invariant-loop-w
 invariant-loop-w l = (l.w ≤ l.p) × LeastInto l.locations l.legs l.from l.entries l.inside l.low l.w l.best
-
-abbrev pub decreases-loop-w : goal.decreases-loop-w
-decreases-loop-w l = l.p - l.w

@@ -5,6 +5,3 @@ use Rattle.scan_bound.proofs.least_out.Given as goal
 
 abbrev pub invariant-loop-u : goal.invariant-loop-u
 invariant-loop-u l = (l.u ≤ l.p) × LeastOut l.locations l.legs l.exits l.to l.add l.start l.u l.best
-
-abbrev pub decreases-loop-u : goal.decreases-loop-u
-decreases-loop-u l = l.p - l.u

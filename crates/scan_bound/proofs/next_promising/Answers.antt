@@ -1,6 +1,9 @@
 -- `scan_bound::next_promising` meets its contract. The invariant: the same of the last cuts below c. Assumes nothing.
 use Rattle.scan_bound.proofs.Testing.{none_passed, one_passed, testable}
+use mathlib.Core.Path.{◌≡◌}
+use Prim.Native.Nat.{◌+◌}
 use native.Mathlib.Omega.{arith}
+use lib.ListN.{length}
 use Rattle.scan_bound.proofs.next_promising.Goals as goal
 
 pub loop-c-init : goal.loop-c-init
@@ -14,14 +17,11 @@ is_promising-requires c =
 pub returns-then-is_promising : goal.returns-then-is_promising
 returns-then-is_promising c = c.loop-c.invariant
 
-pub overflow_add-c : goal.overflow_add-c
-overflow_add-c c = omega (arith, c.loop-c.invariant.most, c.requires.cut.cut_set.short)
-
-pub loop-c-smaller : goal.loop-c-smaller
-loop-c-smaller c = omega (arith, c.loop-c-test.true)
-
 pub loop-c-preserved : goal.loop-c-preserved
 loop-c-preserved c = one_passed c.requires (omega (arith, c.loop-c-test.true)) c.loop-c.invariant c.is_promising.ensures c.if-is_promising.false
 
 pub returns : goal.returns
-returns c = c.loop-c.invariant
+returns c =
+    let l = c.loop-c in
+    let e : l.c ≡ length c.args.route.now + 1 = omega (arith, c.loop-c-test.false, l.invariant.most) in
+    rw e at l.invariant

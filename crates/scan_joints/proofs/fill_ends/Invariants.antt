@@ -6,6 +6,3 @@ use Rattle.scan_joints.proofs.fill_ends.Given as goal
 
 abbrev pub invariant-loop-i : goal.invariant-loop-i
 invariant-loop-i l = (1 ≤ l.i) × (l.i ≤ length l.cuts) × StateEnds l.route l.forward l.backward l.cuts (2 * (l.i - 1)) l.entries l.exits l.inside
-
-abbrev pub decreases-loop-i : goal.decreases-loop-i
-decreases-loop-i l = length l.cuts - l.i

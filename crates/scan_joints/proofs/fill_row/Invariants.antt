@@ -5,6 +5,3 @@ use Rattle.scan_joints.proofs.fill_row.Given as goal
 
 abbrev pub invariant-loop-b : goal.invariant-loop-b
 invariant-loop-b l = (l.b ≤ l.count) × RowFilled l.locations l.legs l.from l.b l.entries l.inside l.a l.initial.table l.table
-
-abbrev pub decreases-loop-b : goal.decreases-loop-b
-decreases-loop-b l = l.count - l.b

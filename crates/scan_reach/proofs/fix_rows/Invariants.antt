@@ -10,6 +10,3 @@ invariant-loop-a l =
     (l.a ≤ l.p)
     × Padded l.joint
     × ((x : ℕ) → x < l.a → Next l.locations l.legs l.entries l.inside l.p l.joint x (get_or l.exits x 0))
-
-abbrev pub decreases-loop-a : goal.decreases-loop-a
-decreases-loop-a l = l.p - l.a

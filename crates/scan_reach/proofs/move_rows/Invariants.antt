@@ -12,6 +12,3 @@ invariant-loop-a l =
     × Padded l.joint
     × ((x : ℕ) → x < l.a → Moved l.locations l.legs l.front l.back l.tail l.on l.turned l.p l.joint x (get_or l.exits x 0))
     × ((x y : ℕ) → y < l.p → cell l.joint x y ≡ cell l.initial.joint x y)
-
-abbrev pub decreases-loop-a : goal.decreases-loop-a
-decreases-loop-a l = l.p - l.a

@@ -6,6 +6,3 @@ use Rattle.scan_shared.proofs.clear_low.Given as goal
 
 abbrev pub invariant-loop-c : goal.invariant-loop-c
 invariant-loop-c l = (length l.low ≡ 21) × ((x : ℕ) → x < l.c → get_or l.low x 0 ≤ 2 ^ 40)
-
-abbrev pub decreases-loop-c : goal.decreases-loop-c
-decreases-loop-c l = 21 - l.c

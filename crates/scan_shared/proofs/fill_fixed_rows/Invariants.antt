@@ -5,6 +5,3 @@ use Rattle.scan_shared.proofs.fill_fixed_rows.Given as goal
 
 abbrev pub invariant-loop-a : goal.invariant-loop-a
 invariant-loop-a l = (l.a ≤ l.p) × FixedRows l.locations l.legs l.p l.entries l.exits l.inside l.a l.table
-
-abbrev pub decreases-loop-a : goal.decreases-loop-a
-decreases-loop-a l = l.p - l.a

@@ -5,6 +5,3 @@ use Rattle.scan_shared.proofs.fill_low.Given as goal
 
 abbrev pub invariant-loop-i : goal.invariant-loop-i
 invariant-loop-i l = (l.i ≤ l.count) × LowOf all_open l.rows l.i l.p l.table l.low
-
-abbrev pub decreases-loop-i : goal.decreases-loop-i
-decreases-loop-i l = l.count - l.i

@@ -8,6 +8,3 @@ use Rattle.scan_shared.proofs.fill_open.Given as goal
 abbrev pub invariant-loop-i : goal.invariant-loop-i
 invariant-loop-i l =
     (l.i ≤ l.count) × LowOf (open_by l.signs l.blocked) l.rows l.i l.p l.table l.low × (l.some ≡ false → (x : ℕ) → x < l.i → open_by l.signs l.blocked x ≡ false)
-
-abbrev pub decreases-loop-i : goal.decreases-loop-i
-decreases-loop-i l = l.count - l.i

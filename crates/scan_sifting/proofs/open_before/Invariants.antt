@@ -8,6 +8,3 @@ use Rattle.scan_sifting.proofs.open_before.Given as goal
 
 abbrev pub invariant-loop-i : goal.invariant-loop-i
 invariant-loop-i l = (l.i ≤ l.limit) × (l.count ≡ length (opens (open_by l.signs l.blocked) l.i))
-
-abbrev pub decreases-loop-i : goal.decreases-loop-i
-decreases-loop-i l = l.limit - l.i

@@ -9,6 +9,3 @@ use Rattle.scan_sifting.proofs.sift_rows.Given as goal
 abbrev pub invariant-loop-i : goal.invariant-loop-i
 invariant-loop-i l =
     (l.i ≤ l.patterns) × (l.count ≡ length (opens (open_by l.signs l.blocked) l.i)) × Sifted (open_by l.signs l.blocked) l.rows l.i l.hand
-
-abbrev pub decreases-loop-i : goal.decreases-loop-i
-decreases-loop-i l = l.patterns - l.i

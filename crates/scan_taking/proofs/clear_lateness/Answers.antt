@@ -15,14 +15,8 @@ offset_bounds-lateness-c c = omega (arith, c.loop-c-test.true, c.requires.short)
 pub bounds-lateness-c : goal.bounds-lateness-c
 bounds-lateness-c c = omega (arith, c.loop-c-test.true, c.requires.short)
 
-pub overflow_add-c : goal.overflow_add-c
-overflow_add-c c = omega (arith, c.loop-c-test.true, c.requires.short)
-
-pub loop-c-smaller : goal.loop-c-smaller
-loop-c-smaller c = omega (arith, c.loop-c-test.true)
-
 pub loop-c-preserved : goal.loop-c-preserved
 loop-c-preserved c = (omega (arith, c.loop-c-test.true), clear_next (omega (arith, c.loop-c-test.true, c.requires.short)) c.loop-c.invariant.1)
 
 pub returns : goal.returns
-returns c = all_clear c.loop-c-test.false c.loop-c.invariant.1
+returns c = all_clear (omega (arith, c.loop-c-test.false)) c.loop-c.invariant.1

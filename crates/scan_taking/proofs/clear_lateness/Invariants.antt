@@ -5,6 +5,3 @@ use Rattle.scan_taking.proofs.clear_lateness.Given as goal
 
 abbrev pub invariant-loop-c : goal.invariant-loop-c
 invariant-loop-c l = (l.c ≤ l.stops + 1) × Clearing l.lateness l.c
-
-abbrev pub decreases-loop-c : goal.decreases-loop-c
-decreases-loop-c l = l.stops + 1 - l.c

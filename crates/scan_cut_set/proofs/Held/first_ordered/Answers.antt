@@ -1,9 +1,9 @@
--- `scan_cut_set::first_ordered` meets its contract. The invariant: no row passed is shorter and keeps every pair, and the one at i is shorter. Assumes nothing.
+-- `scan_cut_set::Held::first_ordered` meets its contract. The invariant: no row passed is shorter and keeps every pair, and the one at i is shorter. Assumes nothing.
 use mathlib.Core.Path.{sym, ◌∙◌}
 use Prim.Native.Nat.{◌+◌}
 use Rattle.scan_cut_set.proofs.FirstDue.{order_adding, order_row, order_passed, order_first, order_broken}
 use native.Mathlib.Omega.{arith}
-use Rattle.scan_cut_set.proofs.first_ordered.Goals as goal
+use Rattle.scan_cut_set.proofs.Held.first_ordered.Goals as goal
 
 pub returns-then-not-paired : goal.returns-then-not-paired
 returns-then-not-paired c = let p = c.requires in record { within = p.first.most; passed = order_first p; shorter = p.first.shorter }

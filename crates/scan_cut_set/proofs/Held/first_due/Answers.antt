@@ -1,9 +1,9 @@
--- `scan_cut_set::first_due` meets its contract. The invariant: no row passed is shorter and kept, and the one at i is shorter. Assumes nothing.
+-- `scan_cut_set::Held::first_due` meets its contract. The invariant: no row passed is shorter and kept, and the one at i is shorter. Assumes nothing.
 use mathlib.Core.Path.{sym, ◌∙◌}
 use Prim.Native.Nat.{◌+◌}
 use Rattle.scan_cut_set.proofs.FirstDue.{adding_from, row_judged, due_passed, due_first, due_broken, due_found, due_not_found}
 use native.Mathlib.Omega.{arith}
-use Rattle.scan_cut_set.proofs.first_due.Goals as goal
+use Rattle.scan_cut_set.proofs.Held.first_due.Goals as goal
 
 pub loop-i-init : goal.loop-i-init
 loop-i-init c = (c.requires.first.within, due_first c.requires, c.requires.first.shorter)
