@@ -3,6 +3,9 @@ use mathlib.Core.Path.{◌≡◌, refl, sym, ◌∙◌}
 use mathlib.Core.List.{List, ◌++◌}
 use Prim.Native.Nat.{ℕ}
 use lib.ListN.{length, drop}
+use Rattle.theory.specs.Numbers.{refusal_number}
+use Rattle.theory.specs.declared.Refusal.{Refusal}
+use Rattle.theory.proofs.Checks.{some}
 use Rattle.theory.specs.Moves.{patterns}
 use Rattle.theory.specs.Route.{reconnected}
 use Rattle.theory.specs.Polish.{move_at}
@@ -18,11 +21,11 @@ module _ (k pattern : ℕ) (cuts route out : List ℕ) (number : ℕ) (judged : 
   abbrev done : List ℕ
   done = reconnected (move_at (patterns k) cuts pattern) route ++ drop (length route) out
 
-  pub refused : (number ≡ 0 → ⊥) → ReconnectReply k pattern cuts route out number out
+  refused : (number ≡ 0 → ⊥) → ReconnectReply k pattern cuts route out number out
   refused h = record { number_is = judged; out_is = refused_kept (reconnect_rules k pattern cuts (length route) (length out)) number judged done out h }
 
   module _ (h : number ≡ 0) where
-    pub fine : Applicable k pattern cuts route out
+    fine : Applicable k pattern cuts route out
     unfolding known
     fine =
         let p = taken_passes (reconnect_rules k pattern cuts (length route) (length out)) number judged refl h in
@@ -32,6 +35,18 @@ module _ (k pattern : ℕ) (cuts route out : List ℕ) (number : ℕ) (judged : 
           room = room_fine (length route) (length out) p.1.1.1.1.0;
         }
 
-    pub written : (out' : List ℕ) → out' ≡ reconnected (move_at (patterns k) cuts pattern) route ++ drop (length route) out → ReconnectReply k pattern cuts route out 0 out'
+    written : (out' : List ℕ) → out' ≡ reconnected (move_at (patterns k) cuts pattern) route ++ drop (length route) out → ReconnectReply k pattern cuts route out 0 out'
     written out' e =
         record { number_is = sym h ∙ judged; out_is = e ∙ taken_done (reconnect_rules k pattern cuts (length route) (length out)) number judged done out h }
+
+pub reconnect_err : (k pattern : ℕ) (cuts route out : List ℕ) (e : Refusal) → refusal_number e ≡ refusal (reconnect_rules k pattern cuts (length route) (length out)) → ReconnectReply k pattern cuts route out (refusal_number e) out
+reconnect_err k pattern cuts route out e free = refused k pattern cuts route out (refusal_number e) free (some e)
+
+pub reconnect_fine : (k pattern : ℕ) (cuts route out : List ℕ) → 0 ≡ refusal (reconnect_rules k pattern cuts (length route) (length out)) → Applicable k pattern cuts route out
+reconnect_fine k pattern cuts route out free = fine k pattern cuts route out 0 free refl
+
+pub reconnect_ok : (k pattern : ℕ) (cuts route out out' : List ℕ) → 0 ≡ refusal (reconnect_rules k pattern cuts (length route) (length out)) →
+    out' ≡ reconnected (move_at (patterns k) cuts pattern) route ++ drop (length route) out → ReconnectReply k pattern cuts route out 0 out'
+reconnect_ok k pattern cuts route out out' free e = written k pattern cuts route out 0 free refl out' e
+
+pub ruleset reconnect = (reconnect_err, reconnect_fine, reconnect_ok)

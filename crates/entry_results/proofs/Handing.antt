@@ -1,12 +1,12 @@
 -- Answers handed over, over plain values. Assumes nothing.
 use mathlib.Core.Path.{◌≡◌, refl, sym, ◌∙◌}
-use mathlib.Core.Bool.{Bool, true, false, cond}
+use mathlib.Core.Bool.{Bool, true, false, cond, true≢false}
 use mathlib.Core.List.{List, [], ◌∷◌, ◌++◌}
 use Prim.Native.Nat.{ℕ, ◌<◌, ◌≤◌}
 use native.Mathlib.Omega.{arith}
 use lib.Dec.{eqb}
 use lib.ListN.{length, drop, set}
-use borrow.Author.Tests.{lt-ltb, le-ltb}
+use borrow.Author.Tests.{lt-ltb, le-ltb, eqb-true}
 use Rattle.theory.specs.Refusals.{either}
 use Rattle.theory.specs.Answers.{reply, refused}
 use Rattle.theory.proofs.Refusals.{either_zero}
@@ -40,12 +40,11 @@ handed_done values result result' n h r =
     (zero_is, rw zero_is at h.result_is)
 
 -- One value in the first place.
-pub first_place : {A : Type 0} (v : A) (result : List A) → 1 ≤ length result → set result 0 v ≡ v ∷ drop 1 result
-first_place v [] h = absurd (omega arith)
-first_place v (x ∷ result) h = refl
+pub handed_value : {A : Type 0} (v : A) (result : List A) → eqb (length result) 0 ≡ false → Handed (reply 0 (v ∷ [])) result 0 (set result 0 v)
+handed_value v [] h = absurd (true≢false h)
+handed_value v (x ∷ result) h = handed_values (v ∷ []) (x ∷ result) _ (omega arith) refl
 
--- Two values in the first two.
-pub two_places : (v w : ℕ) (result : List ℕ) → 2 ≤ length result → set (set result 0 v) 1 w ≡ v ∷ w ∷ drop 2 result
-two_places v w [] h = absurd (omega arith)
-two_places v w (x ∷ []) h = absurd (omega arith)
-two_places v w (x ∷ y ∷ result) h = refl
+pub handed_empty : {A : Type 0} (v : A) (result : List A) → eqb (length result) 0 ≡ true → Handed (reply 0 (v ∷ [])) result 21 result
+handed_empty v result h = let e = eqb-true (length result) 0 h in handed_short (v ∷ []) result (omega arith)
+
+pub ruleset handing = (handed_short, handed_values)

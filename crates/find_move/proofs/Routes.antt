@@ -1,33 +1,26 @@
 -- Routes held against each other stop by stop, and the first pattern on one cut set. Assumes nothing.
 use mathlib.Core.Path.{◌≡◌, refl, ap, ◌∙◌}
-use mathlib.Core.Bool.{Bool, true, false, cond}
+use mathlib.Core.Bool.{Bool, true, false, cond, ◌&&◌}
 use mathlib.Core.List.{List, [], ◌∷◌, map, flat_map, append-nil}
 use mathlib.Core.Option.{Option, none, some}
 use Prim.Native.Nat.{ℕ, zero, suc, ◌+◌, ◌≤◌, ◌<◌}
 use native.Mathlib.Omega.{arith}
 use native.Mathlib.Nat.{zero-add}
 use native.Mathlib.Decide.{dec_lt}
-use lib.Dec.{ltb}
-use lib.ListN.{length, get_or}
-use lib.Seq.{ext_get_or}
+use lib.Dec.{ltb, eqb}
+use Rattle.std.specs.Cmp.Lexicographic.{pointwise}
 use borrow.Author.Tests.{lt-ltb, le-ltb}
 use Rattle.theory.specs.Moves.{upfrom}
 use Rattle.first_move.specs.FirstMove.{first_that, same_route, numbered}
-use Rattle.first_move.proofs.FirstMove.{is_same, other_route}
 use Rattle.find_move.specs.Search.{FirstOf}
 
-pub other_at : (a b : List ℕ) (i : ℕ) → ¬ (get_or a i 0 ≡ get_or b i 0) → same_route a b ≡ false
-other_at a b i h = other_route a b (λ e. h (ap (λ l. get_or l i 0) e))
-
-pub all_same : (a b : List ℕ) → length a ≡ length b → ((i : ℕ) → i < length a → get_or a i 0 ≡ get_or b i 0) → same_route a b ≡ true
-all_same a b l h = rw (ext_get_or 0 a b l h) (is_same b)
-
-pub same_next : (a b : List ℕ) (i : ℕ) → ((x : ℕ) → x < i → get_or a x 0 ≡ get_or b x 0) → get_or a i 0 ≡ get_or b i 0 → (x : ℕ) → x < i + 1 → get_or a x 0 ≡ get_or b x 0
-same_next a b i h e x l = by (dec_lt x i)
-  where
-    by : Dec (x < i) → get_or a x 0 ≡ get_or b x 0
-    by (yes q) = h x q
-    by (no q) = let z : x ≡ i = omega arith in rw z e
+-- As std compares slices.
+pub pointwise_same : (a b : List ℕ) → pointwise eqb a b ≡ same_route a b
+unfolding same_route
+pointwise_same [] [] = refl
+pointwise_same [] (y ∷ b) = refl
+pointwise_same (x ∷ a) [] = refl
+pointwise_same (x ∷ a) (y ∷ b) = ap (λ s. eqb x y && s) (pointwise_same a b)
 
 -- The first of the numbers from f on that passes: the one, or the place behind them.
 module _ (t : List ℕ × ℕ → Bool) (cs : List ℕ) where
@@ -62,11 +55,3 @@ module _ (t : List ℕ × ℕ → Bool) (cs : List ℕ) where
       let all : List (List ℕ × ℕ) = map (λ i. (cs, i)) (upfrom 0 count) in
       ap (first_that t) (append-nil all)
       ∙ (rw (zero-add count) at (first_from count 0 r (omega arith) (omega (arith, f.within)) (λ x a b. f.before x b) (λ h. f.there (omega arith))))
-
--- A further place fails.
-pub none_next : (t : ℕ → Bool) (i : ℕ) → ((x : ℕ) → x < i → t x ≡ false) → t i ≡ false → (x : ℕ) → x < i + 1 → t x ≡ false
-none_next t i h e x l = by (dec_lt x i)
-  where
-    by : Dec (x < i) → t x ≡ false
-    by (yes q) = h x q
-    by (no q) = let z : x ≡ i = omega arith in rw z e

@@ -2,7 +2,8 @@
 use mathlib.Core.Path.{◌≡◌, refl, sym, ap, ◌∙◌, subst}
 use mathlib.Core.Bool.{Bool, true, false, not, true≢false}
 use mathlib.Core.List.{List, [], ◌∷◌, ◌++◌, map, append_assoc, append-nil}
-use mathlib.Core.Option.{none, some}
+use Rattle.std.specs.Prelude.{Some, None}
+use Rattle.std.specs.Prelude as Rust
 use Prim.Native.Nat.{ℕ, zero, suc, ◌+◌, ◌-◌, ◌≤◌, ◌<◌}
 use native.Mathlib.Omega.{arith}
 use lib.ListN.{length, set, take, length-append, length-set}
@@ -10,7 +11,7 @@ use lib.Seq.{length-take-le, get_or-take}
 use Rattle.theory.specs.Moves.{Rising, patterns, upfrom, combinations}
 use Rattle.theory.proofs.Cuts.{rising_below}
 use Rattle.theory.proofs.Delta.{gap}
-use Rattle.first_move.specs.FirstMove.{first_that, numbered, turns_into, found_move}
+use Rattle.first_move.specs.FirstMove.{first_that, numbered, turns_into}
 use Rattle.first_move.specs.declared.FoundMove.{FoundMove}
 use Rattle.first_move.proofs.First.{first_here, first_later}
 use Rattle.find_move.specs.Walk.{tried_from}
@@ -36,12 +37,6 @@ tried_whole : (count n : ℕ) (pre : List ℕ) (low : ℕ) → tried_from count 
 unfolding tried_from
 tried_whole count n pre low =
     ap (λ (l : List (List ℕ)). numbered count (map (λ s. pre ++ s) l)) (no_further (upfrom low (suc n - low))) ∙ ap (λ (l : List ℕ). numbered count (l ∷ [])) (append-nil pre)
-
-is_none : (k : ℕ) (r : FoundMove) → r.found ≡ false → found_move k r ≡ none
-is_none k r e = rw e refl
-
-is_some : (k : ℕ) (r : FoundMove) → r.found ≡ true → found_move k r ≡ some (take k r.cuts, r.index)
-is_some k r e = rw e refl
 
 module _ {k : ℕ} {old wanted stands ends parts : List ℕ} {head tail : ℕ} {cuts : List ℕ} {j low : ℕ} (w : Walkable k old wanted stands ends parts head tail cuts j low) where
   abbrev t : List ℕ × ℕ → Bool
@@ -78,12 +73,11 @@ module _ {k : ℕ} {old wanted stands ends parts : List ℕ} {head tail : ℕ} {
       }
 
   -- Where the test says "no".
-  pub nothing : (passed : Bool) (r : FoundMove) → GoesOn stands ends parts head tail k cuts j passed → not passed ≡ true → r.found ≡ false → Walked k old wanted cuts j low r
-  nothing true r test failed f = absurd (true≢false (sym failed))
-  nothing false r test failed f =
+  pub nothing : (passed : Bool) → GoesOn stands ends parts head tail k cuts j passed → not passed ≡ true → Walked k old wanted cuts j low None
+  nothing true test failed = absurd (true≢false (sym failed))
+  nothing false test failed =
       record {
-        is = is_none k r f
-            ∙ sym
+        is = sym
             (tried_nothing (length (patterns k)) n t (take j cuts) low (k - j) w.near
             (λ s many rising i h. test refl n old wanted w.tables s (simp length-append (omega (arith, so_many, many, w.within))) (w.goes_on s rising) i h));
       }
@@ -103,7 +97,7 @@ module _ {k : ℕ} {old wanted stands ends parts : List ℕ} {head tail : ℕ} {
         places = w.places;
       }
 
-  pub whole_walked : (r : FoundMove) → j ≡ k → FirstPattern k old wanted cuts r → Walked k old wanted cuts j low r
+  pub whole_walked : (r : Rust.Option FoundMove) → j ≡ k → FirstPattern k old wanted cuts r → Walked k old wanted cuts j low r
   whole_walked r e f =
       let z : k - j ≡ 0 = omega arith in
       record {
@@ -146,24 +140,19 @@ module _ {k : ℕ} {old wanted stands ends parts : List ℕ} {head tail : ℕ} {
           let m : k - j ≡ suc (k - (j + 1)) = omega arith in
           rw (begins, e, m) (tried_next (length (patterns k)) n (take j cuts) d (k - (j + 1)) near)
 
-      module _ (same : first_that t (from low) ≡ first_that t (from d)) (r : FoundMove) (walked : Walked k old wanted longer (j + 1) (d + 1) r) where
-        pub found_here : r.found ≡ true → Walked k old wanted cuts j low r
-        found_here f =
-            let x = is_some k r f in
-            let h : first_that t here ≡ some (take k r.cuts, r.index) = sym walked.is ∙ x in
-            record { is = x ∙ sym (same ∙ ap (first_that t) parted ∙ first_here t here (from (d + 1)) (take k r.cuts, r.index) h) }
+      module _ (same : first_that t (from low) ≡ first_that t (from d)) where
+        pub found_here : (r : FoundMove) → Walked k old wanted longer (j + 1) (d + 1) (Some r) → Walked k old wanted cuts j low (Some r)
+        found_here r walked = record { is = sym (same ∙ ap (first_that t) parted ∙ first_here t here (from (d + 1)) (take k r.cuts, r.index) (sym walked.is)) }
 
-        pub not_here : r.found ≡ false → first_that t (from low) ≡ first_that t (from (d + 1))
-        not_here f =
-            let h : first_that t here ≡ none = sym walked.is ∙ is_none k r f in
-            same ∙ ap (first_that t) parted ∙ first_later t here (from (d + 1)) h
+        pub not_here : Walked k old wanted longer (j + 1) (d + 1) None → first_that t (from low) ≡ first_that t (from (d + 1))
+        not_here walked = same ∙ ap (first_that t) parted ∙ first_later t here (from (d + 1)) (sym walked.is)
 
-    pub nowhere : n < d → first_that t (from low) ≡ first_that t (from d) → (r : FoundMove) → r.found ≡ false → Walked k old wanted cuts j low r
+    pub nowhere : n < d → first_that t (from low) ≡ first_that t (from d) → Walked k old wanted cuts j low None
     unfolding first_that
-    nowhere far same r f =
+    nowhere far same =
         let m : k - j ≡ suc (k - (j + 1)) = omega arith in
         let e : from d ≡ [] = rw m (tried_end (length (patterns k)) n (take j cuts) d (k - (j + 1)) far) in
-        record { is = is_none k r f ∙ sym (same ∙ ap (first_that t) e) }
+        record { is = sym (same ∙ ap (first_that t) e) }
 
 -- ---- from the start on, all
 
@@ -198,7 +187,7 @@ start sought tables =
       goes_on = λ s rising. rising;
     }
 
-pub finds : (k : ℕ) (old wanted : List ℕ) (r : FoundMove) → Walked k old wanted no_cuts 0 0 r → Finds k old wanted r
+pub finds : (k : ℕ) (old wanted : List ℕ) (r : Rust.Option FoundMove) → Walked k old wanted no_cuts 0 0 r → Finds k old wanted r
 finds k old wanted r walked =
     let e : k - 0 ≡ k = omega arith in
     record {

@@ -1,3 +1,4 @@
 -- The definitions that the contracts of `find_move` cite.
 pub mod Walk
 pub mod Search
+pub mod Pairs

@@ -1,5 +1,6 @@
 -- What the search is handed at each step, and what it answers.
-use Rattle.std.specs.Prelude.{◌≡◌, Bool, true, false, List, [], ◌∷◌, ◌++◌, ℕ, suc, ◌-◌, ◌≤◌, ◌<◌, length, take}
+use Rattle.std.specs.Prelude.{◌≡◌, Bool, true, false, List, [], ◌∷◌, ◌++◌, ℕ, suc, ◌-◌, ◌≤◌, ◌<◌, length, take, Some, None}
+use Rattle.std.specs.Prelude as Rust
 use Rattle.theory.specs.Moves.{Rising, patterns}
 use Rattle.theory.specs.Tables.{CutSet, PatternRows}
 use Rattle.candidates.specs.Candidate.{candidate}
@@ -37,13 +38,18 @@ pub record FirstOf (t : ℕ → Bool) (count r : ℕ) : Type 0 where
   pub before : (x : ℕ) → x < r → t x ≡ false
   pub there : r < count → t r ≡ true
 
+-- The same of an answer: the place, or none.
+abbrev pub FoundAt : (ℕ → Bool) → ℕ → Rust.Option ℕ → Type 0
+FoundAt t count None = FirstOf t count count
+FoundAt t count (Some r) = FirstOf t count r × (r < count)
+
 -- A whole cut set, and the first pattern on it.
 pub record WholeCuts (k : ℕ) (old wanted cuts : List ℕ) : Type 0 where
   pub sought : Sought k old wanted
   pub cut_set : CutSet k (length old) (take k cuts)
   pub places : length cuts ≡ 5
 
-pub record FirstPattern (k : ℕ) (old wanted cuts : List ℕ) (r : FoundMove) : Type 0 where
+pub record FirstPattern (k : ℕ) (old wanted cuts : List ℕ) (r : Rust.Option FoundMove) : Type 0 where
   pub is : found_move k r ≡ first_that (turns_into k old wanted) (numbered (length (patterns k)) (take k cuts ∷ []))
 
 -- ---- the walk
@@ -71,9 +77,9 @@ pub record Walkable (k : ℕ) (old wanted stands ends parts : List ℕ) (head ta
   pub goes_on : (s : List ℕ) → Rising low s (length old) → Rising 0 (take j cuts ++ s) (length old)
 
 -- The first move of those.
-pub record Walked (k : ℕ) (old wanted cuts : List ℕ) (j low : ℕ) (r : FoundMove) : Type 0 where
+pub record Walked (k : ℕ) (old wanted cuts : List ℕ) (j low : ℕ) (r : Rust.Option FoundMove) : Type 0 where
   pub is : found_move k r ≡ first_that (turns_into k old wanted) (tried_from (length (patterns k)) (length old) (take j cuts) low (k - j))
 
 -- The first move of all.
-pub record Finds (k : ℕ) (old wanted : List ℕ) (r : FoundMove) : Type 0 where
+pub record Finds (k : ℕ) (old wanted : List ℕ) (r : Rust.Option FoundMove) : Type 0 where
   pub is : found_move k r ≡ first_move k old wanted

@@ -1,5 +1,6 @@
 -- "The first cuts and pattern in scan order that turn one into the other, or none."
-use Rattle.std.specs.Prelude.{◌≡◌, ◌↔◌, Bool, true, false, cond, ◌&&◌, ℕ, ◌<◌, eqb, length, get_or, take, drop}
+use Rattle.std.specs.Prelude.{◌≡◌, ◌↔◌, Bool, true, false, cond, ◌&&◌, ℕ, ◌<◌, eqb, length, get_or, take, drop, Some, None}
+use Rattle.std.specs.Prelude as Rust
 use mathlib.Core.List.{List, [], ◌∷◌, ◌++◌, map, flat_map, Memᴰ}
 use Rattle.std.proofs.Math.Option.{Option, none, some}
 use Rattle.theory.specs.Moves.{upfrom, Pattern, Move, patterns, cut_sets, candidates, Rising}
@@ -32,8 +33,9 @@ abbrev pub first_move : ℕ → List ℕ → List ℕ → Option (List ℕ × �
 first_move k old wanted = first_that (turns_into k old wanted) (numbered (length (patterns k)) (cut_sets k (length old)))
 
 -- What an answer says: the index and the first k cuts, or none.
-abbrev pub found_move : ℕ → FoundMove → Option (List ℕ × ℕ)
-found_move k r = cond r.found (some (take k r.cuts, r.index)) none
+abbrev pub found_move : ℕ → Rust.Option FoundMove → Option (List ℕ × ℕ)
+found_move k None = none
+found_move k (Some r) = some (take k r.cuts, r.index)
 
 -- 1, the index and the cuts; or 0 alone.
 abbrev pub move_values : Option (List ℕ × ℕ) → List ℕ

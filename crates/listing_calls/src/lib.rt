@@ -1,9 +1,10 @@
 // The listings of nearby cut sets, judged, with their number in a lent result or without. No entry: crate mittenschist hands them on.
-#![tactic(auto)]
+#![tactic(auto, using(crate::proofs::ListingReply::listing))]
 
+ghost use Rattle.theory.specs.Numbers.{judged};
 ghost use Rattle.listing_calls.specs.Listings.{NearbyReply, NearbyWritten, EveryReply, EveryWritten};
 
-use theory::Listing;
+use theory::{Listing, Refusal};
 
 // Lists the nearby cut sets, k places each, until no whole set fits any more. Refuses 1, 5, 9, 21.
 pub fn nearby_cuts(
@@ -13,21 +14,12 @@ pub fn nearby_cuts(
     min_segment_len: usize,
     max_nearby: usize,
     sets: &mut [usize],
-) -> Listing
+) -> Result<Listing, Refusal>
     ensures { NearbyReply n distances.now k min_segment_len max_nearby sets.old result sets.new }
 {
-    let refused = refusal_rules::nearby_refusal(
-        n,
-        distances,
-        k,
-        min_segment_len,
-        max_nearby,
-        sets.len(),
-    );
-    if refused != 0 {
-        return Listing::Refused(refused);
-    }
-    nearby::nearby_cuts(n, distances, k, min_segment_len, max_nearby, sets)
+    refusal_rules::nearby_refusal(n, distances, k, min_segment_len, max_nearby, sets.len())?;
+    let answer = nearby::nearby_cuts(n, distances, k, min_segment_len, max_nearby, sets);
+    Ok(answer)
 }
 
 // The same; the result receives the number of sets written, then 0 ended or 1 more. Refuses 1, 5, 9, 21.
@@ -39,10 +31,10 @@ pub fn write_nearby_cuts(
     max_nearby: usize,
     sets: &mut [usize],
     res: &mut [u64],
-) -> u32
-    ensures { NearbyWritten n distances.now k min_segment_len max_nearby sets.old res.old result sets.new res.new }
+) -> Result<(), Refusal>
+    ensures { NearbyWritten n distances.now k min_segment_len max_nearby sets.old res.old (judged result) sets.new res.new }
 {
-    let refused = refusal_rules::nearby_refusal_with_room(
+    refusal_rules::nearby_refusal_with_room(
         n,
         distances,
         k,
@@ -50,12 +42,9 @@ pub fn write_nearby_cuts(
         max_nearby,
         sets.len(),
         res.len(),
-    );
-    if refused != 0 {
-        return refused;
-    }
+    )?;
     let answer = nearby::nearby_cuts(n, distances, k, min_segment_len, max_nearby, sets);
-    entry_results::put_listing(answer, res)
+    entry_results::put(&entry_results::listing_numbers(answer), res)
 }
 
 // Lists every nearby cut set, k places each, until no whole set fits any more. Refuses 1, 5, 9, 21.
@@ -66,21 +55,19 @@ pub fn every_nearby_cuts(
     min_segment_len: usize,
     max_nearby: usize,
     sets: &mut [usize],
-) -> Listing
+) -> Result<Listing, Refusal>
     ensures { EveryReply n distances.now k min_segment_len max_nearby sets.old result sets.new }
 {
-    let refused = refusal_rules::nearby_refusal(
+    refusal_rules::nearby_refusal(n, distances, k, min_segment_len, max_nearby, sets.len())?;
+    let answer = every_nearby::every_nearby_cuts(
         n,
         distances,
         k,
         min_segment_len,
         max_nearby,
-        sets.len(),
+        sets,
     );
-    if refused != 0 {
-        return Listing::Refused(refused);
-    }
-    every_nearby::every_nearby_cuts(n, distances, k, min_segment_len, max_nearby, sets)
+    Ok(answer)
 }
 
 // The same; the result receives the number of sets written, then 0 ended or 1 more. Refuses 1, 5, 9, 21.
@@ -92,10 +79,10 @@ pub fn write_every_nearby_cuts(
     max_nearby: usize,
     sets: &mut [usize],
     res: &mut [u64],
-) -> u32
-    ensures { EveryWritten n distances.now k min_segment_len max_nearby sets.old res.old result sets.new res.new }
+) -> Result<(), Refusal>
+    ensures { EveryWritten n distances.now k min_segment_len max_nearby sets.old res.old (judged result) sets.new res.new }
 {
-    let refused = refusal_rules::nearby_refusal_with_room(
+    refusal_rules::nearby_refusal_with_room(
         n,
         distances,
         k,
@@ -103,10 +90,7 @@ pub fn write_every_nearby_cuts(
         max_nearby,
         sets.len(),
         res.len(),
-    );
-    if refused != 0 {
-        return refused;
-    }
+    )?;
     let answer = every_nearby::every_nearby_cuts(
         n,
         distances,
@@ -115,5 +99,5 @@ pub fn write_every_nearby_cuts(
         max_nearby,
         sets,
     );
-    entry_results::put_listing(answer, res)
+    entry_results::put(&entry_results::listing_numbers(answer), res)
 }

@@ -1,3 +1,3 @@
-pub mod RouteLengthReply
-pub mod DeltaReply
+pub mod Fine
 pub mod FeasibleReply
+pub mod Closed

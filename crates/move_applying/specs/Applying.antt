@@ -4,7 +4,8 @@ use Rattle.theory.specs.Moves.{patterns}
 use Rattle.theory.specs.Route.{reconnected}
 use Rattle.theory.specs.Polish.{move_at}
 use Rattle.theory.specs.Tables.{CutSet}
-use Rattle.theory.specs.Refusals.{any, rises}
+use Rattle.std.specs.List.{list_any}
+use Rattle.theory.specs.Refusals.{rises}
 
 -- A pattern for k that can be applied at the positions, and a journal that has room for the stops.
 pub record Appliable (k pattern : ℕ) (positions route journal : List ℕ) : Type 0 where
@@ -31,5 +32,5 @@ abbrev pub doable : ℕ → ℕ → ℕ → List ℕ → List ℕ → Bool
 doable k round n rounds positions =
     eqb (length rounds) k
     && eqb (length positions) k
-    && not (any (λ p. ltb n p) positions)
-    && (any (λ r. not (eqb r round)) rounds || rises positions)
+    && not (list_any (λ p. ltb n p) positions)
+    && (list_any (λ r. not (eqb r round)) rounds || rises positions)

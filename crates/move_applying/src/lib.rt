@@ -39,17 +39,8 @@ pub fn k_opt_is_doable(
 ) -> bool
     ensures { result ≡ doable k round n rounds.now positions.now }
 {
-    if rounds.len() != k {
-        return false;
-    }
-    if positions.len() != k {
-        return false;
-    }
-    if refusal_tests::any_beyond(positions, n) {
-        return false;
-    }
-    if refusal_tests::any_other(rounds, round) {
-        return true;
-    }
-    refusal_tests::strictly_rising(positions)
+    rounds.len() == k
+        && positions.len() == k
+        && !refusal_tests::any_beyond(positions, n)
+        && (refusal_tests::any_other(rounds, round) || refusal_tests::strictly_rising(positions))
 }

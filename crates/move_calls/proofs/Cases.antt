@@ -4,7 +4,7 @@ use mathlib.Core.Bool.{Bool, true, false}
 use mathlib.Core.List.{List, [], ◌∷◌, map}
 use Prim.Native.Nat.{ℕ}
 use Rattle.theory.specs.Moves.{patterns, arrangements, orders, picks, upfrom}
-use Rattle.theory.specs.Refusals.{any, rises, either, rules_of, first_in, refusal}
+use Rattle.theory.specs.Refusals.{rises, either, rules_of, first_in, refusal}
 use Rattle.move_applying.specs.Applying.{doable}
 use Rattle.move_calls.specs.Entries.{do_move_rules}
 
@@ -16,5 +16,5 @@ told c = (doable 2 0 4 c.0 c.1, refusal (do_move_rules 2 0 0 4 c.0 c.1 5))
 pub cases : map told
     ((7 ∷ 0 ∷ [], 3 ∷ 1 ∷ []) ∷ (7 ∷ 0 ∷ [], 1 ∷ 3 ∷ []) ∷ (0 ∷ 0 ∷ [], 3 ∷ 1 ∷ []) ∷ (0 ∷ 0 ∷ [], 1 ∷ 5 ∷ []) ∷ (0 ∷ 0 ∷ [], 2 ∷ 2 ∷ []) ∷ (0 ∷ [], 1 ∷ []) ∷ (0 ∷ [], 1 ∷ 3 ∷ []) ∷ (0 ∷ 0 ∷ [], 0 ∷ 4 ∷ []) ∷ [])
     ≡ ((true, 7) ∷ (true, 8) ∷ (false, 7) ∷ (false, 7) ∷ (false, 7) ∷ (false, 7) ∷ (false, 7) ∷ (true, 0) ∷ [])
-unfolding patterns arrangements orders picks upfrom any rises either rules_of first_in refusal
+unfolding patterns arrangements orders picks upfrom rises either rules_of first_in refusal
 cases = refl

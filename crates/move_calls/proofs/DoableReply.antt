@@ -1,24 +1,17 @@
 -- The replies of doable, over plain values. Assumes nothing.
-use mathlib.Core.Path.{◌≡◌}
-use mathlib.Core.Bool.{Bool, true, false, cond}
-use mathlib.Core.List.{List, [], ◌∷◌}
-use Prim.Native.Nat.{ℕ}
+use Rattle.std.proofs.Common.{◌≡◌, ◌∙◌, ap, Bool, cond, List, [], ◌∷◌, ℕ, Ok, Err}
+use Rattle.theory.specs.Numbers.{refusal_number}
+use Rattle.theory.specs.declared.Refusal.{Refusal}
 use Rattle.theory.specs.Refusals.{refusal}
-use Rattle.theory.specs.declared.Doable.TheVariants as Do
+use Rattle.theory.specs.Answers.{reply}
+use Rattle.theory.proofs.Checks.{err_reply, ok_reply}
 use Rattle.move_applying.specs.Applying.{doable}
 use Rattle.move_calls.specs.Entries.{doable_rules, DoableReply}
-use Rattle.theory.proofs.Taken.{refused_reply, taken_reply}
 
-module _ (k pattern round n : ℕ) (rounds positions : List ℕ) (number : ℕ) (judged : number ≡ refusal (doable_rules k pattern n)) where
-  abbrev answers : List ℕ
-  answers = cond (doable k round n rounds positions) 1 0 ∷ []
+pub doable_err : (k pattern round n : ℕ) (rounds positions : List ℕ) (e : Refusal) → refusal_number e ≡ refusal (doable_rules k pattern n) → DoableReply k pattern round n rounds positions (Err e)
+doable_err k pattern round n rounds positions e known = record { reply_is = err_reply e _ _ known }
 
-  pub refused : (number ≡ 0 → ⊥) → DoableReply k pattern round n rounds positions (Do.Refused number)
-  refused h = record { reply_is = refused_reply (doable_rules k pattern n) number judged answers h }
+pub doable_ok : (k pattern round n : ℕ) (rounds positions : List ℕ) (can : Bool) → 0 ≡ refusal (doable_rules k pattern n) → can ≡ doable k round n rounds positions → DoableReply k pattern round n rounds positions (Ok can)
+doable_ok k pattern round n rounds positions can known told = record { reply_is = ap (λ b. reply 0 (cond b 1 0 ∷ [])) told ∙ ok_reply _ _ known }
 
-  module _ (h : number ≡ 0) (can : Bool) (told : can ≡ doable k round n rounds positions) where
-    pub yes : can ≡ true → DoableReply k pattern round n rounds positions Do.Yes
-    yes e = record { reply_is = rw (← told, e) (taken_reply (doable_rules k pattern n) number judged (1 ∷ []) h) }
-
-    pub no : can ≡ false → DoableReply k pattern round n rounds positions Do.No
-    no e = record { reply_is = rw (← told, e) (taken_reply (doable_rules k pattern n) number judged (0 ∷ []) h) }
+pub ruleset deciding = (doable_err, doable_ok)

@@ -10,7 +10,8 @@ use lib.Seq.{take_all}
 use borrow.Author.Tests.{leb-true, leb-false, ne_eqb, eq-eqb}
 use Rattle.theory.specs.Refusals.{number, either, refusal, cut_count, stop_count, pattern_index}
 use Rattle.theory.specs.Answers.{Answer, reply}
-use Rattle.theory.specs.declared.Doable.{Doable}
+use Rattle.std.specs.Prelude.{Result}
+use Rattle.theory.specs.declared.Refusal.{Refusal}
 use Rattle.theory.proofs.Judged.{cut_count_fine}
 use Rattle.move_applying.specs.Applying.{doable}
 use Rattle.move_points.specs.declared.CutPoint.{CutPoint}
@@ -103,7 +104,7 @@ module _ (k pattern round n : ℕ) (rounds positions : List ℕ) (same : length 
       by true e = rw e
       by false e = ap said (alike (cut_count_fine k e).1)
 
-pub doable_from_numbers : (k pattern round n : ℕ) (cuts : List CutPoint) (held : CutNumbers) (answer : Doable) → HoldsCuts cuts held →
+pub doable_from_numbers : (k pattern round n : ℕ) (cuts : List CutPoint) (held : CutNumbers) (answer : Result Bool Refusal) → HoldsCuts cuts held →
     DoableReply k pattern round n (take held.len held.rounds) (take held.len held.positions) answer → DoableReply k pattern round n (rounds_of cuts) (positions_of cuts) answer
 doable_from_numbers k pattern round n cuts held answer h told =
     let six : DoableReply k pattern round n (take 6 (rounds_of cuts)) (take 6 (positions_of cuts)) answer = rw (h.rounds_held, h.positions_held) at told in

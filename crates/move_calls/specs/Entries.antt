@@ -1,10 +1,10 @@
 -- What apply, undo and doable promise: the rules by which they refuse, and their replies.
-use Rattle.std.specs.Prelude.{◌≡◌, cond, List, [], ◌∷◌, ◌++◌, ℕ, length, drop}
+use Rattle.std.specs.Prelude.{◌≡◌, Bool, cond, Result, List, [], ◌∷◌, ◌++◌, ℕ, length, drop}
 use Rattle.theory.specs.Moves.{patterns}
 use Rattle.theory.specs.Route.{reconnected}
 use Rattle.theory.specs.Polish.{move_at}
-use Rattle.theory.specs.Answers.{reply, doable_answer}
-use Rattle.theory.specs.declared.Doable.{Doable}
+use Rattle.theory.specs.Answers.{reply, flag_answer}
+use Rattle.theory.specs.declared.Refusal.{Refusal}
 use Rattle.move_applying.specs.Applying.{doable}
 use Rattle.theory.specs.Refusals.{Rule, refusal, if_taken, cut_count, stop_count, pattern_index, cut_lists, cut_positions, own_round, room, journal_length}
 
@@ -37,8 +37,8 @@ pub record UndoReply (route journal : List ℕ) (answer : ℕ) (route' : List �
 abbrev pub doable_rules : ℕ → ℕ → ℕ → List Rule
 doable_rules k pattern n = cut_count k ∷ stop_count n ∷ pattern_index k pattern ∷ []
 
-pub record DoableReply (k pattern round n : ℕ) (rounds positions : List ℕ) (answer : Doable) : Type 0 where
-  pub reply_is : doable_answer answer ≡ reply (refusal (doable_rules k pattern n)) (cond (doable k round n rounds positions) 1 0 ∷ [])
+pub record DoableReply (k pattern round n : ℕ) (rounds positions : List ℕ) (answer : Result Bool Refusal) : Type 0 where
+  pub reply_is : flag_answer answer ≡ reply (refusal (doable_rules k pattern n)) (cond (doable k round n rounds positions) 1 0 ∷ [])
 
 -- 1 yes or 0 no.
 abbrev pub doable_values : ℕ → ℕ → ℕ → List ℕ → List ℕ → List ℕ

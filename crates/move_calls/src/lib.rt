@@ -1,14 +1,17 @@
 // Apply, undo and doable, judged; the cuts are two lists of numbers or a list of cut points.
-#![tactic(auto)]
+#![tactic(auto, using(crate::proofs::DoMoveReply::applying, crate::proofs::UndoReply::undoing, crate::proofs::DoableReply::deciding, crate::proofs::FirstSix::doable_from_numbers))]
 
-ghost use Rattle.std.specs.Prelude.{◌≡◌, take};
+ghost use Rattle.std.specs.Prelude.{◌≡◌};
+ghost use Rattle.theory.specs.Numbers.{judged};
 ghost use Rattle.theory.specs.Refusals.{refusal};
-ghost use Rattle.move_points.specs.CutPoints.{Sized, rounds_of, positions_of};
-ghost use Rattle.move_calls.specs.Entries.{do_move_rules, DoMoveReply, undo_rules, UndoReply, doable_rules, DoableReply};
+ghost use Rattle.move_points.specs.CutPoints.{rounds_of, positions_of};
+ghost use Rattle.entry_results.specs.Written.{Written};
+ghost use Rattle.move_calls.specs.Entries.{do_move_rules, DoMoveReply, undo_rules, UndoReply, doable_rules, DoableReply, doable_values};
 
-use move_points::{CutNumbers, CutPoint};
-use theory::Doable;
+use move_points::CutPoint;
+use theory::Refusal;
 
+#[tactic(auto, using(theory::proofs::Checks::judging), unfolding(theory::specs::Refusals::refusal))]
 fn do_move_refusal(
     k: usize,
     pattern: usize,
@@ -17,24 +20,16 @@ fn do_move_refusal(
     rounds: &[usize],
     positions: &[usize],
     lent: usize,
-) -> u32
-    ensures { result ≡ refusal (do_move_rules k pattern round n rounds.now positions.now lent) }
+) -> Result<(), Refusal>
+    ensures { judged result ≡ refusal (do_move_rules k pattern round n rounds.now positions.now lent) }
 {
-    let bad_k = refusals::check_cut_count(k);
-    if bad_k != 0 {
-        return bad_k;
-    }
-    let bad_n = refusals::check_stop_count(n);
-    let bad_pattern = refusals::check_pattern_index(k, pattern);
-    let bad_lists = refusals::check_cut_lists(rounds, positions);
-    let bad_cuts = refusals::check_cut_positions(k, n, positions);
-    let bad_round = refusals::check_own_round(round, rounds);
-    let bad_room = refusals::check_room(n, lent);
-    let bad_list = refusals::first(
-        bad_lists,
-        refusals::first(bad_cuts, refusals::first(bad_round, bad_room)),
-    );
-    refusals::first(bad_n, refusals::first(bad_pattern, bad_list))
+    refusals::check_cut_count(k)?;
+    refusals::check_stop_count(n)?;
+    refusals::check_pattern_index(k, pattern)?;
+    refusals::check_cut_lists(rounds, positions)?;
+    refusals::check_cut_positions(k, n, positions)?;
+    refusals::check_own_round(round, rounds)?;
+    refusals::check_room(n, lent)
 }
 
 // Apply, with the cuts as two lists. Refuses 1, 5, 6, 7, 8, 21.
@@ -46,41 +41,13 @@ pub fn do_move_lists(
     positions: &[usize],
     route: &mut [u32],
     journal: &mut [u32],
-) -> u32
-    ensures { DoMoveReply k pattern round rounds.now positions.now route.old journal.old result route.new journal.new }
+) -> Result<(), Refusal>
+    ensures { DoMoveReply k pattern round rounds.now positions.now route.old journal.old (judged result) route.new journal.new }
 {
     let n = route.len();
-    let refused = do_move_refusal(k, pattern, round, n, rounds, positions, journal.len());
-    if refused != 0 {
-        return refused;
-    }
+    do_move_refusal(k, pattern, round, n, rounds, positions, journal.len())?;
     move_applying::k_opt_do_move(k, pattern, positions, route, journal);
-    0
-}
-
-fn do_move_numbers(
-    k: usize,
-    pattern: usize,
-    round: usize,
-    numbers: CutNumbers,
-    route: &mut [u32],
-    journal: &mut [u32],
-) -> u32
-    requires { Sized numbers }
-    ensures { DoMoveReply k pattern round (take numbers.len numbers.rounds) (take numbers.len numbers.positions) route.old journal.old result route.new journal.new }
-{
-    let len = numbers.len;
-    let rounds = numbers.rounds;
-    let positions = numbers.positions;
-    do_move_lists(
-        k,
-        pattern,
-        round,
-        &rounds[..len],
-        &positions[..len],
-        route,
-        journal,
-    )
+    Ok(())
 }
 
 // Apply, with the cuts as a list of cut points. Refuses 1, 5, 6, 7, 8, 21.
@@ -91,49 +58,45 @@ pub fn k_opt_do_move(
     cuts: &[CutPoint],
     route: &mut [u32],
     journal: &mut [u32],
-) -> u32
-    ensures { DoMoveReply k pattern round (rounds_of cuts.now) (positions_of cuts.now) route.old journal.old result route.new journal.new }
+) -> Result<(), Refusal>
+    ensures { DoMoveReply k pattern round (rounds_of cuts.now) (positions_of cuts.now) route.old journal.old (judged result) route.new journal.new }
 {
-    do_move_numbers(
+    let numbers = move_points::cut_numbers(cuts);
+    do_move_lists(
         k,
         pattern,
         round,
-        move_points::cut_numbers(cuts),
+        numbers.held_rounds(),
+        numbers.held_positions(),
         route,
         journal,
     )
 }
 
-fn undo_refusal(n: usize, journal: usize) -> u32
-    ensures { result ≡ refusal (undo_rules n journal) }
+#[tactic(auto, using(theory::proofs::Checks::judging), unfolding(theory::specs::Refusals::refusal))]
+fn undo_refusal(n: usize, journal: usize) -> Result<(), Refusal>
+    ensures { judged result ≡ refusal (undo_rules n journal) }
 {
-    let bad_n = refusals::check_stop_count(n);
-    let bad_journal = refusals::check_journal_length(n, journal);
-    refusals::first(bad_n, bad_journal)
+    refusals::check_stop_count(n)?;
+    refusals::check_journal_length(n, journal)
 }
 
 // Undo: the stops of the journal back into the route. Refuses 5, 22.
-pub fn k_opt_undo_move(route: &mut [u32], journal: &[u32]) -> u32
-    ensures { UndoReply route.old journal.now result route.new }
+pub fn k_opt_undo_move(route: &mut [u32], journal: &[u32]) -> Result<(), Refusal>
+    ensures { UndoReply route.old journal.now (judged result) route.new }
 {
-    let refused = undo_refusal(route.len(), journal.len());
-    if refused != 0 {
-        return refused;
-    }
+    undo_refusal(route.len(), journal.len())?;
     move_applying::k_opt_undo_move(route, journal);
-    0
+    Ok(())
 }
 
-fn is_doable_refusal(k: usize, pattern: usize, n: usize) -> u32
-    ensures { result ≡ refusal (doable_rules k pattern n) }
+#[tactic(auto, using(theory::proofs::Checks::judging), unfolding(theory::specs::Refusals::refusal))]
+fn is_doable_refusal(k: usize, pattern: usize, n: usize) -> Result<(), Refusal>
+    ensures { judged result ≡ refusal (doable_rules k pattern n) }
 {
-    let bad_k = refusals::check_cut_count(k);
-    if bad_k != 0 {
-        return bad_k;
-    }
-    let bad_n = refusals::check_stop_count(n);
-    let bad_pattern = refusals::check_pattern_index(k, pattern);
-    refusals::first(bad_n, bad_pattern)
+    refusals::check_cut_count(k)?;
+    refusals::check_stop_count(n)?;
+    refusals::check_pattern_index(k, pattern)
 }
 
 // Whether a move can be done, with the cuts as two lists. Refuses 1, 5, 6.
@@ -144,33 +107,27 @@ pub fn is_doable_lists(
     n: usize,
     rounds: &[usize],
     positions: &[usize],
-) -> Doable
+) -> Result<bool, Refusal>
     ensures { DoableReply k pattern round n rounds.now positions.now result }
 {
-    let refused = is_doable_refusal(k, pattern, n);
-    if refused != 0 {
-        return Doable::Refused(refused);
-    }
-    if move_applying::k_opt_is_doable(k, round, n, rounds, positions) {
-        return Doable::Yes;
-    }
-    Doable::No
+    is_doable_refusal(k, pattern, n)?;
+    Ok(move_applying::k_opt_is_doable(k, round, n, rounds, positions))
 }
 
-fn is_doable_numbers(
+// The same; the result receives 1 yes or 0 no. Refuses 1, 5, 6, 21.
+pub fn write_is_doable(
     k: usize,
     pattern: usize,
     round: usize,
     n: usize,
-    numbers: CutNumbers,
-) -> Doable
-    requires { Sized numbers }
-    ensures { DoableReply k pattern round n (take numbers.len numbers.rounds) (take numbers.len numbers.positions) result }
+    rounds: &[usize],
+    positions: &[usize],
+    res: &mut [u64],
+) -> Result<(), Refusal>
+    ensures { Written (doable_rules k pattern n) 1 (doable_values k round n rounds.now positions.now) res.old (judged result) res.new }
 {
-    let len = numbers.len;
-    let rounds = numbers.rounds;
-    let positions = numbers.positions;
-    is_doable_lists(k, pattern, round, n, &rounds[..len], &positions[..len])
+    let can = is_doable_lists(k, pattern, round, n, rounds, positions)?;
+    entry_results::put(&[entry_results::flag_number(can)], res)
 }
 
 // Whether a move can be done, with the cuts as a list of cut points. Refuses 1, 5, 6.
@@ -180,8 +137,16 @@ pub fn k_opt_is_doable(
     round: usize,
     n: usize,
     cuts: &[CutPoint],
-) -> Doable
+) -> Result<bool, Refusal>
     ensures { DoableReply k pattern round n (rounds_of cuts.now) (positions_of cuts.now) result }
 {
-    is_doable_numbers(k, pattern, round, n, move_points::cut_numbers(cuts))
+    let numbers = move_points::cut_numbers(cuts);
+    is_doable_lists(
+        k,
+        pattern,
+        round,
+        n,
+        numbers.held_rounds(),
+        numbers.held_positions(),
+    )
 }

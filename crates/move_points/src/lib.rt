@@ -1,22 +1,39 @@
 // Cut points, and a slice of them read into numbers. No entry: the crates above call it.
 #![tactic(auto)]
 
-ghost use Rattle.std.specs.Prelude.{◌≡◌, min, length};
-ghost use Rattle.move_points.specs.CutPoints.{cut_at, numbers_of, HoldsCuts};
+ghost use Rattle.std.specs.Prelude.{◌≡◌, min, length, take};
+ghost use Rattle.move_points.specs.CutPoints.{cut_at, numbers_of, Sized, HoldsCuts};
 
 // A cut of a round, before a position.
-#[derive(Clone, Copy)]
+#[derive(Clone, Copy, Debug, PartialEq, Eq)]
 pub struct CutPoint {
     pub round: usize,
     pub position: usize,
 }
 
 // The first six cut points as numbers. A move has at most five cuts, so that six tell as much as more.
-#[derive(Clone, Copy)]
+#[derive(Clone, Copy, Debug, PartialEq, Eq)]
 pub struct CutNumbers {
     pub len: usize,
     pub rounds: [usize; 6],
     pub positions: [usize; 6],
+}
+
+impl CutNumbers {
+    // The round numbers that are held.
+    pub fn held_rounds(&self) -> &[usize]
+        requires { Sized self.now }
+        ensures { result.now ≡ take self.now.len self.now.rounds }
+    {
+        &self.rounds[..self.len]
+    }
+
+    pub fn held_positions(&self) -> &[usize]
+        requires { Sized self.now }
+        ensures { result.now ≡ take self.now.len self.now.positions }
+    {
+        &self.positions[..self.len]
+    }
 }
 
 fn cut_count(cuts: &[CutPoint]) -> usize

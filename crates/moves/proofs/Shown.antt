@@ -1,24 +1,24 @@
 -- The values of a pattern in the first places of a result. Assumes nothing.
 use mathlib.Core.Path.{◌≡◌, refl, sym, ap, ◌∙◌}
 use mathlib.Core.List.{List, [], ◌∷◌, ◌++◌}
+use Rattle.std.specs.Prelude.{Some, None}
 use Prim.Native.Nat.{ℕ, suc, ◌+◌, ◌<◌, ◌≤◌}
 use native.Mathlib.Numerals.{add-one}
 use native.Mathlib.Omega.{arith}
 use lib.ListN.{length, get_or, take, drop, set}
-use mathlib.Core.Bool.{true, false}
 use lib.Seq.{take-suc, drop-cons, set_at, append_snoc, length-take-le}
 use Rattle.first_move.specs.FirstMove.{found_move, move_values, in_front}
 use Rattle.first_move.specs.declared.FoundMove.{FoundMove}
 
 -- One more of s in front of what is left of d.
-pub copied_more : (s d : List ℕ) (i : ℕ) → i < length s → length s ≤ length d → set (take i s ++ drop i d) i (get_or s i 0) ≡ take (i + 1) s ++ drop (i + 1) d
-copied_more s d i h k =
+pub copied_more : (s d : List ℕ) (i : ℕ) (x : ℕ) → i < length s → length s ≤ length d → get_or s i 0 ≡ x → set (take i s ++ drop i d) i x ≡ take (i + 1) s ++ drop (i + 1) d
+copied_more s d i x h k e =
     let t : length (take i s) ≡ i = length-take-le i s (omega arith) in
     rw (add-one i)
-    (ap (λ (r : List ℕ). set (take i s ++ r) i (get_or s i 0)) (drop-cons d i 0 (omega arith))
-    ∙ set_at (take i s) (get_or d i 0) (drop (suc i) d) (get_or s i 0) i t
-    ∙ sym (append_snoc (take i s) (get_or s i 0) (drop (suc i) d))
-    ∙ ap (λ (r : List ℕ). r ++ drop (suc i) d) (sym (take-suc s i 0 h)))
+    (ap (λ (r : List ℕ). set (take i s ++ r) i x) (drop-cons d i 0 (omega arith))
+    ∙ set_at (take i s) (get_or d i 0) (drop (suc i) d) x i t
+    ∙ sym (append_snoc (take i s) x (drop (suc i) d))
+    ∙ ap (λ (r : List ℕ). r ++ drop (suc i) d) (sym (rw e at (take-suc s i 0 h))))
 
 -- The mask behind the order.
 pub mask_behind : (order d : List ℕ) (mask k : ℕ) → length order ≡ k + 1 → k + 2 ≤ length d → set (order ++ drop (length order) d) (k + 1) mask ≡ order ++ (mask ∷ []) ++ drop (k + 2) d
@@ -31,23 +31,12 @@ mask_behind order d mask k e h =
 
 -- ---- a move that is found
 
-pub five : (l : List ℕ) → length l ≡ 5 → (get_or l 0 0 ∷ get_or l 1 0 ∷ get_or l 2 0 ∷ get_or l 3 0 ∷ get_or l 4 0 ∷ []) ≡ l
-five [] h = absurd (omega (arith, h))
-five (a ∷ []) h = absurd (omega (arith, h))
-five (a ∷ b ∷ []) h = absurd (omega (arith, h))
-five (a ∷ b ∷ c ∷ []) h = absurd (omega (arith, h))
-five (a ∷ b ∷ c ∷ d ∷ []) h = absurd (omega (arith, h))
-five (a ∷ b ∷ c ∷ d ∷ e ∷ []) h = refl
-five (a ∷ b ∷ c ∷ d ∷ e ∷ f ∷ l) h = absurd (omega (arith, h))
+pub found_put : (k : ℕ) (r : FoundMove) (result : List ℕ) → k ≤ length r.cuts → 2 ≤ length result →
+    take 2 (set (set result 0 1) 1 r.index) ++ (take k r.cuts ++ drop (length (take k r.cuts)) (drop 2 (set (set result 0 1) 1 r.index))) ≡ in_front (move_values (found_move k (Some r))) result
+found_put k r [] h g = absurd (omega arith)
+found_put k r (x ∷ []) h g = absurd (omega arith)
+found_put k r (x ∷ y ∷ result) h g = refl
 
-module _ (k : ℕ) (r : FoundMove) (result : List ℕ) where
-  pub found_put : (numbers : List ℕ) → r.found ≡ true → numbers ≡ 1 ∷ r.index ∷ r.cuts →
-      take (k + 2) numbers ++ drop (length (take (k + 2) numbers)) result ≡ in_front (move_values (found_move k r)) result
-  found_put numbers f e = let z : k + 2 ≡ suc (suc k) = omega arith in rw (f, e, z) refl
-
-  pub none_put : r.found ≡ false → 1 ≤ length result → set result 0 0 ≡ in_front (move_values (found_move k r)) result
-  none_put f h = rw f (by result h)
-    where
-      by : (l : List ℕ) → 1 ≤ length l → set l 0 0 ≡ 0 ∷ drop 1 l
-      by [] h = absurd (omega arith)
-      by (x ∷ l) h = refl
+pub none_put : (k : ℕ) (result : List ℕ) → 1 ≤ length result → set result 0 0 ≡ in_front (move_values (found_move k None)) result
+none_put k [] h = absurd (omega arith)
+none_put k (x ∷ result) h = refl

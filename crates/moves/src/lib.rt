@@ -1,7 +1,7 @@
 // A move by the index of its pattern: its route, its change of the length, and its numbers in a lent result. No entry: the crates above call it.
 #![tactic(auto)]
 
-ghost use Rattle.std.specs.Prelude.{◌≡◌, ◌∷◌, ◌++◌, ◌+◌, ◌≤◌, length, drop};
+ghost use Rattle.std.specs.Prelude.{◌≡◌, ℕ, ◌++◌, ◌+◌, ◌≤◌, length, map, drop};
 ghost use Rattle.theory.specs.Moves.{patterns};
 ghost use Rattle.theory.specs.Route.{reconnected};
 ghost use Rattle.theory.specs.Polish.{move_at};
@@ -12,12 +12,36 @@ ghost use Rattle.first_move.specs.FirstMove.{found_move, move_values, in_front};
 use first_move::FoundMove;
 use theory::STOPS;
 
-fn put_order(order: &[u8], res: &mut [u64])
-    requires { length order.now ≤ length res.old }
-    ensures { res.new ≡ order.now ++ drop (length order.now) res.old }
+// A number of a pattern or of a move, as a result holds it.
+trait Number: Copy {
+    ghost value: { Self → ℕ };
+
+    fn wide(self) -> u64
+        ensures { result ≡ value self };
+}
+
+impl Number for u8 {
+    ghost value = { λ n. n };
+
+    fn wide(self) -> u64 {
+        self as u64
+    }
+}
+
+impl Number for usize {
+    ghost value = { λ n. n };
+
+    fn wide(self) -> u64 {
+        self as u64
+    }
+}
+
+fn put_numbers<T: Number>(numbers: &[T], res: &mut [u64])
+    requires { length numbers.now ≤ length res.old }
+    ensures { res.new ≡ map T.value numbers.now ++ drop (length numbers.now) res.old }
 {
-    for i in 0..order.len() {
-        res[i] = order[i] as u64;
+    for i in 0..numbers.len() {
+        res[i] = numbers[i].wide();
     }
 }
 
@@ -29,7 +53,7 @@ pub fn put_pattern(k: usize, index: usize, res: &mut [u64])
     let found = patterns::pattern_at(k, index);
     let order = found.segment_order;
     let segments = k + 1;
-    put_order(&order[..segments], res);
+    put_numbers(&order[..segments], res);
     res[segments] = found.reverse_mask as u64;
 }
 
@@ -82,41 +106,18 @@ pub fn delta_pattern(
     )
 }
 
-fn put_values(values: &[u64], res: &mut [u64])
-    requires { length values.now ≤ length res.old }
-    ensures { res.new ≡ values.now ++ drop (length values.now) res.old }
-{
-    for i in 0..values.len() {
-        res[i] = values[i];
-    }
-}
-
-// 1, the index and all five cuts.
-fn numbers_of(answer: FoundMove) -> [u64; 7]
-    ensures { result ≡ 1 ∷ answer.index ∷ answer.cuts }
-{
-    let cuts = answer.cuts;
-    [
-        1,
-        answer.index as u64,
-        cuts[0] as u64,
-        cuts[1] as u64,
-        cuts[2] as u64,
-        cuts[3] as u64,
-        cuts[4] as u64,
-    ]
-}
-
 // 1, the index and the k cuts; or 0 in the first place alone.
-pub fn put_move(k: usize, answer: FoundMove, res: &mut [u64])
+pub fn put_move(k: usize, answer: Option<FoundMove>, res: &mut [u64])
     requires { MoveRoom k res.old }
     ensures { res.new ≡ in_front (move_values (found_move k answer)) res.old }
 {
-    if answer.found {
-        let numbers = numbers_of(answer);
-        let end = k + 2;
-        put_values(&numbers[..end], res);
-        return;
+    match answer {
+        None => res[0] = 0,
+        Some(found) => {
+            let cuts = found.cuts;
+            res[0] = 1;
+            res[1] = found.index as u64;
+            put_numbers(&cuts[..k], &mut res[2..]);
+        }
     }
-    res[0] = 0;
 }

@@ -6,6 +6,9 @@ use native.Mathlib.Numerals.{add-one}
 use native.Mathlib.Omega.{arith}
 use lib.ListN.{length, take, drop, set, length-append}
 use lib.Seq.{take_at}
+use Rattle.theory.specs.Numbers.{refusal_number}
+use Rattle.theory.specs.declared.Refusal.{Refusal}
+use Rattle.theory.proofs.Checks.{some}
 use Rattle.theory.specs.Moves.{Pattern, patterns}
 use Rattle.theory.specs.Refusals.{refusal}
 use Rattle.theory.specs.declared.KOptReconnection.{KOptReconnection}
@@ -73,7 +76,7 @@ module _ (k index n : ℕ) (cuts result : List ℕ) (number : ℕ) (judged : num
   abbrev done : List ℕ
   done = back_values k index n cuts ++ drop (k + 1) result
 
-  pub refused : (number ≡ 0 → ⊥) → WayBackReply k index n cuts result number result
+  refused : (number ≡ 0 → ⊥) → WayBackReply k index n cuts result number result
   refused h =
       record {
         number_is = judged;
@@ -82,7 +85,7 @@ module _ (k index n : ℕ) (cuts result : List ℕ) (number : ℕ) (judged : num
       }
 
   module _ (h : number ≡ 0) where
-    pub fine : Invertible k index n cuts result
+    fine : Invertible k index n cuts result
     unfolding known
     fine =
         let p = taken_passes (way_back_rules k index n cuts (length result)) number judged refl h in
@@ -95,10 +98,21 @@ module _ (k index n : ℕ) (cuts result : List ℕ) (number : ℕ) (judged : num
     back : GoesBack k index n cuts (index_of k (move_back k index n cuts).pattern) (move_back k index n cuts).cuts
     back = goes_back k index n cuts fine.cut_set.many fine.cut_set.rising fine.listed
 
-    pub written : (result' : List ℕ) → result' ≡ back_values k index n cuts ++ drop (k + 1) result → WayBackReply k index n cuts result 0 result'
+    written : (result' : List ℕ) → result' ≡ back_values k index n cuts ++ drop (k + 1) result → WayBackReply k index n cuts result 0 result'
     written result' e =
         record {
           number_is = sym h ∙ judged;
           result_is = e ∙ taken_done (way_back_rules k index n cuts (length result)) number judged done result h;
           goes_back = λ z. rw (e, take_at (move_back k index n cuts).cuts (drop (k + 1) result) k back.many) back;
         }
+
+pub way_back_err : (k index n : ℕ) (cuts result : List ℕ) (e : Refusal) → refusal_number e ≡ refusal (way_back_rules k index n cuts (length result)) → WayBackReply k index n cuts result (refusal_number e) result
+way_back_err k index n cuts result e free = refused k index n cuts result (refusal_number e) free (some e)
+
+pub way_back_fine : (k index n : ℕ) (cuts result : List ℕ) → 0 ≡ refusal (way_back_rules k index n cuts (length result)) → Invertible k index n cuts result
+way_back_fine k index n cuts result free = fine k index n cuts result 0 free refl
+
+pub way_back_ok : (k index n : ℕ) (cuts result result' : List ℕ) → 0 ≡ refusal (way_back_rules k index n cuts (length result)) → result' ≡ back_values k index n cuts ++ drop (k + 1) result → WayBackReply k index n cuts result 0 result'
+way_back_ok k index n cuts result result' free e = written k index n cuts result 0 free refl result' e
+
+pub ruleset replies = (way_back_err, way_back_fine, way_back_ok)

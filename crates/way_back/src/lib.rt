@@ -2,11 +2,14 @@
 #![tactic(auto)]
 
 ghost use Rattle.std.specs.Prelude.{◌≡◌, cond, [], ◌∷◌, ◌++◌, ◌+◌, ◌*◌, ◌≤◌, ◌<◌, ltb, length, get_or, drop};
+ghost use Rattle.theory.specs.Numbers.{judged};
 ghost use Rattle.theory.specs.Refusals.{refusal};
 ghost use Rattle.inverse.specs.WayBack.{inverse_order, inverse_mask, segment_size, ends};
 ghost use Rattle.inverse.specs.PatternIndex.{below, rank, index_of};
 ghost use Rattle.inverse.specs.GoesBack.{back_values};
 ghost use Rattle.way_back.specs.WayBack.{OrderPlaces, SizedSegment, CutPlaces, ListedPattern, Invertible, sizes_of, way_back_rules, WayBackReply};
+
+use theory::Refusal;
 
 // ---- the order and the mask
 
@@ -21,11 +24,9 @@ fn put_inverse_order(order: &[u8], back: &mut [u8])
     requires { OrderPlaces order.now back.old }
     ensures { back.new ≡ inverse_order order.now }
 {
-    let mut i = 0;
-    while i < order.len() {
+    for i in 0..order.len() {
         let segment = wide(order[i]);
         back[segment] = i as u8;
-        i += 1;
     }
 }
 
@@ -34,10 +35,7 @@ fn with_bit(bits: u8, low: bool) -> u8
     requires { bits ≤ 127 }
     ensures { result ≡ cond low 1 0 + 2 * bits }
 {
-    if low {
-        return 1 + 2 * bits;
-    }
-    2 * bits
+    u8::from(low) + 2 * bits
 }
 
 // The lowest bit is that of the segment which arrived first.
@@ -61,10 +59,7 @@ fn inverse_mask(order: &[u8], mask: u8) -> u8
 fn hit(found: u8, segment: u8) -> usize
     ensures { result ≡ cond (ltb found segment) 1 0 }
 {
-    if found < segment {
-        return 1;
-    }
-    0
+    usize::from(found < segment)
 }
 
 // How many segments of a list are below one.
@@ -72,10 +67,8 @@ fn count_below(list: &[u8], segment: u8) -> usize
     ensures { result ≡ below segment list.now }
 {
     let mut sum = 0;
-    let mut i = 0;
-    while i < list.len() {
+    for i in 0..list.len() {
         sum += hit(list[i], segment);
-        i += 1;
     }
     sum
 }
@@ -87,11 +80,9 @@ fn rank_of(order: &[u8]) -> usize
 {
     let n = order.len();
     let mut sum = 0;
-    let mut i = 0;
-    while i < n {
+    for i in 0..n {
         let behind = i + 1;
         sum = sum * (n - i) + count_below(&order[behind..], order[i]);
-        i += 1;
     }
     sum
 }
@@ -139,12 +130,10 @@ fn put_inverse_cuts(cuts: &[usize], n: usize, order: &[u8], out: &mut [u64])
     ensures { out.new ≡ ends 0 (sizes_of cuts.now n order.now) }
 {
     let mut at = 0;
-    let mut i = 0;
-    while i < cuts.len() {
+    for i in 0..cuts.len() {
         let segment = wide(order[i]);
         at += segment_size(cuts, n, segment);
         out[i] = at as u64;
-        i += 1;
     }
 }
 
@@ -162,31 +151,35 @@ fn put_way_back(k: usize, pattern: usize, n: usize, cuts: &[usize], res: &mut [u
     put_inverse_cuts(cuts, n, &order[..segments], &mut res[1..segments]);
 }
 
-fn way_back_refusal(k: usize, pattern: usize, n: usize, cuts: &[usize], lent: usize) -> u32
-    ensures { result ≡ refusal (way_back_rules k pattern n cuts.now lent) }
+#[tactic(auto, using(theory::proofs::Checks::judging), unfolding(theory::specs::Refusals::refusal))]
+fn way_back_refusal(
+    k: usize,
+    pattern: usize,
+    n: usize,
+    cuts: &[usize],
+    lent: usize,
+) -> Result<(), Refusal>
+    ensures { judged result ≡ refusal (way_back_rules k pattern n cuts.now lent) }
 {
-    let bad_k = refusals::check_cut_count(k);
-    if bad_k != 0 {
-        return bad_k;
-    }
-    let bad_n = refusals::check_stop_count(n);
-    let bad_pattern = refusals::check_pattern_index(k, pattern);
-    let bad_cuts = refusals::check_cut_positions(k, n, cuts);
-    let bad_room = refusals::check_room(k + 1, lent);
-    refusals::first(
-        bad_n,
-        refusals::first(bad_pattern, refusals::first(bad_cuts, bad_room)),
-    )
+    refusals::check_cut_count(k)?;
+    refusals::check_stop_count(n)?;
+    refusals::check_pattern_index(k, pattern)?;
+    refusals::check_cut_positions(k, n, cuts)?;
+    refusals::check_room(k + 1, lent)
 }
 
 // The way back of the move with the pattern of an index at cuts of a route of n stops: the index of its pattern, then its k cuts. Refuses 1, 5, 6, 7, 21.
-pub fn way_back(k: usize, pattern: usize, n: usize, cuts: &[usize], res: &mut [u64]) -> u32
-    ensures { WayBackReply k pattern n cuts.now res.old result res.new }
+#[tactic(auto, using(crate::proofs::Replies::replies))]
+pub fn way_back(
+    k: usize,
+    pattern: usize,
+    n: usize,
+    cuts: &[usize],
+    res: &mut [u64],
+) -> Result<(), Refusal>
+    ensures { WayBackReply k pattern n cuts.now res.old (judged result) res.new }
 {
-    let refused = way_back_refusal(k, pattern, n, cuts, res.len());
-    if refused != 0 {
-        return refused;
-    }
+    way_back_refusal(k, pattern, n, cuts, res.len())?;
     put_way_back(k, pattern, n, cuts, res);
-    0
+    Ok(())
 }

@@ -1,19 +1,13 @@
--- `listing_calls::write_nearby_cuts` meets its contract. Assumes nothing.
+use Rattle.std.proofs.Common.{rules, ◌≡◌, length}
+use Rattle.theory.specs.Refusals.{refusal}
+use Rattle.refusal_rules.specs.Rules.{nearby_rules, with_room}
 use Rattle.nearby.specs.Walk.{nearby_sets}
-use Rattle.listing_calls.proofs.ListingReply.{call_refused, call_fine, call_listed}
+use Rattle.listing_calls.proofs.ListingReply.{written_ok}
 use Rattle.listing_calls.proofs.write_nearby_cuts.Goals as goal
-
-pub returns-then-refused-ne0 : goal.returns-then-refused-ne0
-returns-then-refused-ne0 c =
-    let r = c.nearby_refusal_with_room-refused in
-    call_refused c.args.n c.args.distances.now c.args.k c.args.min_segment_len c.args.max_nearby c.args.sets.now c.args.res.now r.result r.ensures c.if-refused-ne0.true
-
-pub nearby_cuts-answer-requires : goal.nearby_cuts-answer-requires
-nearby_cuts-answer-requires c =
-    let r = c.nearby_refusal_with_room-refused in
-    call_fine c.args.n c.args.distances.now c.args.k c.args.min_segment_len c.args.max_nearby c.args.sets.now c.args.res.now r.result r.ensures c.if-refused-ne0.false
 
 pub returns : goal.returns
 returns c =
-    let r = c.nearby_refusal_with_room-refused in
-    call_listed c.args.n c.args.distances.now c.args.k c.args.min_segment_len c.args.max_nearby c.args.sets.now c.args.res.now r.result r.ensures c.if-refused-ne0.false {all = nearby_sets c.args.distances.now c.args.n c.args.k c.args.min_segment_len c.args.max_nearby} _ _ c.nearby_cuts-answer.ensures _ _ c.put_listing.ensures
+    let s = c.args in
+    let listed = c.nearby_cuts-answer in
+    let free : 0 ≡ refusal (with_room (nearby_rules s.n s.distances.now s.k s.min_segment_len s.max_nearby (length s.sets.now)) 2 (length s.res.now)) = search rules in
+    written_ok s.n s.distances.now s.k s.min_segment_len s.max_nearby s.sets.now s.res.now (nearby_sets s.distances.now s.n s.k s.min_segment_len s.max_nearby) listed.result _ _ _ _ free listed.ensures c.listing_numbers.ensures c.put.ensures

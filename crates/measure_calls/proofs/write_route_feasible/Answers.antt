@@ -1,20 +1,18 @@
--- `measure_calls::write_route_feasible` meets its contract. Assumes nothing.
-use mathlib.Core.Path.{refl}
-use lib.ListN.{length}
-use Rattle.theory.specs.Tables.{Tables, tables}
-use Rattle.theory.specs.Refusals.{problem_rules}
-use Rattle.theory.specs.Answers.{feasibility_answer}
+use Rattle.std.proofs.Common.{rules, ◌≡◌, refl, [], ◌∷◌, length}
+use Rattle.theory.specs.Numbers.{judged, refusal_number}
+use Rattle.theory.specs.Answers.{deadline_position}
 use Rattle.theory.proofs.LastRule.{early}
-use Rattle.measure_calls.specs.Measures.{late_values}
-use Rattle.entry_results.proofs.Written.{answer_written}
+use Rattle.entry_results.proofs.Written.{err_written, ok_written}
 use Rattle.measure_calls.proofs.write_route_feasible.Goals as goal
-use Rattle.measure_calls.proofs.write_route_feasible.Goals.{Start}
 
-abbrev tables_at : Start → Tables
-tables_at s = tables s.args.locations s.args.legs.now s.args.latest.now s.args.service.now
+pub returns-in_err-answer : goal.returns-in_err-answer
+unfolding early
+returns-in_err-answer c =
+    let e = c.in_err-answer.field-0.0 in
+    let goes : judged c.from_residual.result ≡ refusal_number e = search rules in
+    err_written (λ d. deadline_position (length c.args.route.now) d ∷ []) _ _ c.args.res.now c.route_feasible.result c.route_feasible.ensures.reply_is refl e _ c.in_err-answer.was goes
 
 pub returns : goal.returns
 unfolding early
 returns c =
-    let a = c.route_feasible-answer in
-    answer_written (problem_rules (tables_at (goal.at.returns c).Start) c.args.depot c.args.route.now) refl (late_values (tables_at (goal.at.returns c).Start) c.args.depot c.args.route.now) c.args.res.now _ _ (feasibility_answer (length c.args.route.now) a.result) a.ensures.reply_is c.put_feasibility.ensures
+    ok_written (λ d. deadline_position (length c.args.route.now) d ∷ []) _ _ c.args.res.now c.route_feasible.result c.route_feasible.ensures.reply_is refl c.in_ok-answer.answer _ _ c.in_ok-answer.was (rw c.position_of.ensures at c.put.ensures)

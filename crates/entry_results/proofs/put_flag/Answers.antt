@@ -1,8 +1,0 @@
--- `entry_results::put_flag` meets its contract. Assumes nothing.
-use Rattle.entry_results.proofs.put_flag.Goals as goal
-
-pub returns-then-flag : goal.returns-then-flag
-returns-then-flag c = rw c.if-flag.true c.put_number.ensures
-
-pub returns : goal.returns
-returns c = rw c.if-flag.false c.put_number-2.ensures
