@@ -9,9 +9,7 @@ use lib.ListN.{length}
 use borrow.Author.Tests.{eqb-true, ne_eqb}
 use Rattle.theory.specs.Tables.{Tables, Trip}
 use Rattle.theory.specs.Refusals.{either, number, refusal, table_rules, known_stops, known_end, pair_list, stop_count, paired_rules}
-use Rattle.theory.proofs.Refusals.{Passes, known, accepted}
-use Rattle.theory.proofs.Judged.{clocked}
-use Rattle.refusal_rules.proofs.Parts.{paired_parts}
+use Rattle.theory.proofs.Refusals.{Passes, known, accepted, either_zero, either_assoc}
 use Rattle.polishing.proofs.Judged.{paired_fine, pairs_fine}
 use Rattle.desks.specs.Desks.{taken, Paired, Judgeable, BothTaken}
 
@@ -39,7 +37,8 @@ module _ (T : Trip) (first second : List ℕ) where
       (either (number (pair_list T.tables.locations T.pairs)) (number (stop_count (length list))))))
 
   in_parts : (list : List ℕ) → parts list ≡ refusal (paired_rules T list)
-  in_parts list = paired_parts T list _ _ _ _ _ refl refl refl refl refl
+  unfolding refusal
+  in_parts list = simp (either_assoc, either_zero)
 
   pub both_judged : (bad_first bad_stops bad_n : ℕ) → bad_first ≡ refusal (paired_rules T first) → bad_stops ≡ number (known_stops T.tables.locations T.depot second) →
       bad_n ≡ number (stop_count (length second)) → eqb (either bad_first (either bad_stops bad_n)) 0 ≡ (taken T first && taken T second)
@@ -58,13 +57,6 @@ module _ (T : Trip) (first second : List ℕ) where
       let p = passes first b.0 in
       let t = paired_fine T first p in
       record { one = t; other = paired_fine T second (passes second b.1); fillable = pairs_fine T.tables.locations T.pairs t.measurable.table.few p.1.1.1.1.1.1.0 }
-
-  module _ (b : BothTaken T first second) where
-    pub judge_first : Judgeable T.tables T.depot T.pairs first
-    judge_first = record { clocked = clocked b.one; fillable = b.fillable }
-
-    pub judge_second : Judgeable T.tables T.depot T.pairs second
-    judge_second = record { clocked = clocked b.other; fillable = b.fillable }
 
 -- A stop is a location, and those are at most 1,024.
 pub paired : (T : Tables) (depot : ℕ) (pairs list : List ℕ) → Judgeable T depot pairs list → Paired pairs list

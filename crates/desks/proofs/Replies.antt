@@ -1,16 +1,15 @@
 -- The answers of the parts, over plain values. Assumes nothing.
-use mathlib.Core.Path.{◌≡◌, refl, sym, ◌∙◌}
+use mathlib.Core.Path.{◌≡◌, refl}
 use mathlib.Core.Bool.{Bool, true, false, ◌&&◌}
 use mathlib.Core.List.{List, [], ◌∷◌}
 use Prim.Native.Nat.{ℕ, ◌≤◌, ◌<◌}
 use native.Mathlib.Omega.{arith}
 use lib.ListN.{length}
-use denote.Ref.{Bor}
 use borrow.Author.Tests.{le-leb, lt-leb}
 use Rattle.theory.specs.Route.{Problem, timetable_of, tour_length, timely, feasible}
 use Rattle.theory.specs.Pairs.{pairs_of, all, pairs_kept}
 use Rattle.theory.specs.Tables.{Trip, problem, legs_only}
-use Rattle.desks.specs.Desks.{shorter, which, taken, WhichDesk, WhichOfTwo}
+use Rattle.desks.specs.Desks.{shorter, which, taken, WhichDesk}
 
 -- ---- deadlines and pairs
 
@@ -71,15 +70,3 @@ module _ (T : Trip) (first second : List ℕ) (both : Bool) (p : both ≡ (taken
 
   pub untold : both ≡ false → WhichDesk T first second 0
   untold e = record { is = rw (← p, e) }
-
--- ---- the list itself
-
-module _ (T : Trip) (first second : Bor (List ℕ)) (answer : ℕ) (told : WhichDesk T first.now second.now answer) where
-  pub hands_first : answer ≡ 1 → WhichOfTwo T first second first
-  hands_first e = let d = sym told.is ∙ e in record { first_own = λ _. refl; second_own = λ h. absurd (omega (arith, d, h)); empty_part = λ h. absurd (omega (arith, d, h)) }
-
-  pub hands_second : answer ≡ 2 → WhichOfTwo T first second second
-  hands_second e = let d = sym told.is ∙ e in record { first_own = λ h. absurd (omega (arith, d, h)); second_own = λ _. refl; empty_part = λ h. absurd (omega (arith, d, h)) }
-
-  pub hands_nothing : (answer ≡ 1 → ⊥) → (answer ≡ 2 → ⊥) → (list : Bor (List ℕ)) → list.ref_ptr ≡ first.ref_ptr → list.now ≡ [] → WhichOfTwo T first second list
-  hands_nothing f g list e n = record { first_own = λ h. absurd (f (told.is ∙ h)); second_own = λ h. absurd (g (told.is ∙ h)); empty_part = λ _. (e, n) }

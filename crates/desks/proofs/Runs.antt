@@ -6,7 +6,7 @@ use lib.ListN.{replicate}
 use Rattle.theory.specs.Pairs.{pairs_of, pairs_kept}
 use Rattle.theory.specs.Route.{tour_length, timely}
 use Rattle.theory.specs.Tables.{Trip, trip}
-use Rattle.theory.specs.Refusals.{any, refusal}
+use Rattle.theory.specs.Refusals.{refusal}
 use Rattle.desks.specs.Desks.{desk}
 
 -- From the depot 0, with the latest second of location 1, the end harbour and the pairs.
@@ -55,5 +55,5 @@ runs =
     ∷ []
 
 pub runs_right : map (λ r. answer r.0) runs ≡ map (λ r. r.1) runs
-unfolding refusal any pairs_of pairs_kept timely tour_length
+unfolding refusal pairs_of pairs_kept timely tour_length
 runs_right = refl

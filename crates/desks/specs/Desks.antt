@@ -1,10 +1,12 @@
 -- "Which of the two": two desks each hand in a list for one boat, and one of them is handed back.
-use Rattle.std.specs.Prelude.{◌≡◌, Bool, cond, ◌&&◌, List, [], ℕ, ◌≤◌, ◌<◌, leb, eqb, length, get_or}
+use Rattle.std.specs.Prelude.{◌≡◌, Option, Some, None, Bool, cond, ◌&&◌, List, [], ℕ, ◌≤◌, ◌<◌, leb, eqb, length, get_or}
 use Rattle.std.specs.Borrow.{Bor}
 use Rattle.theory.specs.Route.{Problem, tour_length, feasible, Feasible}
 use Rattle.theory.specs.Tables.{Tables, Trip, problem, Measurable, Clocked, Timed}
 use Rattle.theory.specs.Refusals.{refusal, paired_rules}
 use Rattle.precedence.specs.Words.{PairsFillable}
+use Rattle.desks.specs.declared.Desk.{Desk}
+use Rattle.desks.specs.declared.Desk.TheVariants as Own
 
 -- "Whichever is shorter": by its length to the end harbour; "where both .. are equal in length, the first".
 abbrev pub shorter : Problem → (first second : List ℕ) → ℕ
@@ -21,6 +23,12 @@ taken T list = eqb (refusal (paired_rules T list)) 0
 -- Both lists are judged before either is measured.
 abbrev pub desk : Trip → (first second : List ℕ) → ℕ
 desk T first second = cond (taken T first && taken T second) (which (problem T) first second) 0
+
+-- The number of a desk, or 0 for neither.
+abbrev pub desk_number : Option Desk → ℕ
+desk_number (Some Own.First) = 1
+desk_number (Some Own.Second) = 2
+desk_number None = 0
 
 -- ---- the same in words
 

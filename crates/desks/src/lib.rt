@@ -2,14 +2,32 @@
 // crate mittenschist hands it on.
 #![tactic(auto)]
 
-ghost use Rattle.std.specs.Prelude.{◌≡◌, ◌&&◌};
+ghost use Rattle.std.specs.Prelude.{◌≡◌, ◌&&◌, eqb, Some};
+ghost use Rattle.theory.specs.Numbers.{judged};
 ghost use Rattle.theory.specs.Pairs.{pairs_of, pairs_kept};
 ghost use Rattle.theory.specs.Route.{timely};
 ghost use Rattle.theory.specs.Tables.{timetable_by, tables, trip, problem, legs_only};
-ghost use Rattle.desks.specs.Desks.{shorter, which, taken, WhichDesk, WhichOfTwo, Paired, Judgeable, BothMeasurable, BothTaken};
+ghost use Rattle.desks.specs.Desks.{desk_number, shorter, which, taken, WhichDesk, WhichOfTwo, Paired, Judgeable, BothMeasurable, BothTaken};
 
 use precedence::MEMBERS;
-use theory::Deadline;
+use theory::{Deadline, Refusal};
+
+// The desk whose list is handed back, with the number that C is told.
+#[derive(Clone, Copy, Debug, PartialEq, Eq)]
+pub enum Desk {
+    First = 1,
+    Second = 2,
+}
+
+// What C is told: the desk's number, or 0 for neither.
+pub fn number_of(desk: Option<Desk>) -> u32
+    ensures { result ≡ desk_number desk }
+{
+    match desk {
+        Some(desk) => desk as u32,
+        None => 0,
+    }
+}
 
 // Whether a list keeps its pairs; their words stand here alone.
 fn keeps_pairs(pairs: &[u32], list: &[u32]) -> bool
@@ -52,16 +70,16 @@ fn shorter_of(
     end: u32,
     first: &[u32],
     second: &[u32],
-) -> u32
+) -> Desk
     requires { BothMeasurable locations legs.now depot end first.now second.now }
-    ensures { result ≡ shorter (legs_only locations legs.now depot end) first.now second.now }
+    ensures { desk_number (Some result) ≡ shorter (legs_only locations legs.now depot end) first.now second.now }
 {
     let one = costs::route_length(locations, legs, depot, end, first);
     let other = costs::route_length(locations, legs, depot, end, second);
     if one <= other {
-        return 1;
+        return Desk::First;
     }
-    2
+    Desk::Second
 }
 
 // Of two lists that are not refused.
@@ -75,26 +93,26 @@ fn which_taken(
     pairs: &[u32],
     first: &[u32],
     second: &[u32],
-) -> u32
+) -> Option<Desk>
     requires { BothTaken (trip locations legs.now latest.now service.now depot end pairs.now) first.now second.now }
-    ensures { result ≡ which (problem (trip locations legs.now latest.now service.now depot end pairs.now)) first.now second.now }
+    ensures { desk_number result ≡ which (problem (trip locations legs.now latest.now service.now depot end pairs.now)) first.now second.now }
 {
     let keeps_first = keeps_all(locations, legs, latest, service, depot, pairs, first);
     let keeps_second = keeps_all(locations, legs, latest, service, depot, pairs, second);
     if keeps_first {
         if keeps_second {
-            return shorter_of(locations, legs, depot, end, first, second);
+            return Some(shorter_of(locations, legs, depot, end, first, second));
         }
-        return 1;
+        return Some(Desk::First);
     }
     if keeps_second {
-        return 2;
+        return Some(Desk::Second);
     }
-    0
+    None
 }
 
-// Whether polishing would take both: the tables, depot, end and pairs are judged once.
-fn both_taken(
+// Both lists judged as polishing does: the tables, depot, end and pairs once.
+fn judge_both(
     locations: usize,
     legs: &[u32],
     latest: &[u32],
@@ -104,18 +122,15 @@ fn both_taken(
     pairs: &[u32],
     first: &[u32],
     second: &[u32],
-) -> bool
-    ensures { result ≡ (taken (trip locations legs.now latest.now service.now depot end pairs.now) first.now && taken (trip locations legs.now latest.now service.now depot end pairs.now) second.now) }
+) -> Result<(), Refusal>
+    ensures { eqb (judged result) 0 ≡ (taken (trip locations legs.now latest.now service.now depot end pairs.now) first.now && taken (trip locations legs.now latest.now service.now depot end pairs.now) second.now) }
 {
-    let bad_first = refusal_rules::paired_refusal(
-        locations, legs, latest, service, depot, end, pairs, first,
-    );
-    let bad_stops = refusals::check_known_stops(locations, depot, second);
-    let bad_n = refusals::check_stop_count(second.len());
-    refusals::first(bad_first, refusals::first(bad_stops, bad_n)) == 0
+    refusal_rules::paired_refusal(locations, legs, latest, service, depot, end, pairs, first)?;
+    refusals::check_known_stops(locations, depot, second)?;
+    refusals::check_stop_count(second.len())
 }
 
-// 1 for the first, 2 for the second, 0 for neither.
+// None where polishing would refuse either list, or neither keeps its deadlines and pairs.
 pub fn which_desk(
     locations: usize,
     legs: &[u32],
@@ -126,17 +141,18 @@ pub fn which_desk(
     pairs: &[u32],
     first: &[u32],
     second: &[u32],
-) -> u32
-    ensures { WhichDesk (trip locations legs.now latest.now service.now depot end pairs.now) first.now second.now result }
+) -> Option<Desk>
+    ensures { WhichDesk (trip locations legs.now latest.now service.now depot end pairs.now) first.now second.now (desk_number result) }
 {
-    if both_taken(
+    let judged_both = judge_both(
         locations, legs, latest, service, depot, end, pairs, first, second,
-    ) {
-        return which_taken(
+    );
+    match judged_both {
+        Ok(()) => which_taken(
             locations, legs, latest, service, depot, end, pairs, first, second,
-        );
+        ),
+        Err(_) => None,
     }
-    0
 }
 
 // The desk's own list; the part of the first with no stop for neither.
@@ -156,11 +172,9 @@ pub fn which_of_two<'a>(
     let desk = which_desk(
         locations, legs, latest, service, depot, end, pairs, first, second,
     );
-    if desk == 1 {
-        return first;
+    match desk {
+        Some(Desk::First) => first,
+        Some(Desk::Second) => second,
+        None => &first[..0],
     }
-    if desk == 2 {
-        return second;
-    }
-    &first[..0]
 }

@@ -1,5 +1,5 @@
 -- The rules of polishing with a list: judged in parts, what they establish, and where the list is that of all patterns. Assumes nothing.
-use mathlib.Core.Path.{◌≡◌, refl, sym, ap, ap₂, ◌∙◌}
+use mathlib.Core.Path.{◌≡◌, refl, sym, ap, ◌∙◌}
 use mathlib.Core.Bool.{Bool, true, false}
 use mathlib.Core.List.{List, [], ◌∷◌, ◌++◌}
 use Prim.Native.Nat.{ℕ, suc, ◌*◌, ◌≤◌, ◌<◌}
@@ -10,7 +10,6 @@ use Rattle.theory.specs.Tables.{PatternRows, pattern_rows}
 use Rattle.theory.specs.Question.{Question}
 use Rattle.theory.specs.Refusals.{Rule, number, either, refusal, cut_count, known_stops, known_end, stop_count, table_rules, trip_rules, paired_rules, room}
 use Rattle.theory.proofs.Refusals.{Passes, known, either_zero, either_assoc}
-use Rattle.theory.proofs.LastRule.{early}
 use Rattle.theory.proofs.Implied.{without_pairs}
 use Rattle.theory.proofs.Judged.{cut_count_fine}
 use Rattle.theory.proofs.Rows.{length_rows}
@@ -18,7 +17,7 @@ use Rattle.theory.proofs.Taken.{taken_passes}
 use Rattle.polishing.specs.Loop.{PolishableRows}
 use Rattle.polishing.proofs.Judged.{timed_fine, none_lent, paired_fine, pairs_fine}
 use Rattle.refusal_rules.specs.Rules.{polish_to_end_rules}
-use Rattle.refusal_rules.proofs.Parts.{then_room, both_pass, pass_with_room}
+use Rattle.refusal_rules.proofs.Parts.{both_pass, pass_with_room}
 use Rattle.pattern_lists.specs.Lists.{list_rules, Counted}
 use Rattle.pattern_lists.proofs.Judging.{some_rows, as_many}
 use Rattle.pattern_lists.proofs.Lists.{judged_rows, full_list}
@@ -42,15 +41,10 @@ module _ (q : Question) (orders masks : List ℕ) (lent : ℕ) where
   abbrev trip : List Rule
   trip = trip_rules q.trip q.route
 
-  -- The list, and then the rest.
-  list_then : either (refusal (list_rules q.k orders masks)) (refusal trip) ≡ refusal (list_rules q.k orders masks ++ trip)
+  -- The list, then the rest, then the room.
+  pub polish_parts : either (refusal (list_rules q.k orders masks)) (either (refusal trip) (number (room 6 lent))) ≡ refusal (polish_list_rules q orders masks lent)
   unfolding refusal
-  list_then = simp (either_assoc, either_zero)
-
-  pub polish_parts : (a b c : ℕ) → a ≡ refusal (list_rules q.k orders masks) → b ≡ refusal trip → c ≡ number (room 6 lent) → either a (either b c) ≡ refusal (polish_list_rules q orders masks lent)
-  unfolding early
-  polish_parts a b c p r s =
-      sym (either_assoc a b c) ∙ then_room (list_rules q.k orders masks ++ trip) refl 6 lent (either a b) c (ap₂ either p r ∙ list_then) s
+  polish_parts = simp (either_assoc, either_zero)
 
   module _ (number : ℕ) (judged : number ≡ refusal (polish_list_rules q orders masks lent)) (h : number ≡ 0) where
     passes : Passes (list_rules q.k orders masks ++ trip) × (6 ≤ lent)
@@ -72,15 +66,9 @@ module _ (q : Question) (orders masks : List ℕ) (lent : ℕ) where
   abbrev paired : List Rule
   paired = paired_rules q.trip q.route
 
-  list_then_pairs : either (refusal (list_rules q.k orders masks)) (refusal paired) ≡ refusal (list_rules q.k orders masks ++ paired)
+  pub paired_parts : either (refusal (list_rules q.k orders masks)) (either (refusal paired) (number (room 6 lent))) ≡ refusal (polish_list_with_pairs_rules q orders masks lent)
   unfolding refusal
-  list_then_pairs = simp (either_assoc, either_zero)
-
-  pub paired_parts : (a b c : ℕ) → a ≡ refusal (list_rules q.k orders masks) → b ≡ refusal paired → c ≡ number (room 6 lent) →
-      either a (either b c) ≡ refusal (polish_list_with_pairs_rules q orders masks lent)
-  unfolding early
-  paired_parts a b c p r s =
-      sym (either_assoc a b c) ∙ then_room (list_rules q.k orders masks ++ paired) refl 6 lent (either a b) c (ap₂ either p r ∙ list_then_pairs) s
+  paired_parts = simp (either_assoc, either_zero)
 
   module _ (number : ℕ) (judged : number ≡ refusal (polish_list_with_pairs_rules q orders masks lent)) (h : number ≡ 0) where
     passes_paired : Passes (list_rules q.k orders masks ++ paired) × (6 ≤ lent)

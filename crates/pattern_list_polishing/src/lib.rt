@@ -2,6 +2,7 @@
 #![tactic(auto)]
 
 ghost use Rattle.std.specs.Prelude.{◌≡◌, [], ◌++◌};
+ghost use Rattle.theory.specs.Numbers.{judged};
 ghost use Rattle.theory.specs.Answers.{Polishes};
 ghost use Rattle.theory.specs.Tables.{problem, pattern_rows, trip};
 ghost use Rattle.theory.specs.Question.{question, question_with_pairs};
@@ -11,7 +12,7 @@ ghost use Rattle.pattern_lists.specs.Lists.{list_rules};
 ghost use Rattle.pattern_list_polishing.specs.Polishing.{PolishWithPatternsReply, PolishWithPatternsAndPairsReply, RowsWithPairs};
 
 use precedence::MEMBERS;
-use theory::Polished;
+use theory::{Polished, Refusal};
 
 // What polishing with a list is handed, judged by 1, 26, 27, 28, 2, 3, 23, 4, 24, 5, 21.
 fn polish_refusal(
@@ -26,13 +27,12 @@ fn polish_refusal(
     end: u32,
     route: &[u32],
     lent: usize,
-) -> u32
-    ensures { result ≡ refusal (with_room (list_rules k orders.now masks.now ++ trip_rules (trip locations legs.now latest.now service.now depot end []) route.now) 6 lent) }
+) -> Result<(), Refusal>
+    ensures { judged result ≡ refusal (with_room (list_rules k orders.now masks.now ++ trip_rules (trip locations legs.now latest.now service.now depot end []) route.now) 6 lent) }
 {
-    let bad_list = pattern_lists::list_refusal(k, orders, masks);
-    let bad_trip = refusals::check_trip(locations, legs, latest, service, depot, end, route);
-    let bad_room = refusals::check_room(6, lent);
-    refusals::first(bad_list, refusals::first(bad_trip, bad_room))
+    pattern_lists::list_refusal(k, orders, masks)?;
+    refusals::check_trip(locations, legs, latest, service, depot, end, route)?;
+    refusals::check_room(6, lent)
 }
 
 // Polishes a route with the rows of a list, in their order; the six numbers of polishing into the first places of the result.
@@ -49,10 +49,10 @@ pub fn polish_with_patterns(
     end: u32,
     route: &mut [u32],
     res: &mut [u64],
-) -> u32
-    ensures { PolishWithPatternsReply (question k allowance locations legs.now latest.now service.now depot end route.old) orders.now masks.now res.old result route.new res.new }
+) -> Result<(), Refusal>
+    ensures { PolishWithPatternsReply (question k allowance locations legs.now latest.now service.now depot end route.old) orders.now masks.now res.old (judged result) route.new res.new }
 {
-    let refused = polish_refusal(
+    polish_refusal(
         k,
         orders,
         masks,
@@ -64,10 +64,7 @@ pub fn polish_with_patterns(
         end,
         &route[..],
         res.len(),
-    );
-    if refused != 0 {
-        return refused;
-    }
+    )?;
     let none = [0u64; 1];
     let answer = polishing::polish_rows(
         k,
@@ -85,7 +82,7 @@ pub fn polish_with_patterns(
         route,
     );
     polish_numbers::put_polished(answer, res);
-    0
+    Ok(())
 }
 
 // ---- with pairs
@@ -104,15 +101,12 @@ fn polish_paired_refusal(
     pairs: &[u32],
     route: &[u32],
     lent: usize,
-) -> u32
-    ensures { result ≡ refusal (with_room (list_rules k orders.now masks.now ++ paired_rules (trip locations legs.now latest.now service.now depot end pairs.now) route.now) 6 lent) }
+) -> Result<(), Refusal>
+    ensures { judged result ≡ refusal (with_room (list_rules k orders.now masks.now ++ paired_rules (trip locations legs.now latest.now service.now depot end pairs.now) route.now) 6 lent) }
 {
-    let bad_list = pattern_lists::list_refusal(k, orders, masks);
-    let bad_paired = refusal_rules::paired_refusal(
-        locations, legs, latest, service, depot, end, pairs, route,
-    );
-    let bad_room = refusals::check_room(6, lent);
-    refusals::first(bad_list, refusals::first(bad_paired, bad_room))
+    pattern_lists::list_refusal(k, orders, masks)?;
+    refusal_rules::paired_refusal(locations, legs, latest, service, depot, end, pairs, route)?;
+    refusals::check_room(6, lent)
 }
 
 // Polishing with the words of the pairs, which stand here alone.
@@ -167,10 +161,10 @@ fn polish_list_by_words(
     pairs: &[u32],
     route: &mut [u32],
     res: &mut [u64],
-) -> u32
-    ensures { PolishWithPatternsAndPairsReply (question_with_pairs k allowance locations legs.now latest.now service.now depot end pairs.now route.old) orders.now masks.now res.old result route.new res.new }
+) -> Result<(), Refusal>
+    ensures { PolishWithPatternsAndPairsReply (question_with_pairs k allowance locations legs.now latest.now service.now depot end pairs.now route.old) orders.now masks.now res.old (judged result) route.new res.new }
 {
-    let refused = polish_paired_refusal(
+    polish_paired_refusal(
         k,
         orders,
         masks,
@@ -183,15 +177,12 @@ fn polish_list_by_words(
         pairs,
         &route[..],
         res.len(),
-    );
-    if refused != 0 {
-        return refused;
-    }
+    )?;
     let answer = polish_rows_with_pairs(
         k, allowance, locations, legs, latest, service, depot, end, pairs, orders, masks, route,
     );
     polish_numbers::put_polished(answer, res);
-    0
+    Ok(())
 }
 
 // Polishes a route that keeps the pairs, with the rows of a list. With an empty list no word is made.
@@ -209,8 +200,8 @@ pub fn polish_with_patterns_and_pairs(
     pairs: &[u32],
     route: &mut [u32],
     res: &mut [u64],
-) -> u32
-    ensures { PolishWithPatternsAndPairsReply (question_with_pairs k allowance locations legs.now latest.now service.now depot end pairs.now route.old) orders.now masks.now res.old result route.new res.new }
+) -> Result<(), Refusal>
+    ensures { PolishWithPatternsAndPairsReply (question_with_pairs k allowance locations legs.now latest.now service.now depot end pairs.now route.old) orders.now masks.now res.old (judged result) route.new res.new }
 {
     if pairs.len() == 0 {
         return polish_with_patterns(

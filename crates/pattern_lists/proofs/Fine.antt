@@ -12,7 +12,7 @@ use lib.Dec.{ltb, eqb}
 use borrow.Author.Tests.{eqb-true, eq-eqb, ltb-true, lt-ltb, le-ltb, not-true}
 use Rattle.theory.specs.Moves.{Pattern, upfrom, total}
 use Rattle.theory.specs.Route.{count, every}
-use Rattle.theory.specs.Refusals.{any}
+use Rattle.std.specs.List.{list_any}
 use Rattle.theory.specs.Tables.{ForK}
 use Rattle.theory.proofs.Moves.{total_append}
 use Rattle.theory.proofs.Delta.{upfrom_snoc}
@@ -24,13 +24,11 @@ use Rattle.pattern_lists.proofs.Counts.{count_within, count_beyond}
 
 -- ---- tests over a list
 
-pub none_listed : {A : Type 0} (t : A → Bool) (l : List A) → any t l ≡ false → (x : A) → Memᴰ x l → t x ≡ false
-unfolding any
+pub none_listed : {A : Type 0} (t : A → Bool) (l : List A) → list_any t l ≡ false → (x : A) → Memᴰ x l → t x ≡ false
 none_listed t [] e x i = absurd (Memᴰ.not-nil i)
-none_listed t (y ∷ l) e x i = let p = or_false (t y) (any t l) e in ⊎_elim (λ h. rw h p.0) (λ j. none_listed t l p.1 x j) (Memᴰ.cases_cons i)
+none_listed t (y ∷ l) e x i = let p = or_false (t y) (list_any t l) e in ⊎_elim (λ h. rw h p.0) (λ j. none_listed t l p.1 x j) (Memᴰ.cases_cons i)
 
-pub none_is : {A : Type 0} (t : A → Bool) (l : List A) → ((x : A) → Memᴰ x l → t x ≡ false) → any t l ≡ false
-unfolding any
+pub none_is : {A : Type 0} (t : A → Bool) (l : List A) → ((x : A) → Memᴰ x l → t x ≡ false) → list_any t l ≡ false
 none_is t [] h = refl
 none_is t (y ∷ l) h = rw (h y (Memᴰ.head refl)) (none_is t l (λ x i. h x (Memᴰ.tail i)))
 
@@ -64,9 +62,9 @@ between k (x ∷ []) h b e = absurd (omega (arith, eqb-true x 0 b, eqb-true x k 
 between k (x ∷ y ∷ l) h b e = let r = before_last k y l e in let z = eqb-true x 0 b in (r.0, rw z (ap (λ n. 0 ∷ n) r.1))
 
 module _ (k : ℕ) (order : List ℕ) (one : 1 ≤ k) (p : permutes k order ≡ true) where
-  parts : (every (suc k) (λ x. eqb (count x order) 1) ≡ true) × (not (any (λ x. ltb k x) order) ≡ true)
+  parts : (every (suc k) (λ x. eqb (count x order) 1) ≡ true) × (not (list_any (λ x. ltb k x) order) ≡ true)
   unfolding permutes
-  parts = and_true (every (suc k) (λ x. eqb (count x order) 1)) (not (any (λ x. ltb k x) order)) p
+  parts = and_true (every (suc k) (λ x. eqb (count x order) 1)) (not (list_any (λ x. ltb k x) order)) p
 
   beyond : (x : ℕ) → k < x → count x order ≡ 0
   beyond x h = by (count x order) refl
@@ -74,7 +72,7 @@ module _ (k : ℕ) (order : List ℕ) (one : 1 ≤ k) (p : permutes k order ≡ 
       by : (n : ℕ) → count x order ≡ n → count x order ≡ 0
       by zero e = e
       by (suc n) e =
-          absurd (false≢true (sym (none_listed (λ y. ltb k y) order (not-true (any (λ y. ltb k y) order) parts.1) x (mem_count x order (omega (arith, e)))) ∙ lt-ltb k x h))
+          absurd (false≢true (sym (none_listed (λ y. ltb k y) order (not-true (list_any (λ y. ltb k y) order) parts.1) x (mem_count x order (omega (arith, e)))) ∙ lt-ltb k x h))
 
   counted : (x : ℕ) → count x order ≡ count x (upfrom 0 (suc k))
   counted x = by (dec_lt k x)
@@ -133,7 +131,7 @@ for_k_fine k p h f =
     let first : begins 0 p.order ≡ true = unfold begins in rw f.order_is in
     let last : ends k p.order ≡ true = rw f.order_is (ends_behind k 0 f.middle) in
     let each : every (suc k) (λ x. eqb (count x p.order) 1) ≡ true = every_is (suc k) (λ x. eqb (count x p.order) 1) (λ x l. eq-eqb (count x p.order) 1 (counts sums x ∙ count_within x 0 (suc k) (omega arith) (omega arith))) in
-    let others : any (λ x. ltb k x) p.order ≡ false = none_is (λ x. ltb k x) p.order (λ x i. le-ltb k x (omega (arith, in_range p.order 0 (suc k) sums x i))) in
+    let others : list_any (λ x. ltb k x) p.order ≡ false = none_is (λ x. ltb k x) p.order (λ x i. le-ltb k x (omega (arith, in_range p.order 0 (suc k) sums x i))) in
     rw (first, last, each, others, eq-eqb (p.mask % 2) 0 (omega (arith, f.mask_is)), lt-ltb p.mask (2 ^ k) (omega (arith, f.mask_is, f.few, double k h)))
   where
     counts : ((g : ℕ → ℕ) → total g p.order ≡ total g (upfrom 0 (suc k))) → (x : ℕ) → count x p.order ≡ count x (upfrom 0 (suc k))

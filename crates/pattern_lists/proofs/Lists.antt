@@ -10,7 +10,7 @@ use lib.Dec.{eqb}
 use lib.ListN.{length}
 use borrow.Author.Tests.{eqb-true, eq-eqb, le-ltb, not-false}
 use Rattle.theory.specs.Moves.{Pattern, upfrom, patterns}
-use Rattle.theory.specs.Refusals.{any}
+use Rattle.std.specs.List.{list_any}
 use Rattle.theory.specs.Tables.{ForK, PatternRows, pattern_rows}
 use Rattle.theory.proofs.Delta.{upfrom_snoc}
 use Rattle.theory.proofs.Orders.{patterns_complete}
@@ -57,7 +57,7 @@ distinct_rows : (ps : List Pattern) → repeats ps ≡ false → Distinct ps
 unfolding repeats
 distinct_rows [] e = tt
 distinct_rows (p ∷ ps) e =
-    let q = or_false (any (same_row p) ps) (repeats ps) e in
+    let q = or_false (list_any (same_row p) ps) (repeats ps) e in
     (λ i. false≢true (sym (none_listed (same_row p) ps q.0 p i) ∙ row_self p), distinct_rows ps q.1)
 
 rows_distinct : (ps : List Pattern) → Distinct ps → repeats ps ≡ false
@@ -80,8 +80,8 @@ module _ (m : ℕ) (rows : List Pattern) where
     for_k : (p : Pattern) → Memᴰ p rows → ForK k p.order p.mask
     for_k p i = fine_for_k k p (omega arith) (not-false (fine_row k p) (none_listed (λ q. not (fine_row k q)) rows shapes p i))
 
-    both : (any (same_row (unchanging k)) rows ≡ false) × (repeats rows ≡ false)
-    both = or_false (any (same_row (unchanging k)) rows) (repeats rows) news
+    both : (list_any (same_row (unchanging k)) rows ≡ false) × (repeats rows ≡ false)
+    both = or_false (list_any (same_row (unchanging k)) rows) (repeats rows) news
 
     changes : (p : Pattern) → Memᴰ p rows → unchanging k ≡ p → ⊥
     changes p i e = false≢true (sym (none_listed (same_row (unchanging k)) rows both.0 p i) ∙ rw (sym e) (row_self (unchanging k)))

@@ -1,9 +1,10 @@
 -- "Our own patterns": the rules by which a list of patterns is judged, each of the whole list, and what the checks of lent rows ask.
-use Rattle.std.specs.Prelude.{◌≡◌, Bool, true, false, not, ◌&&◌, ◌||◌, List, [], ◌∷◌, ℕ, suc, ◌*◌, ◌%◌, ◌^◌, ◌≤◌, ◌<◌, ltb, eqb, length, get_or}
+use Rattle.std.specs.Prelude.{◌≡◌, Bool, true, false, not, ◌&&◌, ◌||◌, List, [], ◌∷◌, ℕ, suc, ◌*◌, ◌%◌, ◌^◌, ◌≤◌, ltb, eqb, length, get_or}
 use Rattle.theory.specs.Moves.{Pattern, upfrom}
 use Rattle.theory.specs.Route.{count, every}
 use Rattle.theory.specs.Tables.{pattern_rows}
-use Rattle.theory.specs.Refusals.{Rule, any, cut_count}
+use Rattle.std.specs.List.{list_any}
+use Rattle.theory.specs.Refusals.{Rule, cut_count}
 
 -- ---- 26
 
@@ -28,8 +29,8 @@ ends x (y ∷ z ∷ l) = ends x (z ∷ l)
 
 -- "A permutation of 0 to k": each of them stands in it once, and no other number.
 unfoldable pub permutes : ℕ → List ℕ → Bool
-unfolding count every any
-permutes k order = every (suc k) (λ x. eqb (count x order) 1) && not (any (λ x. ltb k x) order)
+unfolding count every
+permutes k order = every (suc k) (λ x. eqb (count x order) 1) && not (list_any (λ x. ltb k x) order)
 
 -- ".. with 0 first and k last."
 unfoldable pub fine_order : ℕ → List ℕ → Bool
@@ -46,7 +47,7 @@ fine_row k p = fine_order k p.order && fine_mask k p.mask
 
 -- "27, a row whose order, of any length or empty, isn't a permutation of 0 to k with 0 first and k last, or whose mask has a bit outside 1 to k−1."
 abbrev pub row_shapes : ℕ → List Pattern → Rule
-row_shapes k rows = (27, any (λ p. not (fine_row k p)) rows)
+row_shapes k rows = (27, list_any (λ p. not (fine_row k p)) rows)
 
 -- ---- 28
 
@@ -66,13 +67,13 @@ unchanging k = record { order = upfrom 0 (suc k); mask = 0 }
 
 -- A row stands again further down: there it "stands earlier in the list".
 unfoldable pub repeats : List Pattern → Bool
-unfolding same_row any
+unfolding same_row
 repeats [] = false
-repeats (p ∷ ps) = any (same_row p) ps || repeats ps
+repeats (p ∷ ps) = list_any (same_row p) ps || repeats ps
 
 -- "28, a row that changes nothing or stands earlier in the list."
 abbrev pub row_news : ℕ → List Pattern → Rule
-row_news k rows = (28, any (same_row (unchanging k)) rows || repeats rows)
+row_news k rows = (28, list_any (same_row (unchanging k)) rows || repeats rows)
 
 -- ---- lent rows
 
@@ -99,10 +100,10 @@ pub record Counted (k : ℕ) (orders masks : List ℕ) : Type 0 where
   pub few : length masks ≤ 383
   pub long : length orders ≡ length masks * suc k
 
--- Of the row with an index.
-pub record RowOf (k : ℕ) (orders masks : List ℕ) (i : ℕ) : Type 0 where
-  pub counted : Counted k orders masks
-  pub listed : i < length masks
+-- Of rows that lie end to end, some of them or none.
+pub record Lent (k : ℕ) (orders masks : List ℕ) : Type 0 where
+  pub most : k ≤ 5
+  pub long : length orders ≡ length masks * suc k
 
 -- Of an order that is k + 1 segments long.
 pub record OrderOf (k : ℕ) (order : List ℕ) : Type 0 where

@@ -1,11 +1,13 @@
 // Polishing with every pattern and the pair loop, judged, with their six numbers in a lent result. No entry: crate mittenschist hands them on.
 #![tactic(auto)]
 
+ghost use Rattle.theory.specs.Numbers.{judged};
 ghost use Rattle.theory.specs.Tables.{tables};
 ghost use Rattle.theory.specs.Question.{question, question_with_pairs};
 ghost use Rattle.polish_calls.specs.Polishing.{PolishReply, PolishToEndReply, PolishWithPairsReply, PairLoopReply};
 
 use polishing::{polish_route, polish_with_pairs};
+use theory::Refusal;
 
 // Polishes a route from the depot to an end harbour. Refuses 1, 2, 3, 23, 4, 24, 5, 21. The result receives 0 finished or 1 spent, examined, accepted, length
 // before, length after, and the lowest late position of the route handed back, or the number of its stops for none.
@@ -20,10 +22,10 @@ pub fn polish_route_to_end(
     end: u32,
     route: &mut [u32],
     res: &mut [u64],
-) -> u32
-    ensures { PolishToEndReply (question k allowance locations legs.now latest.now service.now depot end route.old) res.old result route.new res.new }
+) -> Result<(), Refusal>
+    ensures { PolishToEndReply (question k allowance locations legs.now latest.now service.now depot end route.old) res.old (judged result) route.new res.new }
 {
-    let refused = refusal_rules::polish_refusal(
+    refusal_rules::polish_refusal(
         k,
         locations,
         legs,
@@ -33,10 +35,7 @@ pub fn polish_route_to_end(
         end,
         &route[..],
         res.len(),
-    );
-    if refused != 0 {
-        return refused;
-    }
+    )?;
     let none = [0u64; 1];
     let answer = polish_route(
         k,
@@ -52,7 +51,7 @@ pub fn polish_route_to_end(
         route,
     );
     polish_numbers::put_polished(answer, res);
-    0
+    Ok(())
 }
 
 // Polishes a closed tour. Refuses 1, 2, 3, 23, 4, 5, 21.
@@ -66,8 +65,8 @@ pub fn polish_closed_tour(
     depot: u32,
     route: &mut [u32],
     res: &mut [u64],
-) -> u32
-    ensures { PolishReply (question k allowance locations legs.now latest.now service.now depot depot route.old) res.old result route.new res.new }
+) -> Result<(), Refusal>
+    ensures { PolishReply (question k allowance locations legs.now latest.now service.now depot depot route.old) res.old (judged result) route.new res.new }
 {
     polish_route_to_end(
         k, allowance, locations, legs, latest, service, depot, depot, route, res,
@@ -87,10 +86,10 @@ fn polish_by_words(
     pairs: &[u32],
     route: &mut [u32],
     res: &mut [u64],
-) -> u32
-    ensures { PolishWithPairsReply (question_with_pairs k allowance locations legs.now latest.now service.now depot end pairs.now route.old) res.old result route.new res.new }
+) -> Result<(), Refusal>
+    ensures { PolishWithPairsReply (question_with_pairs k allowance locations legs.now latest.now service.now depot end pairs.now route.old) res.old (judged result) route.new res.new }
 {
-    let refused = refusal_rules::polish_paired_refusal(
+    refusal_rules::polish_paired_refusal(
         k,
         locations,
         legs,
@@ -101,15 +100,12 @@ fn polish_by_words(
         pairs,
         &route[..],
         res.len(),
-    );
-    if refused != 0 {
-        return refused;
-    }
+    )?;
     let answer = polish_with_pairs(
         k, allowance, locations, legs, latest, service, depot, end, pairs, route,
     );
     polish_numbers::put_polished(answer, res);
-    0
+    Ok(())
 }
 
 // Polishes a route that keeps pairs of locations, the first before the second: their members end to end. Refuses 1, 2, 3, 23, 4, 24, 29, 5, 21. With an empty list no word is made.
@@ -125,8 +121,8 @@ pub fn polish_route_with_pairs(
     pairs: &[u32],
     route: &mut [u32],
     res: &mut [u64],
-) -> u32
-    ensures { PolishWithPairsReply (question_with_pairs k allowance locations legs.now latest.now service.now depot end pairs.now route.old) res.old result route.new res.new }
+) -> Result<(), Refusal>
+    ensures { PolishWithPairsReply (question_with_pairs k allowance locations legs.now latest.now service.now depot end pairs.now route.old) res.old (judged result) route.new res.new }
 {
     if pairs.len() == 0 {
         return polish_route_to_end(
@@ -148,10 +144,10 @@ pub fn try_pair_loop(
     depot: u32,
     route: &mut [u32],
     res: &mut [u64],
-) -> u32
-    ensures { PairLoopReply allowance (tables locations legs.now latest.now service.now) depot route.old res.old result route.new res.new }
+) -> Result<(), Refusal>
+    ensures { PairLoopReply allowance (tables locations legs.now latest.now service.now) depot route.old res.old (judged result) route.new res.new }
 {
-    let refused = refusal_rules::pair_loop_refusal(
+    refusal_rules::pair_loop_refusal(
         locations,
         legs,
         latest,
@@ -159,11 +155,8 @@ pub fn try_pair_loop(
         depot,
         &route[..],
         res.len(),
-    );
-    if refused != 0 {
-        return refused;
-    }
+    )?;
     let answer = pair_loop::pair_loop(allowance, locations, legs, latest, service, depot, route);
     polish_numbers::put_polished(answer, res);
-    0
+    Ok(())
 }

@@ -17,16 +17,22 @@ pub fn counted(finished: bool, counts: Counts) -> Polished
     Polished::Spent(counts)
 }
 
-fn put_six(state: u64, counts: Counts, res: &mut [u64])
-    requires { 6 ≤ length res.old }
-    ensures { res.new ≡ state ∷ counts.examined ∷ counts.accepted ∷ counts.before ∷ counts.after ∷ counts.late ∷ drop 6 res.old }
+// The six numbers of the answer.
+fn six_numbers(answer: Polished) -> [u64; 6]
+    ensures { result ≡ polish_values answer }
 {
-    res[0] = state;
-    res[1] = counts.examined;
-    res[2] = counts.accepted;
-    res[3] = counts.before;
-    res[4] = counts.after;
-    res[5] = counts.late;
+    let (state, counts) = match answer {
+        Polished::Finished(counts) => (0, counts),
+        Polished::Spent(counts) => (1, counts),
+    };
+    [
+        state,
+        counts.examined,
+        counts.accepted,
+        counts.before,
+        counts.after,
+        counts.late,
+    ]
 }
 
 // The six numbers of the answer into the first places of the result.
@@ -34,8 +40,5 @@ pub fn put_polished(answer: Polished, res: &mut [u64])
     requires { 6 ≤ length res.old }
     ensures { res.new ≡ polish_values answer ++ drop 6 res.old }
 {
-    match answer {
-        Polished::Finished(counts) => put_six(0, counts, res),
-        Polished::Spent(counts) => put_six(1, counts, res),
-    }
+    res[..6].copy_from_slice(&six_numbers(answer));
 }

@@ -8,7 +8,8 @@ use lib.ListN.{length, get_or}
 use borrow.Author.Tests.{ltb-false, leb-false, eqb-true, not-false}
 use Rattle.theory.specs.Tables.{Tables, Fleet}
 use Rattle.theory.specs.Moves.{total}
-use Rattle.theory.specs.Refusals.{any, cut_count, known_rounds, known_ends, round_lists, end_list, table_rules}
+use Rattle.std.specs.List.{list_any}
+use Rattle.theory.specs.Refusals.{cut_count, known_rounds, known_ends, round_lists, end_list, table_rules}
 use Rattle.theory.proofs.Refusals.{Passes}
 use Rattle.theory.proofs.Judged.{or_false, none_at, cut_count_fine, table_fine, times_fine}
 use Rattle.run.specs.Run.{Runnable}
@@ -20,9 +21,9 @@ pub runnable_fine : (k : ℕ) (T : Tables) (F : Fleet) (result : List ℕ) →
     4 * length F.lengths ≤ length result → Runnable k T F result
 runnable_fine k T F result a t e d f l g =
     let n = cut_count_fine k a in
-    let p = or_false (any (λ s. leb T.locations s) F.depots) (any (λ s. leb T.locations s) F.stops) e in
+    let p = or_false (list_any (λ s. leb T.locations s) F.depots) (list_any (λ s. leb T.locations s) F.stops) e in
     let many = ltb 64 (length F.lengths) in
-    let long = any (λ n. ltb 512 n) F.lengths in
+    let long = list_any (λ n. ltb 512 n) F.lengths in
     let depots_differ = not (eqb (length F.depots) (length F.lengths)) in
     let pins_differ = not (eqb (length F.pins) (length F.lengths)) in
     let stops_differ = not (eqb (total (λ n. n) F.lengths) (length F.stops)) in

@@ -8,7 +8,6 @@ use Rattle.theory.specs.declared.RoundState.{RoundState}
 use Rattle.theory.specs.declared.RoundState.TheVariants as State
 use Rattle.run_numbers.specs.States.{state_after, number_of, examined_of, Finished}
 use Rattle.rounds.specs.Rounds.{Outcome}
-use Rattle.run.specs.declared.round.Replied.{Replied}
 
 -- Of the reply q to the round r: "a spent round is put back as handed in".
 abbrev pub outcome : List ℕ → Reply (List ℕ) → Outcome
@@ -22,10 +21,6 @@ run_round P k left pin r =
     (cond (eqb pin 0)
     (cond (ltb (length r) 4) (record { state = State.Short; route = r }) (outcome r (polish P k left r)))
     (record { state = State.Pinned; route = r }))
-
--- What the polishing of a round answers, and the route that it leaves.
-pub record Replies (P : Problem) (k left : ℕ) (r : List ℕ) (answer : Replied) (r' : List ℕ) : Type 0 where
-  pub reply : record { finished = answer.finished; examined = answer.examined; accepted = answer.accepted; route = r' } ≡ polish P k left r
 
 -- What one round of a run promises: state and route by the definition; "the same stops, each as often"; a route other than the one handed in only in
 -- state 4; no more candidates than are left, and all of them where it is spent; and a round that finished is k-optimal, "whichever k".

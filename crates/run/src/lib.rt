@@ -30,8 +30,7 @@ pub fn run_list_k_opt_in_phase(
 {
     let mut left = allowance;
     let mut at = 0;
-    let mut i = 0;
-    while i < lengths.len() {
+    for i in 0..lengths.len() {
         let behind = at + lengths[i];
         let depot = depots[i];
         let end = ends[i];
@@ -45,7 +44,6 @@ pub fn run_list_k_opt_in_phase(
         run_numbers::put_state(state, &mut res[row..row_end]);
         left -= run_numbers::examined(state);
         at = behind;
-        i += 1;
     }
 }
 

@@ -3,50 +3,9 @@ ghost use Rattle.std.specs.Prelude.{◌≡◌, cond, length};
 ghost use Rattle.theory.specs.Tables.{problem, trip};
 ghost use Rattle.polishing.specs.Loop.{Polishable};
 ghost use Rattle.rounds.specs.Turn.{TookTurn};
-ghost use Rattle.run.specs.Round.{Replies, RoundRan};
+ghost use Rattle.run.specs.Round.{RoundRan};
 
-use theory::{Polished, RoundState, STOPS};
-
-// What the polishing of a round counted.
-#[derive(Clone, Copy)]
-struct Replied {
-    finished: bool,
-    examined: u64,
-    accepted: u64,
-}
-
-// Polishing, whichever k, and what it counted.
-fn polish_round(
-    k: usize,
-    left: u64,
-    locations: usize,
-    legs: &[u32],
-    latest: &[u32],
-    service: &[u32],
-    depot: u32,
-    end: u32,
-    pairs: &[u32],
-    members: &[u64],
-    route: &mut [u32],
-) -> Replied
-    requires { Polishable k (trip locations legs.now latest.now service.now depot end pairs.now) members.now route.old }
-    ensures { Replies (problem (trip locations legs.now latest.now service.now depot end pairs.now)) k left route.old result route.new }
-{
-    match polishing::polish_route(
-        k, left, locations, legs, latest, service, depot, end, pairs, members, route,
-    ) {
-        Polished::Finished(counts) => Replied {
-            finished: true,
-            examined: counts.examined,
-            accepted: counts.accepted,
-        },
-        Polished::Spent(counts) => Replied {
-            finished: false,
-            examined: counts.examined,
-            accepted: counts.accepted,
-        },
-    }
-}
+use theory::{RoundState, STOPS};
 
 // A round's turn with the candidates that it is given: passed over, or polished, and then what was accepted stays.
 pub fn take_turn(
@@ -72,20 +31,19 @@ pub fn take_turn(
     if route.len() < 4 {
         return RoundState::Short;
     }
-    let reply = polish_round(
+    let polished = polishing::polish_route(
         k, given, locations, legs, latest, service, depot, end, pairs, members, route,
     );
-    run_numbers::state_after(reply.finished, reply.examined, reply.accepted)
+    run_numbers::state_after(polished)
 }
 
 fn put_back_if(spent: bool, old: &[u32], route: &mut [u32])
     requires { length old.now ≡ length route.old }
     ensures { route.new ≡ cond spent old.now route.old }
 {
-    if !spent {
-        return;
+    if spent {
+        route.copy_from_slice(old);
     }
-    reconnection::copy_in(old, route, 0);
 }
 
 // "Allowance reached, stop" comes before the other tests. The stops are kept beside the route during its turn, for a spent round is put back.
@@ -111,7 +69,7 @@ pub fn run_round(
     }
     let n = route.len();
     let mut old = [0u32; STOPS];
-    reconnection::copy_in(&route[..], &mut old, 0);
+    old[..n].copy_from_slice(&route[..]);
     let state = take_turn(
         k, left, locations, legs, latest, service, depot, end, pairs, members, pin, route,
     );

@@ -1,8 +1,11 @@
 // The run, and the run in shares of the allowance, judged. No entry: crate mittenschist hands them on.
 #![tactic(auto)]
 
+ghost use Rattle.theory.specs.Numbers.{judged};
 ghost use Rattle.theory.specs.Tables.{tables, fleet};
 ghost use Rattle.run_calls.specs.Runs.{RunReply, RunToEndsReply, RunWithPairsReply, SharesReply};
+
+use theory::Refusal;
 
 // The run over rounds that lie end to end, each to its end harbour. Refuses 1, 2, 3, 23, 4, 24, 5, 21. The result receives four numbers a round: state, examined, accepted, applied.
 pub fn run_to_ends(
@@ -18,11 +21,11 @@ pub fn run_to_ends(
     ends: &[u32],
     pins: &[u8],
     res: &mut [u64],
-) -> u32
-    ensures { RunToEndsReply k allowance (tables locations legs.now latest.now service.now) (fleet stops.old lengths.now depots.now ends.now pins.now) res.old result stops.new res.new }
+) -> Result<(), Refusal>
+    ensures { RunToEndsReply k allowance (tables locations legs.now latest.now service.now) (fleet stops.old lengths.now depots.now ends.now pins.now) res.old (judged result) stops.new res.new }
 {
     let lent = res.len();
-    let refused = refusal_rules::run_refusal(
+    refusal_rules::run_refusal(
         k,
         locations,
         legs,
@@ -34,10 +37,7 @@ pub fn run_to_ends(
         ends,
         pins,
         lent,
-    );
-    if refused != 0 {
-        return refused;
-    }
+    )?;
     let none = [0u64; 1];
     run::run_list_k_opt_in_phase(
         k,
@@ -55,7 +55,7 @@ pub fn run_to_ends(
         &none[..0],
         res,
     );
-    0
+    Ok(())
 }
 
 // The run over closed tours. Refuses 1, 2, 3, 23, 4, 5, 21.
@@ -71,8 +71,8 @@ pub fn run_closed_tours(
     depots: &[u32],
     pins: &[u8],
     res: &mut [u64],
-) -> u32
-    ensures { RunReply k allowance (tables locations legs.now latest.now service.now) (fleet stops.old lengths.now depots.now depots.now pins.now) res.old result stops.new res.new }
+) -> Result<(), Refusal>
+    ensures { RunReply k allowance (tables locations legs.now latest.now service.now) (fleet stops.old lengths.now depots.now depots.now pins.now) res.old (judged result) stops.new res.new }
 {
     run_to_ends(
         k, allowance, locations, legs, latest, service, stops, lengths, depots, depots, pins, res,
@@ -94,11 +94,11 @@ fn run_by_words(
     pins: &[u8],
     pairs: &[u32],
     res: &mut [u64],
-) -> u32
-    ensures { RunWithPairsReply k allowance (tables locations legs.now latest.now service.now) (fleet stops.old lengths.now depots.now ends.now pins.now) pairs.now res.old result stops.new res.new }
+) -> Result<(), Refusal>
+    ensures { RunWithPairsReply k allowance (tables locations legs.now latest.now service.now) (fleet stops.old lengths.now depots.now ends.now pins.now) pairs.now res.old (judged result) stops.new res.new }
 {
     let lent = res.len();
-    let refused = refusal_rules::run_paired_refusal(
+    refusal_rules::run_paired_refusal(
         k,
         locations,
         legs,
@@ -111,15 +111,12 @@ fn run_by_words(
         pins,
         pairs,
         lent,
-    );
-    if refused != 0 {
-        return refused;
-    }
+    )?;
     run::run_with_pairs(
         k, allowance, locations, legs, latest, service, stops, lengths, depots, ends, pins, pairs,
         res,
     );
-    0
+    Ok(())
 }
 
 // The run with pairs, one list for all rounds. Refuses 1, 2, 3, 23, 4, 24, 29, 5, 21. With an empty list no word is made.
@@ -137,8 +134,8 @@ pub fn run_with_pairs(
     pins: &[u8],
     pairs: &[u32],
     res: &mut [u64],
-) -> u32
-    ensures { RunWithPairsReply k allowance (tables locations legs.now latest.now service.now) (fleet stops.old lengths.now depots.now ends.now pins.now) pairs.now res.old result stops.new res.new }
+) -> Result<(), Refusal>
+    ensures { RunWithPairsReply k allowance (tables locations legs.now latest.now service.now) (fleet stops.old lengths.now depots.now ends.now pins.now) pairs.now res.old (judged result) stops.new res.new }
 {
     if pairs.len() == 0 {
         return run_to_ends(
@@ -166,11 +163,11 @@ pub fn run_in_shares(
     pins: &[u8],
     pairs: &[u32],
     res: &mut [u64],
-) -> u32
-    ensures { SharesReply k allowance (tables locations legs.now latest.now service.now) (fleet stops.old lengths.now depots.now ends.now pins.now) pairs.now res.old result stops.new res.new }
+) -> Result<(), Refusal>
+    ensures { SharesReply k allowance (tables locations legs.now latest.now service.now) (fleet stops.old lengths.now depots.now ends.now pins.now) pairs.now res.old (judged result) stops.new res.new }
 {
     let lent = res.len();
-    let refused = refusal_rules::run_paired_refusal(
+    refusal_rules::run_paired_refusal(
         k,
         locations,
         legs,
@@ -183,13 +180,10 @@ pub fn run_in_shares(
         pins,
         pairs,
         lent,
-    );
-    if refused != 0 {
-        return refused;
-    }
+    )?;
     shares::run_in_shares(
         k, allowance, locations, legs, latest, service, stops, lengths, depots, ends, pins, pairs,
         res,
     );
-    0
+    Ok(())
 }

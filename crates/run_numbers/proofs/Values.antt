@@ -1,31 +1,10 @@
--- The state after each end of the polishing, and four numbers written one after the other. Assumes nothing.
+-- The four numbers of a state, one by one. Assumes nothing.
 use mathlib.Core.Path.{◌≡◌, refl}
-use mathlib.Core.Bool.{Bool, true, false}
-use mathlib.Core.List.{List, [], ◌∷◌, ◌++◌}
-use Prim.Native.Nat.{ℕ, zero, suc, ◌≤◌}
-use native.Mathlib.Omega.{arith}
-use lib.ListN.{length, get_or, set, drop}
+use lib.ListN.{length, get_or}
 use Rattle.theory.specs.Answers.{round_values}
 use Rattle.theory.specs.declared.RoundState.{RoundState}
 use Rattle.theory.specs.declared.RoundState.TheVariants as State
-use Rattle.run_numbers.specs.States.{state_after, number_of, examined_of, kept_values}
-
-pub spent : (f : Bool) (e a : ℕ) → f ≡ false → State.Spent (record { examined = e; accepted = a }) ≡ state_after f e a
-spent f e a h = rw h
-
-pub unchanged : (f : Bool) (e a : ℕ) → f ≡ true → a ≡ 0 → State.Unchanged e ≡ state_after f e a
-unchanged f e a h z = rw (h, z)
-
-pub changed : (f : Bool) (e a : ℕ) → f ≡ true → ¬ (a ≡ 0) → State.Changed (record { examined = e; accepted = a }) ≡ state_after f e a
-changed f e zero h n = absurd (n refl)
-changed f e (suc a) h n = rw h
-
-pub four_written : (l : List ℕ) (a b c d : ℕ) → 4 ≤ length l → set (set (set (set l 0 a) 1 b) 2 c) 3 d ≡ a ∷ b ∷ c ∷ d ∷ drop 4 l
-four_written [] a b c d h = absurd (omega arith)
-four_written (v ∷ []) a b c d h = absurd (omega arith)
-four_written (v ∷ w ∷ []) a b c d h = absurd (omega arith)
-four_written (v ∷ w ∷ x ∷ []) a b c d h = absurd (omega arith)
-four_written (v ∷ w ∷ x ∷ y ∷ l) a b c d h = refl
+use Rattle.run_numbers.specs.States.{number_of, examined_of, kept_values}
 
 pub four_values : (s : RoundState) → length (round_values s) ≡ 4
 four_values State.NotReached = refl
@@ -77,12 +56,3 @@ kept_applied State.Short = refl
 kept_applied (State.Unchanged e) = refl
 kept_applied (State.Changed t) = refl
 kept_applied (State.Spent t) = refl
-
--- Accepted written over applied.
-pub kept_written : (s : RoundState) (l l' : List ℕ) → l' ≡ round_values s ++ l → set l' 3 (get_or l' 2 0) ≡ kept_values s ++ l
-kept_written State.NotReached l l' e = rw e
-kept_written State.Pinned l l' e = rw e
-kept_written State.Short l l' e = rw e
-kept_written (State.Unchanged x) l l' e = rw e
-kept_written (State.Changed t) l l' e = rw e
-kept_written (State.Spent t) l l' e = rw e

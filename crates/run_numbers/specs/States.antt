@@ -1,6 +1,8 @@
 -- Document 01, "Run": the state of a round and its four numbers.
 use Rattle.std.specs.Prelude.{◌≡◌, Bool, true, false, ◌⊎◌, List, [], ◌∷◌, ℕ, zero, suc, get_or}
 use Rattle.theory.specs.Answers.{round_values}
+use Rattle.theory.specs.declared.Polished.{Polished}
+use Rattle.theory.specs.declared.Polished.TheVariants as Polishing
 use Rattle.theory.specs.declared.RoundState.{RoundState}
 use Rattle.theory.specs.declared.RoundState.TheVariants as State
 
@@ -9,6 +11,11 @@ abbrev pub state_after : (finished : Bool) (examined accepted : ℕ) → RoundSt
 state_after false examined accepted = State.Spent (record { examined = examined; accepted = accepted })
 state_after true examined zero = State.Unchanged examined
 state_after true examined (suc accepted) = State.Changed (record { examined = examined; accepted = suc accepted })
+
+-- Of the answer of its polishing.
+abbrev pub state_told : Polished → RoundState
+state_told (Polishing.Finished c) = state_after true c.examined c.accepted
+state_told (Polishing.Spent c) = state_after false c.examined c.accepted
 
 abbrev pub number_of : RoundState → ℕ
 number_of s = get_or (round_values s) 0 0

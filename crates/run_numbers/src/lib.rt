@@ -3,21 +3,33 @@
 
 ghost use Rattle.std.specs.Prelude.{◌≡◌, ◌∷◌, ◌++◌, ◌≤◌, length, drop};
 ghost use Rattle.theory.specs.Answers.{round_values};
-ghost use Rattle.run_numbers.specs.States.{state_after, examined_of, is_spent, kept_values};
+ghost use Rattle.run_numbers.specs.States.{state_told, examined_of, is_spent, kept_values};
 
-use theory::{RoundState, Tally};
+use theory::{Counts, Polished, RoundState, Tally};
+
+fn tally(counts: Counts) -> Tally
+    ensures { result ≡ record { examined = counts.examined; accepted = counts.accepted } }
+{
+    Tally {
+        examined: counts.examined,
+        accepted: counts.accepted,
+    }
+}
 
 // After its polishing.
-pub fn state_after(finished: bool, examined: u64, accepted: u64) -> RoundState
-    ensures { result ≡ state_after finished examined accepted }
+pub fn state_after(polished: Polished) -> RoundState
+    ensures { result ≡ state_told polished }
 {
-    if !finished {
-        return RoundState::Spent(Tally { examined, accepted });
+    match polished {
+        Polished::Spent(counts) => RoundState::Spent(tally(counts)),
+        Polished::Finished(counts) => {
+            if counts.accepted == 0 {
+                RoundState::Unchanged(counts.examined)
+            } else {
+                RoundState::Changed(tally(counts))
+            }
+        }
     }
-    if accepted == 0 {
-        return RoundState::Unchanged(examined);
-    }
-    RoundState::Changed(Tally { examined, accepted })
 }
 
 // What a round took from the allowance.
@@ -25,9 +37,7 @@ pub fn examined(state: RoundState) -> u64
     ensures { result ≡ examined_of state }
 {
     match state {
-        RoundState::NotReached => 0,
-        RoundState::Pinned => 0,
-        RoundState::Short => 0,
+        RoundState::NotReached | RoundState::Pinned | RoundState::Short => 0,
         RoundState::Unchanged(examined) => examined,
         RoundState::Changed(tally) => tally.examined,
         RoundState::Spent(tally) => tally.examined,
@@ -37,24 +47,20 @@ pub fn examined(state: RoundState) -> u64
 pub fn is_spent(state: RoundState) -> bool
     ensures { result ≡ is_spent state }
 {
-    match state {
-        RoundState::NotReached => false,
-        RoundState::Pinned => false,
-        RoundState::Short => false,
-        RoundState::Unchanged(_) => false,
-        RoundState::Changed(_) => false,
-        RoundState::Spent(_) => true,
-    }
+    matches!(state, RoundState::Spent(_))
 }
 
-fn put_four(number: u64, examined: u64, accepted: u64, applied: u64, res: &mut [u64])
-    requires { 4 ≤ length res.old }
-    ensures { res.new ≡ number ∷ examined ∷ accepted ∷ applied ∷ drop 4 res.old }
+fn four_numbers(state: RoundState) -> [u64; 4]
+    ensures { result ≡ round_values state }
 {
-    res[0] = number;
-    res[1] = examined;
-    res[2] = accepted;
-    res[3] = applied;
+    match state {
+        RoundState::NotReached => [0, 0, 0, 0],
+        RoundState::Pinned => [1, 0, 0, 0],
+        RoundState::Short => [2, 0, 0, 0],
+        RoundState::Unchanged(examined) => [3, examined, 0, 0],
+        RoundState::Changed(tally) => [4, tally.examined, tally.accepted, tally.accepted],
+        RoundState::Spent(tally) => [5, tally.examined, tally.accepted, 0],
+    }
 }
 
 // The four numbers of a round.
@@ -62,16 +68,7 @@ pub fn put_state(state: RoundState, res: &mut [u64])
     requires { 4 ≤ length res.old }
     ensures { res.new ≡ round_values state ++ drop 4 res.old }
 {
-    match state {
-        RoundState::NotReached => put_four(0, 0, 0, 0, res),
-        RoundState::Pinned => put_four(1, 0, 0, 0, res),
-        RoundState::Short => put_four(2, 0, 0, 0, res),
-        RoundState::Unchanged(examined) => put_four(3, examined, 0, 0, res),
-        RoundState::Changed(tally) => {
-            put_four(4, tally.examined, tally.accepted, tally.accepted, res)
-        }
-        RoundState::Spent(tally) => put_four(5, tally.examined, tally.accepted, 0, res),
-    }
+    res[..4].copy_from_slice(&four_numbers(state));
 }
 
 // The four numbers of a round that keeps its changes where it is spent: applied is accepted in every state.

@@ -1,29 +1,18 @@
--- Who takes part, told by pins and lengths; and what the allowance is divided into. Assumes nothing.
+-- Who takes part, told by pins and lengths. Assumes nothing.
 use mathlib.Core.Path.{◌≡◌, refl, ◌∙◌}
 use mathlib.Core.Bool.{Bool, true, false, cond, ◌&&◌}
 use mathlib.Core.List.{List, map}
-use Prim.Native.Nat.{ℕ, zero, suc, ◌+◌, ◌/◌, ◌%◌, ◌≤◌, ◌<◌}
+use Prim.Native.Nat.{ℕ, zero, suc, ◌+◌, ◌≤◌, ◌<◌}
 use native.Mathlib.Numerals.{add-one}
 use native.Mathlib.Omega.{arith}
 use lib.Dec.{eqb, leb}
 use lib.ListN.{length, get_or, length-take, length-drop}
-use borrow.Author.Tests.{eq-eqb, ne_eqb, lt-leb, le-leb}
 use Rattle.theory.specs.Moves.{total, upfrom}
 use Rattle.theory.specs.Tables.{Tables, Fleet}
 use Rattle.rounds.specs.Rounds.{round_at, given, rounds}
 use Rattle.rounds.proofs.Places.{within}
-use Rattle.share_numbers.specs.Shares.{takers, each, remainder, own_by, takers_by, own}
+use Rattle.share_numbers.specs.Shares.{takers, each, own_by, takers_by, own}
 use Rattle.share_numbers.proofs.Sums.{total_last, total_upto}
-use Rattle.shares.specs.Dividing.{DividedInto}
-
-pub pinned : (each pin stops : ℕ) → ¬ (pin ≡ 0) → 0 ≡ own_by each pin stops
-pinned each pin stops h = rw (ne_eqb pin 0 h)
-
-pub short : (each pin stops : ℕ) → pin ≡ 0 → stops < 4 → 0 ≡ own_by each pin stops
-short each pin stops h l = rw (eq-eqb pin 0 h, lt-leb 4 stops l)
-
-pub takes : (each pin stops : ℕ) → pin ≡ 0 → 4 ≤ stops → each ≡ own_by each pin stops
-takes each pin stops h l = rw (eq-eqb pin 0 h, le-leb 4 stops l)
 
 -- ---- counted
 
@@ -76,11 +65,3 @@ module _ (T : Tables) (F : Fleet) (pairs : List ℕ) (end_to_end : total (λ n. 
   takers_are =
       as_sum 0 (length F.lengths)
       ∙ total_upto (λ i. own 1 (given T F pairs i)) (λ i. own_by 1 (get_or F.pins i 0) (get_or F.lengths i 0)) (length F.lengths) (λ i h. own_is 1 i h)
-
--- ---- divided
-
-pub nothing : (A N : ℕ) → N ≡ 0 → DividedInto A N (record { each = 0; remainder = 0 })
-nothing A N z = record { each_is = rw (eq-eqb N 0 z); remainder_is = rw (eq-eqb N 0 z) }
-
-pub divided : (A N : ℕ) → ¬ (N ≡ 0) → DividedInto A N (record { each = A / N; remainder = A % N })
-divided A N h = record { each_is = rw (ne_eqb N 0 h); remainder_is = rw (ne_eqb N 0 h) }

@@ -11,7 +11,7 @@ ghost use Rattle.shares.specs.Dividing.{DividedInto};
 use precedence::MEMBERS;
 
 // What each round that takes part is given, and what the first of them is given beside it.
-#[derive(Clone, Copy)]
+#[derive(Clone, Copy, Debug, PartialEq, Eq)]
 struct Parts {
     each: u64,
     remainder: u64,
@@ -21,10 +21,7 @@ struct Parts {
 fn own_share(each: u64, pin: u8, stops: usize) -> u64
     ensures { result ≡ own_by each pin stops }
 {
-    if pin != 0 {
-        return 0;
-    }
-    if stops < 4 {
+    if pin != 0 || stops < 4 {
         return 0;
     }
     each
@@ -35,12 +32,8 @@ fn count_takers(lengths: &[usize], pins: &[u8]) -> u64
     ensures { result ≡ takers_by pins.now lengths.now (length lengths.now) }
 {
     let mut takers = 0;
-    let mut i = 0;
-    while i < lengths.len() {
-        let pin = pins[i];
-        let stops = lengths[i];
-        takers += own_share(1, pin, stops);
-        i += 1;
+    for i in 0..lengths.len() {
+        takers += own_share(1, pins[i], lengths[i]);
     }
     takers
 }
@@ -85,8 +78,7 @@ fn share_rounds(
     let each = parts.each;
     let mut left = parts.remainder;
     let mut at = 0;
-    let mut i = 0;
-    while i < lengths.len() {
+    for i in 0..lengths.len() {
         let size = lengths[i];
         let behind = at + size;
         let depot = depots[i];
@@ -102,7 +94,6 @@ fn share_rounds(
         run_numbers::put_kept_state(state, &mut res[row..row_end]);
         left = given - run_numbers::examined(state);
         at = behind;
-        i += 1;
     }
 }
 

@@ -36,7 +36,7 @@ pub written_more : (k : ℕ) (cuts place : List ℕ) (i : ℕ) → i < k → k �
     set (take i (take k cuts) ++ drop i place) i (get_or cuts i 0) ≡ take (i + 1) (take k cuts) ++ drop (i + 1) place
 written_more k cuts place i h l m =
     let t : length (take k cuts) ≡ k = length-take-le k cuts l in
-    rw (← (get_or-take k cuts i 0 h)) (copied_more (take k cuts) place i (omega (arith, t)) (omega (arith, t)))
+    copied_more (take k cuts) place i (get_or cuts i 0) (omega (arith, t)) (omega (arith, t)) (get_or-take k cuts i 0 h)
 
 pub index_put : (k : ℕ) (cuts place : List ℕ) (index : ℕ) → k ≤ length cuts → suc k ≤ length place →
     set (take k cuts ++ drop k place) k index ≡ take k cuts ++ (index ∷ drop (suc k) place)

@@ -20,7 +20,6 @@ use Rattle.theory.proofs.Taken.{refused_kept, taken_done, taken_passes}
 use Rattle.theory.proofs.Moves.{rearranges}
 use Rattle.slices.specs.Places.{Place, place_in, with_place, place_rules}
 use Rattle.slices.specs.Slices.{Slice, slice}
-use Rattle.slices.specs.Slices as Laws
 use Rattle.slices.proofs.Places.{place_fine, place_room}
 use Rattle.slices.proofs.Places as Places
 use Rattle.slices.proofs.Sliced.{sliced}

@@ -1,7 +1,8 @@
 // Polishing in slices, judged: the scan from a lent place on, with the place where it was spent and the six numbers of polishing. No entry: crate mittenschist hands it on.
 #![tactic(auto)]
 
-ghost use Rattle.std.specs.Prelude.{◌≡◌, ◌∷◌, ◌++◌, suc, min, ◌≤◌, length, get_or, take, drop};
+ghost use Rattle.std.specs.Prelude.{◌≡◌, ◌∷◌, ◌++◌, suc, ◌≤◌, length, get_or, take, drop};
+ghost use Rattle.theory.specs.Numbers.{judged};
 ghost use Rattle.theory.specs.Moves.{patterns};
 ghost use Rattle.theory.specs.Refusals.{refusal};
 ghost use Rattle.theory.specs.Tables.{problem, trip};
@@ -11,7 +12,7 @@ ghost use Rattle.polishing.specs.Loop.{SliceableWithPairs, SlicedRows};
 ghost use Rattle.slice_calls.specs.Slicing.{place_found, slice_rules, PlaceJudged, PlacePut, PolishSliceReply};
 
 use polishing::Sliced;
-use theory::Counts;
+use theory::{Counts, Refusal};
 
 // The first numbers of a place, as positions.
 fn held_cuts(place: &[u64], held: usize) -> [usize; 5]
@@ -35,37 +36,27 @@ fn held_index(k: usize, place: &[u64]) -> usize
     place[k] as usize
 }
 
-fn held_count(k: usize, place: &[u64]) -> usize
-    ensures { result ≡ min k (length place.now) }
-{
-    if place.len() < k {
-        return place.len();
-    }
-    k
-}
-
 // 6 or 7 for a place that is none.
-fn no_place(k: usize, n: usize, place: &[u64]) -> u32
+fn no_place(k: usize, n: usize, place: &[u64]) -> Result<(), Refusal>
     requires { PlaceJudged k n }
-    ensures { result ≡ place_found k n place.now }
+    ensures { judged result ≡ place_found k n place.now }
 {
-    let held = held_count(k, place);
+    let held = k.min(place.len());
     let cuts = held_cuts(place, held);
-    let bad_index = refusals::check_pattern_index(k, held_index(k, place));
-    let bad_cuts = refusals::check_cut_positions(k, n, &cuts[..held]);
-    refusals::first(bad_index, bad_cuts)
+    refusals::check_pattern_index(k, held_index(k, place))?;
+    refusals::check_cut_positions(k, n, &cuts[..held])
 }
 
 // With more cuts than positions no place is asked for, but room for one is.
-fn place_refusal(k: usize, n: usize, place: &[u64]) -> u32
+fn place_refusal(k: usize, n: usize, place: &[u64]) -> Result<(), Refusal>
     requires { PlaceJudged k n }
-    ensures { result ≡ refusal (place_rules k n place.now) }
+    ensures { judged result ≡ refusal (place_rules k n place.now) }
 {
-    let no_room = refusals::check_room(k + 1, place.len());
     if n + 1 < k {
-        return no_room;
+        return refusals::check_room(k + 1, place.len());
     }
-    refusals::first(no_place(k, n, place), no_room)
+    no_place(k, n, place)?;
+    refusals::check_room(k + 1, place.len())
 }
 
 // What a slice is handed, judged.
@@ -81,20 +72,13 @@ fn slice_refusal(
     route: &[u32],
     place: &[u64],
     lent: usize,
-) -> u32
-    ensures { result ≡ refusal (slice_rules k (trip locations legs.now latest.now service.now depot end pairs.now) route.now place.now lent) }
+) -> Result<(), Refusal>
+    ensures { judged result ≡ refusal (slice_rules k (trip locations legs.now latest.now service.now depot end pairs.now) route.now place.now lent) }
 {
-    let bad_k = refusals::check_cut_count(k);
-    let bad_trip = refusal_rules::paired_refusal(
-        locations, legs, latest, service, depot, end, pairs, route,
-    );
-    let bad_question = refusals::first(bad_k, bad_trip);
-    if bad_question != 0 {
-        return bad_question;
-    }
-    let bad_place = place_refusal(k, route.len(), place);
-    let no_room = refusals::check_room(6, lent);
-    refusals::first(bad_place, no_room)
+    refusals::check_cut_count(k)?;
+    refusal_rules::paired_refusal(locations, legs, latest, service, depot, end, pairs, route)?;
+    place_refusal(k, route.len(), place)?;
+    refusals::check_room(6, lent)
 }
 
 // With an empty list of pairs no word is made.
@@ -172,10 +156,10 @@ pub fn polish_slice(
     route: &mut [u32],
     place: &mut [u64],
     res: &mut [u64],
-) -> u32
-    ensures { PolishSliceReply (question_with_pairs k allowance locations legs.now latest.now service.now depot end pairs.now route.old) place.old res.old result route.new place.new res.new }
+) -> Result<(), Refusal>
+    ensures { PolishSliceReply (question_with_pairs k allowance locations legs.now latest.now service.now depot end pairs.now route.old) place.old res.old (judged result) route.new place.new res.new }
 {
-    let refused = slice_refusal(
+    slice_refusal(
         k,
         locations,
         legs,
@@ -187,10 +171,7 @@ pub fn polish_slice(
         &route[..],
         &place[..],
         res.len(),
-    );
-    if refused != 0 {
-        return refused;
-    }
+    )?;
     let start = held_cuts(&place[..], k);
     let from = held_index(k, &place[..]);
     let sliced = slice_paired(
@@ -209,5 +190,5 @@ pub fn polish_slice(
         },
     );
     polish_numbers::put_polished(answer, res);
-    0
+    Ok(())
 }

@@ -1,26 +1,18 @@
--- `pattern_lists::any_repeated` meets its contract. The invariant: a row of the whole stands again where one of the rest does. Assumes nothing.
-use mathlib.Core.Path.{refl, sym, ◌∙◌}
-use native.Mathlib.Omega.{arith}
-use Rattle.pattern_lists.proofs.Rows.{repeats_more, repeats_here, repeats_none}
+use Rattle.std.proofs.Common.{sym, ◌∙◌}
+use Rattle.pattern_lists.proofs.Rows.{below_long, repeats_here, repeats_below}
 use Rattle.pattern_lists.proofs.any_repeated.Goals as goal
 
-pub loop-i-init : goal.loop-i-init
-loop-i-init c = (omega arith, refl)
+pub returns-then-stands_in : goal.returns-then-stands_in
+returns-then-stands_in c =
+    let l = c.loop-rest in
+    let told = rw (c.split_at.ensures.front, c.split_at.ensures.back) at c.stands_in.ensures in
+    sym (l.invariant.1 ∙ repeats_here c.args.k l.places.now l.rest.now c.in-len1-up.len_at_least c.stands_in.result told c.if-stands_in.true)
 
-pub stands_again-requires : goal.stands_again-requires
-stands_again-requires c = record { counted = c.requires; listed = c.loop-i-test.true }
-
-pub returns-then-stands_again : goal.returns-then-stands_again
-returns-then-stands_again c =
-    let l = c.loop-i in
-    repeats_here c.args.k c.args.orders.now c.args.masks.now l.i c.loop-i-test.true (sym c.stands_again.ensures ∙ c.if-stands_again.true) l.invariant.1
-
-pub loop-i-preserved : goal.loop-i-preserved
-loop-i-preserved c =
-    let l = c.loop-i in
-    (omega arith, repeats_more c.args.k c.args.orders.now c.args.masks.now l.i c.loop-i-test.true (sym c.stands_again.ensures ∙ c.if-stands_again.false) l.invariant.1)
-
-pub returns : goal.returns
-returns c =
-    let l = c.loop-i in
-    repeats_none c.args.k c.args.orders.now c.args.masks.now l.i c.loop-i-test.false l.invariant.1
+pub loop-rest-preserved : goal.loop-rest-preserved
+loop-rest-preserved c =
+    let l = c.loop-rest in
+    let told = rw (c.split_at.ensures.front, c.split_at.ensures.back) at c.stands_in.ensures in
+    rw c.split_at.ensures.back (
+      below_long c.args.k l.places.now l.rest.now c.in-len1-up.len_at_least l.invariant.0,
+      l.invariant.1 ∙ repeats_below c.args.k l.places.now l.rest.now c.in-len1-up.len_at_least c.stands_in.result told c.if-stands_in.false,
+    )

@@ -1,13 +1,10 @@
--- `pattern_lists::any_repeated` meets its contract. The invariant: a row of the whole stands again where one of the rest does. Assumes nothing.
-use mathlib.Core.Path.{◌≡◌}
-use Prim.Native.Nat.{◌-◌, ◌≤◌}
-use lib.ListN.{length, drop}
+use Rattle.std.proofs.Common.{◌≡◌, suc, ◌*◌, length}
 use Rattle.theory.specs.Tables.{pattern_rows}
 use Rattle.pattern_lists.specs.Lists.{repeats}
 use Rattle.pattern_lists.proofs.any_repeated.Given as goal
 
-abbrev pub invariant-loop-i : goal.invariant-loop-i
-invariant-loop-i l = (l.i ≤ length l.masks) × (repeats (pattern_rows l.k l.orders l.masks) ≡ repeats (drop l.i (pattern_rows l.k l.orders l.masks)))
+abbrev pub invariant-loop-rest : goal.invariant-loop-rest
+invariant-loop-rest l = (length l.places ≡ length l.rest * suc l.k) × (repeats (pattern_rows l.k l.orders l.masks) ≡ repeats (pattern_rows l.k l.places l.rest))
 
-abbrev pub decreases-loop-i : goal.decreases-loop-i
-decreases-loop-i l = length l.masks - l.i
+abbrev pub decreases-loop-rest : goal.decreases-loop-rest
+decreases-loop-rest l = length l.rest

@@ -1,29 +1,12 @@
--- `pattern_lists::times` meets its contract: what is counted and what the rest has are the whole. Assumes nothing.
-use Prim.Native.Nat.{◌≤◌}
-use native.Mathlib.Omega.{arith}
-use lib.Dec.{eqb}
-use lib.ListN.{get_or}
+use Rattle.std.proofs.Common.{◌≤◌, eqb, get_or, arith}
 use Rattle.pattern_lists.proofs.Orders.{hit_small, count_more, count_end}
 use Rattle.pattern_lists.proofs.times.Goals as goal
-use Rattle.pattern_lists.proofs.times.Goals.{After-hit-sum}
 
-pub loop-i-init : goal.loop-i-init
-loop-i-init c = (omega arith, omega arith, omega arith)
-
-small : (c : After-hit-sum) → c.hit-sum.result ≤ 1
-small c =
-    rw c.hit-sum.ensures (hit_small (eqb c.args.segment (get_or c.args.order.now c.loop-i.i 0)))
-
-pub overflow_add-sum : goal.overflow_add-sum
-overflow_add-sum c = omega (arith, small (goal.at.overflow_add-sum c).After-hit-sum)
-
-pub loop-i-preserved : goal.loop-i-preserved
-loop-i-preserved c =
-    let l = c.loop-i in
-    let h = c.loop-i-test.true in
-    (omega arith, omega (arith, small (goal.at.loop-i-preserved c).After-hit-sum), count_more c.args.segment c.args.order.now l.i l.sum c.hit-sum.result h c.hit-sum.ensures l.invariant.2)
+pub loop-found-preserved : goal.loop-found-preserved
+loop-found-preserved c =
+    let l = c.loop-found in
+    let small : c.hit-sum.result ≤ 1 = rw c.hit-sum.ensures (hit_small (eqb c.args.segment (get_or c.args.order.now l.found-index 0))) in
+    (omega (arith, small), count_more c.args.segment c.args.order.now l.found-index l.sum c.hit-sum.result (omega arith) c.hit-sum.ensures l.invariant.1)
 
 pub returns : goal.returns
-returns c =
-    let l = c.loop-i in
-    count_end c.args.segment c.args.order.now l.i l.sum c.loop-i-test.false l.invariant.2
+returns c = let l = c.loop-found in count_end c.args.segment c.args.order.now l.found-index l.sum (omega arith) l.invariant.1

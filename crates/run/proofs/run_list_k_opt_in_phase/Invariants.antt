@@ -1,14 +1,8 @@
 -- `run::run_list_k_opt_in_phase` meets its contract. Assumes nothing.
-use Prim.Native.Nat.{◌-◌}
-use lib.ListN.{length}
 use Rattle.theory.specs.Tables.{tables, fleet}
 use Rattle.run.proofs.Turn.{Running}
-use Rattle.run.proofs.Turn as Turn
 use Rattle.run.proofs.run_list_k_opt_in_phase.Given as goal
 
 abbrev pub invariant-loop-i : goal.invariant-loop-i
 invariant-loop-i l =
     Running l.k l.allowance (tables l.locations l.legs l.latest l.service) (fleet l.initial.stops l.lengths l.depots l.ends l.pins) l.pairs l.initial.res l.stops l.res l.left l.at l.i
-
-abbrev pub decreases-loop-i : goal.decreases-loop-i
-decreases-loop-i l = length l.lengths - l.i

@@ -1,4 +1,8 @@
 -- `run_calls::run_by_words` meets its contract. Assumes nothing.
+use Rattle.std.proofs.Common.{rules, ◌≡◌}
+use Rattle.theory.specs.Numbers.{judged, refusal_number}
+use mathlib.Core.Path.{refl}
+use Rattle.theory.proofs.Checks.{some}
 use lib.ListN.{length}
 use Rattle.theory.specs.Tables.{Tables, tables, Fleet, fleet}
 use Rattle.refusal_rules.specs.Rules.{run_with_pairs_rules}
@@ -12,17 +16,19 @@ tables_at s = tables s.args.locations s.args.legs.now s.args.latest.now s.args.s
 abbrev fleet_at : Start → Fleet
 fleet_at s = fleet s.args.stops.now s.args.lengths.now s.args.depots.now s.args.ends.now s.args.pins.now
 
-pub returns-then-refused-ne0 : goal.returns-then-refused-ne0
-returns-then-refused-ne0 c =
-    let r = c.run_paired_refusal-refused in
-    run_refused (run_with_pairs_rules c.args.k (tables_at (goal.at.returns-then-refused-ne0 c).Start) (fleet_at (goal.at.returns-then-refused-ne0 c).Start) c.args.pairs.now (length c.args.res.now)) c.args.k c.args.allowance (tables_at (goal.at.returns-then-refused-ne0 c).Start) (fleet_at (goal.at.returns-then-refused-ne0 c).Start) c.args.pairs.now c.args.res.now r.result r.ensures c.if-refused-ne0.true
+pub returns-in_err-run_paired_refusal : goal.returns-in_err-run_paired_refusal
+returns-in_err-run_paired_refusal c =
+    let goes : judged c.from_residual.result ≡ refusal_number c.in_err-run_paired_refusal.field-0.0 = search rules in
+    rw goes
+    (let r = c.in_err-run_paired_refusal in
+    run_refused (run_with_pairs_rules c.args.k (tables_at (goal.at.returns-in_err-run_paired_refusal c).Start) (fleet_at (goal.at.returns-in_err-run_paired_refusal c).Start) c.args.pairs.now (length c.args.res.now)) c.args.k c.args.allowance (tables_at (goal.at.returns-in_err-run_paired_refusal c).Start) (fleet_at (goal.at.returns-in_err-run_paired_refusal c).Start) c.args.pairs.now c.args.res.now _ r.ensures (some _))
 
 pub run_with_pairs-requires : goal.run_with_pairs-requires
 run_with_pairs-requires c =
-    let r = c.run_paired_refusal-refused in
-    runnable_with_pairs c.args.k (tables_at (goal.at.run_with_pairs-requires c).Start) (fleet_at (goal.at.run_with_pairs-requires c).Start) c.args.pairs.now c.args.res.now r.result r.ensures c.if-refused-ne0.false
+    let r = c.in_ok-run_paired_refusal in
+    runnable_with_pairs c.args.k (tables_at (goal.at.run_with_pairs-requires c).Start) (fleet_at (goal.at.run_with_pairs-requires c).Start) c.args.pairs.now c.args.res.now _ r.ensures refl
 
 pub returns : goal.returns
 returns c =
-    let r = c.run_paired_refusal-refused in
-    has_run (run_with_pairs_rules c.args.k (tables_at (goal.at.returns c).Start) (fleet_at (goal.at.returns c).Start) c.args.pairs.now (length c.args.res.now)) c.args.k c.args.allowance (tables_at (goal.at.returns c).Start) (fleet_at (goal.at.returns c).Start) c.args.pairs.now c.args.res.now r.result r.ensures c.if-refused-ne0.false _ _ c.run_with_pairs.ensures
+    let r = c.in_ok-run_paired_refusal in
+    has_run (run_with_pairs_rules c.args.k (tables_at (goal.at.returns c).Start) (fleet_at (goal.at.returns c).Start) c.args.pairs.now (length c.args.res.now)) c.args.k c.args.allowance (tables_at (goal.at.returns c).Start) (fleet_at (goal.at.returns c).Start) c.args.pairs.now c.args.res.now _ r.ensures refl _ _ c.run_with_pairs.ensures

@@ -1,4 +1,8 @@
 -- `run_calls::run_in_shares` meets its contract. Assumes nothing.
+use Rattle.std.proofs.Common.{rules, ◌≡◌}
+use Rattle.theory.specs.Numbers.{judged, refusal_number}
+use mathlib.Core.Path.{refl}
+use Rattle.theory.proofs.Checks.{some}
 use Rattle.theory.specs.Tables.{Tables, tables, Fleet, fleet}
 use Rattle.run_calls.proofs.RunReply.{runnable_with_pairs}
 use Rattle.run_calls.proofs.SharesReply.{shares_refused, has_shared}
@@ -11,17 +15,19 @@ tables_at s = tables s.args.locations s.args.legs.now s.args.latest.now s.args.s
 abbrev fleet_at : Start → Fleet
 fleet_at s = fleet s.args.stops.now s.args.lengths.now s.args.depots.now s.args.ends.now s.args.pins.now
 
-pub returns-then-refused-ne0 : goal.returns-then-refused-ne0
-returns-then-refused-ne0 c =
-    let r = c.run_paired_refusal-refused in
-    shares_refused c.args.k c.args.allowance (tables_at (goal.at.returns-then-refused-ne0 c).Start) (fleet_at (goal.at.returns-then-refused-ne0 c).Start) c.args.pairs.now c.args.res.now r.result r.ensures c.if-refused-ne0.true
+pub returns-in_err-run_paired_refusal : goal.returns-in_err-run_paired_refusal
+returns-in_err-run_paired_refusal c =
+    let goes : judged c.from_residual.result ≡ refusal_number c.in_err-run_paired_refusal.field-0.0 = search rules in
+    rw goes
+    (let r = c.in_err-run_paired_refusal in
+    shares_refused c.args.k c.args.allowance (tables_at (goal.at.returns-in_err-run_paired_refusal c).Start) (fleet_at (goal.at.returns-in_err-run_paired_refusal c).Start) c.args.pairs.now c.args.res.now _ r.ensures (some _))
 
 pub run_in_shares-requires : goal.run_in_shares-requires
 run_in_shares-requires c =
-    let r = c.run_paired_refusal-refused in
-    runnable_with_pairs c.args.k (tables_at (goal.at.run_in_shares-requires c).Start) (fleet_at (goal.at.run_in_shares-requires c).Start) c.args.pairs.now c.args.res.now r.result r.ensures c.if-refused-ne0.false
+    let r = c.in_ok-run_paired_refusal in
+    runnable_with_pairs c.args.k (tables_at (goal.at.run_in_shares-requires c).Start) (fleet_at (goal.at.run_in_shares-requires c).Start) c.args.pairs.now c.args.res.now _ r.ensures refl
 
 pub returns : goal.returns
 returns c =
-    let r = c.run_paired_refusal-refused in
-    has_shared c.args.k c.args.allowance (tables_at (goal.at.returns c).Start) (fleet_at (goal.at.returns c).Start) c.args.pairs.now c.args.res.now r.result r.ensures c.if-refused-ne0.false _ _ c.run_in_shares.ensures
+    let r = c.in_ok-run_paired_refusal in
+    has_shared c.args.k c.args.allowance (tables_at (goal.at.returns c).Start) (fleet_at (goal.at.returns c).Start) c.args.pairs.now c.args.res.now _ r.ensures refl _ _ c.run_in_shares.ensures

@@ -1,11 +1,6 @@
 -- `shares::count_takers` meets its contract. Assumes nothing.
-use Prim.Native.Nat.{◌-◌}
-use lib.ListN.{length}
 use Rattle.shares.proofs.Taking.{Counting}
 use Rattle.shares.proofs.count_takers.Given as goal
 
 abbrev pub invariant-loop-i : goal.invariant-loop-i
 invariant-loop-i l = Counting l.pins l.lengths l.takers l.i
-
-abbrev pub decreases-loop-i : goal.decreases-loop-i
-decreases-loop-i l = length l.lengths - l.i

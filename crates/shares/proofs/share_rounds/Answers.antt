@@ -88,18 +88,6 @@ overflow_sub-left c =
     let t = rw n at c.take_turn-state.ensures in
     rw c.examined.ensures (examined_fits c.args.k c.args.allowance (lent (goal.at.overflow_sub-left c).Start) (boats (goal.at.overflow_sub-left c).Start) c.args.pairs.now c.args.res.now c.requires.runnable q l.stops l.res l.left l.at l.i l.invariant c.loop-i-test.true c.own_share.result c.own_share.ensures c.take_turn-state.result _ t)
 
-pub overflow_add-i : goal.overflow_add-i
-overflow_add-i c =
-    let l = c.loop-i in
-    let q = c.divide-parts.result.each in
-    omega (arith, c.loop-i-test.true, c.well_formed)
-
-pub loop-i-smaller : goal.loop-i-smaller
-loop-i-smaller c =
-    let l = c.loop-i in
-    let q = c.divide-parts.result.each in
-    omega (arith, c.loop-i-test.true)
-
 pub loop-i-preserved : goal.loop-i-preserved
 loop-i-preserved c =
     let l = c.loop-i in

@@ -1,7 +1,6 @@
 -- `run::round::run_round` meets its contract. Assumes nothing.
-use mathlib.Core.Path.{sym, ◌∙◌}
 use Rattle.theory.specs.Tables.{problem, trip, Trip}
-use Rattle.run.proofs.Returns.{copied, copy_size, stopped, turned}
+use Rattle.run.proofs.Returns.{copied, stopped, turned}
 use Rattle.run.proofs.round.run_round.Goals as goal
 use Rattle.run.proofs.round.run_round.Goals.{Start}
 
@@ -12,12 +11,6 @@ pub returns-then-left-eq0 : goal.returns-then-left-eq0
 returns-then-left-eq0 c =
     stopped (problem (lent (goal.at.returns-then-left-eq0 c).Start)) c.args.k c.args.left c.args.pin c.args.route.now c.requires.least c.if-left-eq0.true
 
-pub slice_bounds-put_back_if-end : goal.slice_bounds-put_back_if-end
-slice_bounds-put_back_if-end c = copy_size c.args.route.now _ _ c.copy_in.ensures
-
-pub put_back_if-requires : goal.put_back_if-requires
-put_back_if-requires c = sym (copy_size c.args.route.now _ _ c.copy_in.ensures) ∙ sym c.take_turn-state.auto.route
-
 pub returns : goal.returns
 returns c =
-    turned (problem (lent (goal.at.returns c).Start)) c.args.k c.args.left c.args.pin c.args.route.now c.requires.least c.if-left-eq0.false c.take_turn-state.result _ _ _ _ c.take_turn-state.ensures (copied c.args.route.now _ _ c.copy_in.ensures) c.is_spent.ensures c.put_back_if.ensures
+    turned (problem (lent (goal.at.returns c).Start)) c.args.k c.args.left c.args.pin c.args.route.now c.requires.least c.if-left-eq0.false c.take_turn-state.result _ _ _ _ c.take_turn-state.ensures (copied c.args.route.now _ _ c.copy_from_slice.ensures.after) c.is_spent.ensures c.put_back_if.ensures

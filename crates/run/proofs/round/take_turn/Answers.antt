@@ -17,4 +17,4 @@ returns-then-route-lt4 c =
 
 pub returns : goal.returns
 returns c =
-    polished (problem (lent (goal.at.returns c).Start)) c.args.k c.args.given c.args.pin c.args.route.now c.if-pin-ne0.false c.if-route-lt4.false c.polish_round-reply.result _ c.polish_round-reply.ensures _ c.state_after.ensures
+    polished (problem (lent (goal.at.returns c).Start)) c.args.k c.args.given c.args.pin c.args.route.now c.if-pin-ne0.false c.if-route-lt4.false c.polish_route-polished.result _ c.polish_route-polished.ensures _ c.state_after.ensures

@@ -1,1 +1,0 @@
--- `polish_numbers::put_polished` meets its contract. Assumes nothing.

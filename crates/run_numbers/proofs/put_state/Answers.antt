@@ -1,1 +1,0 @@
--- `run_numbers::put_state` meets its contract. Assumes nothing.

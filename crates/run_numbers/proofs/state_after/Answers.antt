@@ -1,1 +1,0 @@
--- `run_numbers::state_after` meets its contract. Assumes nothing.
