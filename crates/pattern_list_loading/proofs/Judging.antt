@@ -7,45 +7,41 @@ use Prim.Native.Nat.{ℕ, suc, ◌+◌, ◌*◌, ◌≤◌}
 use native.Mathlib.Nat.{mul-le-mul}
 use native.Mathlib.Numerals.{add-one}
 use native.Mathlib.Omega.{arith}
-use lib.ListN.{length, take, drop}
+use lib.ListN.{length, take}
 use lib.Seq.{length-take-le, take_at}
+use Rattle.std.specs.List.{list_any}
 use Rattle.theory.specs.Moves.{Pattern}
 use Rattle.theory.specs.Tables.{pattern_rows}
-use Rattle.theory.specs.Refusals.{any, number, either, refusal, cut_count}
+use Rattle.theory.specs.Refusals.{either, refusal}
 use Rattle.theory.proofs.Refusals.{known, accepted, either_zero, either_assoc, applies_first, passed_over}
 use Rattle.theory.proofs.Judged.{cut_count_fine}
-use Rattle.pattern_lists.specs.Lists.{fine_row, row_count, row_shapes, row_news, Counted}
+use Rattle.pattern_lists.specs.Lists.{fine_row, row_shapes, row_news, Counted}
 use Rattle.pattern_lists.proofs.Judging.{some_rows}
 use Rattle.pattern_list_text.specs.Reading.{rows_of, read}
 use Rattle.pattern_list_text.specs.Told.{Found}
-use Rattle.pattern_list_loading.specs.Loading.{announced_rows, sizes, text_list_rules, text_rules, Takeable, JudgedRows, NotLoaded, InPlaces}
+use Rattle.pattern_list_loading.specs.Loading.{sizes, text_list_rules, text_rules, Takeable, JudgedRows, NotLoaded, InPlaces}
 
 -- ---- the rows in their places
 
-pub judged_in_place : {t : List ℕ} {at k answer : ℕ} {orders masks : List ℕ} → rows_of 60000 (drop at t) ≡ some (pattern_rows k orders masks) →
-    answer ≡ refusal (row_shapes k (pattern_rows k orders masks) ∷ row_news k (pattern_rows k orders masks) ∷ []) → JudgedRows t at k answer orders masks
-judged_in_place {t} {at} {k} {answer} {orders} {masks} stand e =
+pub judged_in_place : {t : List ℕ} {k answer : ℕ} {orders masks : List ℕ} → rows_of 60000 t ≡ some (pattern_rows k orders masks) →
+    answer ≡ refusal (row_shapes k (pattern_rows k orders masks) ∷ row_news k (pattern_rows k orders masks) ∷ []) → JudgedRows t k answer orders masks
+judged_in_place {t} {k} {answer} {orders} {masks} stand e =
     record {
       number_is = λ rows r. e ∙ ap (λ (l : List Pattern). refusal (row_shapes k l ∷ row_news k l ∷ [])) (some-injective (pattern_rows k orders masks) rows (sym stand ∙ r));
       stand = λ z. stand;
     }
 
-pub judged_misfit : {t : List ℕ} {at k : ℕ} {orders masks : List ℕ} → ((rows : List Pattern) → rows_of 60000 (drop at t) ≡ some rows → any (λ p. not (fine_row k p)) rows ≡ true) →
-    JudgedRows t at k 27 orders masks
+pub judged_misfit : {t : List ℕ} {k : ℕ} {orders masks : List ℕ} → ((rows : List Pattern) → rows_of 60000 t ≡ some rows → list_any (λ p. not (fine_row k p)) rows ≡ true) →
+    JudgedRows t k 27 orders masks
 unfolding refusal either
 judged_misfit h = record { number_is = λ rows r. rw (h rows r); stand = λ z. absurd (omega arith) }
 
-pub still_counted : {t : List ℕ} {at k : ℕ} {orders masks : List ℕ} (orders' masks' : List ℕ) → Takeable t at k orders masks → length orders' ≡ length orders → length masks' ≡ length masks →
+pub still_counted : {t : List ℕ} {k : ℕ} {orders masks : List ℕ} (orders' masks' : List ℕ) → Takeable t k orders masks → length orders' ≡ length orders → length masks' ≡ length masks →
     Counted k orders' masks'
-still_counted {t} {at} {k} orders' masks' g o m =
+still_counted {t} {k} orders' masks' g o m =
     record { least = g.least; most = g.most; some_row = omega (arith, g.some_row); few = omega (arith, g.few); long = o ∙ g.long ∙ ap (λ n. n * suc k) (sym m) }
 
 -- ---- the numbers
-
-pub sizes_parts : (k announced count a b c : ℕ) → a ≡ number (cut_count k) → b ≡ number (row_count count) → c ≡ number (announced_rows announced count) →
-    either a (either b c) ≡ refusal (sizes k announced count)
-unfolding refusal
-sizes_parts k announced count a b c p q r = ap₂ either p (ap₂ either q (r ∙ sym (either_zero _)))
 
 pub record Bounds (k count : ℕ) : Type 0 where
   pub least : 2 ≤ k
@@ -68,7 +64,7 @@ pub places_few : {k count : ℕ} → Bounds k count → count * (k + 1) ≤ 2298
 places_few {k} {count} b = list_places k count b.most b.few
 
 -- The first places, for the rows of a text.
-module _ {t : List ℕ} {k announced count at : ℕ} (f : Found t k announced count at) (b : Bounds k count) (orders masks : List ℕ)
+module _ {t rest : List ℕ} {k announced count : ℕ} (f : Found t k announced count rest) (b : Bounds k count) (orders masks : List ℕ)
     (o : length orders ≡ 2298) (m : length masks ≡ 383) where
   order_places : length (take (count * (k + 1)) orders) ≡ count * (k + 1)
   order_places = length-take-le (count * (k + 1)) orders (omega (arith, places_few b))
@@ -76,7 +72,7 @@ module _ {t : List ℕ} {k announced count at : ℕ} (f : Found t k announced co
   mask_places : length (take count masks) ≡ count
   mask_places = length-take-le count masks (omega (arith, b.few))
 
-  pub takeable : Takeable t at k (take (count * (k + 1)) orders) (take count masks)
+  pub takeable : Takeable rest k (take (count * (k + 1)) orders) (take count masks)
   takeable =
       record {
         least = b.least;
@@ -91,7 +87,7 @@ module _ {t : List ℕ} {k announced count at : ℕ} (f : Found t k announced co
 
 -- ---- the list
 
-module _ {t : List ℕ} {k announced count at : ℕ} (f : Found t k announced count at) (a : ℕ) (judged : a ≡ refusal (sizes k announced count)) where
+module _ {t lines : List ℕ} {k announced count : ℕ} (f : Found t k announced count lines) (a : ℕ) (judged : a ≡ refusal (sizes k announced count)) where
   abbrev rest : ℕ
   rest = refusal (row_shapes k f.rows ∷ row_news k f.rows ∷ [])
 
@@ -105,7 +101,7 @@ module _ {t : List ℕ} {k announced count at : ℕ} (f : Found t k announced co
   pub numbers_refused : (a ≡ 0 → ⊥) → NotLoaded t a
   numbers_refused h = record { some_number = h; number_is = applies_first a (refusal (sizes k announced count)) rest judged h ∙ whole }
 
-  module _ (z : a ≡ 0) (c : ℕ) {orders masks : List ℕ} (rows : JudgedRows t at k c orders masks) where
+  module _ (z : a ≡ 0) (c : ℕ) {orders masks : List ℕ} (rows : JudgedRows lines k c orders masks) where
     row_number : c ≡ refusal (text_rules (read t))
     row_number = rows.number_is f.rows f.lines ∙ passed_over a (refusal (sizes k announced count)) rest judged z ∙ whole
 

@@ -11,23 +11,17 @@ use lib.ListN.{length, take, drop, set, length-drop, take-append-drop}
 use lib.Seq.{length-take-le}
 use Rattle.theory.specs.Moves.{Pattern}
 use Rattle.theory.specs.Tables.{pattern_rows}
-use Rattle.theory.specs.Refusals.{Rule, number, either, refusal, room}
+use Rattle.theory.specs.Refusals.{Rule, either, refusal}
 use Rattle.theory.proofs.Refusals.{Passes, known, accepted, either_zero, either_assoc, applies_first, passed_over}
 use Rattle.theory.proofs.Rows.{length_rows}
 use Rattle.theory.proofs.Judged.{room_fine}
 use Rattle.theory.proofs.Taken.{refused_kept, taken_done}
-use Rattle.text_decimal.specs.Text.{Put}
 use Rattle.pattern_list_text.specs.List.{PatternList}
 use Rattle.pattern_list_text.specs.Reading.{read}
 use Rattle.pattern_list_loading.specs.Loading.{text_list_rules, text_rules, orders_of, masks_of, numbers_of, rooms, load_rules, put_before, loaded, LoadReply, NotLoaded, InPlaces, Whole, HandedOver}
 use Rattle.pattern_list_loading.proofs.Judging.{list_places}
 
 -- ---- handed over
-
-pub rooms_parts : (k count o m r places a b c : ℕ) → places ≡ count * suc k → a ≡ number (room places o) → b ≡ number (room count m) → c ≡ number (room 2 r) →
-    either a (either b c) ≡ refusal (rooms k count o m r)
-unfolding refusal
-rooms_parts k count o m r places a b c e p q s = ap₂ either (p ∙ ap (λ n. number (room n o)) e) (ap₂ either q (s ∙ sym (either_zero _)))
 
 module _ {k : ℕ} {from_orders from_masks : List ℕ} (w : Whole k from_orders from_masks) (orders masks result : List ℕ) (n : ℕ)
     (judged : n ≡ refusal (rooms k (length from_masks) (length orders) (length masks) (length result))) where
@@ -65,16 +59,12 @@ module _ {k : ℕ} {from_orders from_masks : List ℕ} (w : Whole k from_orders 
     two_put (x ∷ []) a b h = absurd (omega arith)
     two_put (x ∷ y ∷ l) a b h = refl
 
-    text_put : (text out out' : List ℕ) (next : ℕ) → Put text out 0 out' next → out' ≡ put_before text out
-    text_put text out out' next p = let e : next ≡ length text = omega (arith, p.ends) in p.contents ∙ ap (λ (i : ℕ). text ++ drop i out) e
-
-    pub handed : (orders' masks' : List ℕ) (i j : ℕ) → Put from_orders orders 0 orders' i → Put from_masks masks 0 masks' j →
-        HandedOver k from_orders from_masks orders masks result 0 orders' masks' (set (set result 0 k) 1 (length from_masks))
-    handed orders' masks' i j p q =
+    pub handed : HandedOver k from_orders from_masks orders masks result 0 (put_before from_orders orders) (put_before from_masks masks) (set (set result 0 k) 1 (length from_masks))
+    handed =
         record {
           number_is = sym h ∙ judged;
-          orders_are = text_put from_orders orders orders' i p ∙ taken_done rules n judged (put_before from_orders orders) orders h;
-          masks_are = text_put from_masks masks masks' j q ∙ taken_done rules n judged (put_before from_masks masks) masks h;
+          orders_are = taken_done rules n judged (put_before from_orders orders) orders h;
+          masks_are = taken_done rules n judged (put_before from_masks masks) masks h;
           result_is = two_put result k (length from_masks) result_room ∙ taken_done rules n judged (put_before numbers result) result h;
         }
 

@@ -5,7 +5,7 @@ use Prim.Native.Nat.{ℕ}
 use Prim.Native.String.{String}
 use Rattle.theory.specs.Moves.{upfrom}
 use Rattle.theory.specs.Route.{count, every}
-use Rattle.theory.specs.Refusals.{any, refusal}
+use Rattle.theory.specs.Refusals.{refusal}
 use Rattle.pattern_lists.specs.Lists.{fine_row, same_row, repeats}
 use Rattle.text_decimal.specs.Text.{ascii}
 use Rattle.pattern_list_text.specs.Reading.{read}
@@ -49,5 +49,5 @@ cases =
     ∷ []
 
 pub rulings : map (λ c. given c.0) cases ≡ map (λ c. c.1) cases
-unfolding cases read refusal any count every upfrom fine_row same_row repeats
+unfolding cases read refusal count every upfrom fine_row same_row repeats
 rulings = refl

@@ -13,7 +13,7 @@ use lib.Seq.{drop-cons, drop_at, take_at, drop-append-le, take-append-le, get_or
 use lib.Pow.{pow_mono}
 use Rattle.theory.specs.Moves.{Pattern, total, upfrom}
 use Rattle.theory.specs.Tables.{pattern_rows}
-use Rattle.theory.specs.Refusals.{any}
+use Rattle.std.specs.List.{list_any}
 use Rattle.theory.proofs.Index.{mem_get_or}
 use Rattle.theory.proofs.Moves.{total_ones, length_upfrom}
 use Rattle.theory.proofs.Rows.{length_rows, row_at}
@@ -42,10 +42,10 @@ misfit k p h l n = by (fine_row k p) refl
     by true e = absurd (n (fine_fits k p h l e))
     by false e = rw e
 
-some_listed : (t : Pattern → Bool) (l : List Pattern) (p : Pattern) → Memᴰ p l → t p ≡ true → any t l ≡ true
-some_listed t l p i e = by (any t l) refl
+some_listed : (t : Pattern → Bool) (l : List Pattern) (p : Pattern) → Memᴰ p l → t p ≡ true → list_any t l ≡ true
+some_listed t l p i e = by (list_any t l) refl
   where
-    by : (b : Bool) → any t l ≡ b → any t l ≡ true
+    by : (b : Bool) → list_any t l ≡ b → list_any t l ≡ true
     by true h = h
     by false h = absurd (true≢false (sym e ∙ none_listed t l h p i))
 
@@ -98,15 +98,15 @@ module _ (k : ℕ) (orders masks order : List ℕ) (mask i : ℕ) (h : i < lengt
 
 -- ---- row after row
 
--- The first rows stand in their places, and the others from a place of the text on.
-pub record Taking (t : List ℕ) (k : ℕ) (ps : List Pattern) (orders masks : List ℕ) (i at : ℕ) : Type 0 where
+-- The first rows stand in their places, and the others in the rest of the text.
+pub record Taking (k : ℕ) (ps : List Pattern) (orders masks : List ℕ) (i : ℕ) (rest : List ℕ) : Type 0 where
   pub placed : (j : ℕ) → j < i → row k orders masks j ≡ get_or ps j no_row
-  pub left : rows_of (60000 - i) (drop at t) ≡ some (drop i ps)
+  pub left : rows_of (60000 - i) rest ≡ some (drop i ps)
 
-taking_begin : (t : List ℕ) (k : ℕ) (ps : List Pattern) (orders masks : List ℕ) (at : ℕ) → rows_of 60000 (drop at t) ≡ some ps → Taking t k ps orders masks 0 at
-taking_begin t k ps orders masks at e = record { placed = λ j l. absurd (omega arith); left = e }
+taking_begin : (t : List ℕ) (k : ℕ) (ps : List Pattern) (orders masks : List ℕ) → rows_of 60000 t ≡ some ps → Taking k ps orders masks 0 t
+taking_begin t k ps orders masks e = record { placed = λ j l. absurd (omega arith); left = e }
 
-module _ {t : List ℕ} {k : ℕ} {ps : List Pattern} {orders masks : List ℕ} {i at : ℕ} (g : Taking t k ps orders masks i at)
+module _ {k : ℕ} {ps : List Pattern} {orders masks rest : List ℕ} {i : ℕ} (g : Taking k ps orders masks i rest)
     (many : length ps ≡ length masks) (few : length masks ≤ 383) where
   taking_all : length masks ≤ i → pattern_rows k orders masks ≡ ps
   taking_all h = ext_get_or no_row (pattern_rows k orders masks) ps (length_rows k orders masks ∙ sym many) (λ j l. g.placed j (omega (arith, length_rows k orders masks)))
@@ -115,18 +115,18 @@ module _ {t : List ℕ} {k : ℕ} {ps : List Pattern} {orders masks : List ℕ} 
     next_row : drop i ps ≡ get_or ps i no_row ∷ drop (suc i) ps
     next_row = drop-cons ps i no_row (omega arith)
 
-    taking_misfit : 2 ≤ k → k ≤ 5 → ((p : Pattern) (r : List ℕ) → row_of (drop at t) ≡ some (p, r) → Fits (k + 1) p → ⊥) → any (λ p. not (fine_row k p)) ps ≡ true
+    taking_misfit : 2 ≤ k → k ≤ 5 → ((p : Pattern) (r : List ℕ) → row_of rest ≡ some (p, r) → Fits (k + 1) p → ⊥) → list_any (λ p. not (fine_row k p)) ps ≡ true
     taking_misfit least most n =
-        let f = row_in_front (60000 - i) (drop at t) (get_or ps i no_row) (drop (suc i) ps) (g.left ∙ ap some next_row) in
+        let f = row_in_front (60000 - i) rest (get_or ps i no_row) (drop (suc i) ps) (g.left ∙ ap some next_row) in
         some_listed (λ p. not (fine_row k p)) ps (get_or ps i no_row) (mem_get_or ps i no_row (omega arith)) (misfit k (get_or ps i no_row) least most (n (get_or ps i no_row) f.0 f.1))
 
-    taking_on : (order : List ℕ) (mask next : ℕ) → length orders ≡ length masks * suc k → length order ≡ k + 1 →
-        row_of (drop at t) ≡ some (record { order = order; mask = mask }, drop next t) → Taking t k ps (put_row orders k i order) (set masks i mask) (i + 1) next
+    taking_on : (order : List ℕ) (mask : ℕ) (next : List ℕ) → length orders ≡ length masks * suc k → length order ≡ k + 1 →
+        row_of rest ≡ some (record { order = order; mask = mask }, next) → Taking k ps (put_row orders k i order) (set masks i mask) (i + 1) next
     taking_on order mask next long w e =
         let p : Pattern = record { order = order; mask = mask } in
         let f : 60000 - i ≡ suc (60000 - (i + 1)) = omega arith in
-        let first : row_before p (rows_of (60000 - (i + 1)) (drop next t)) ≡ some (get_or ps i no_row ∷ drop (suc i) ps) = sym (rows_next (60000 - (i + 1)) (drop at t) p (drop next t) e) ∙ ap (λ (n : ℕ). rows_of n (drop at t)) (sym f) ∙ g.left ∙ ap some next_row in
-        let b = first_row p (get_or ps i no_row) (rows_of (60000 - (i + 1)) (drop next t)) (drop (suc i) ps) first in
+        let first : row_before p (rows_of (60000 - (i + 1)) (next)) ≡ some (get_or ps i no_row ∷ drop (suc i) ps) = sym (rows_next (60000 - (i + 1)) rest p (next) e) ∙ ap (λ (n : ℕ). rows_of n rest) (sym f) ∙ g.left ∙ ap some next_row in
+        let b = first_row p (get_or ps i no_row) (rows_of (60000 - (i + 1)) (next)) (drop (suc i) ps) first in
         record {
           placed = λ j l. by j (dec_lt j i) b.0 l;
           left = b.1 ∙ ap (λ (n : ℕ). some (drop n ps)) (sym (add-one i));
@@ -136,26 +136,26 @@ module _ {t : List ℕ} {k : ℕ} {ps : List Pattern} {orders masks : List ℕ} 
         by j (yes l) q m = put_others k orders masks order mask i h long w j l ∙ g.placed j l
         by j (no n) q m = let z : j ≡ i = omega arith in rw z (put_here k orders masks order mask i h long w ∙ q)
 
--- The rows of the text from a place on, taken so far.
-pub record Rest (t : List ℕ) (from k : ℕ) (orders masks : List ℕ) (i at : ℕ) : Type 0 where
+-- The rows of the text, taken so far.
+pub record Rest (whole : List ℕ) (k : ℕ) (orders masks : List ℕ) (i : ℕ) (rest : List ℕ) : Type 0 where
   pub rows : List Pattern
-  pub lines : rows_of 60000 (drop from t) ≡ some rows
+  pub lines : rows_of 60000 whole ≡ some rows
   pub many : length rows ≡ length masks
-  pub taking : Taking t k rows orders masks i at
+  pub taking : Taking k rows orders masks i rest
 
-pub rest_begin : {t : List ℕ} {at k : ℕ} {orders masks : List ℕ} → Takeable t at k orders masks → Rest t at k orders masks 0 at
-rest_begin {t} {at} {k} {orders} {masks} g = record { rows = g.rows; lines = g.lines; many = g.many; taking = taking_begin t k g.rows orders masks at g.lines }
+pub rest_begin : {t : List ℕ} {k : ℕ} {orders masks : List ℕ} → Takeable t k orders masks → Rest t k orders masks 0 t
+rest_begin {t} {k} {orders} {masks} g = record { rows = g.rows; lines = g.lines; many = g.many; taking = taking_begin t k g.rows orders masks g.lines }
 
-module _ {t : List ℕ} {from k : ℕ} {orders masks : List ℕ} {i at : ℕ} (g : Rest t from k orders masks i at) (few : length masks ≤ 383) where
-  pub rest_end : length masks ≤ i → rows_of 60000 (drop from t) ≡ some (pattern_rows k orders masks)
+module _ {whole rest : List ℕ} {k : ℕ} {orders masks : List ℕ} {i : ℕ} (g : Rest whole k orders masks i rest) (few : length masks ≤ 383) where
+  pub rest_end : length masks ≤ i → rows_of 60000 whole ≡ some (pattern_rows k orders masks)
   rest_end h = g.lines ∙ ap some (sym (taking_all g.taking g.many few h))
 
-  pub rest_misfit : i < length masks → 2 ≤ k → k ≤ 5 → ((p : Pattern) (r : List ℕ) → row_of (drop at t) ≡ some (p, r) → Fits (k + 1) p → ⊥) →
-      (rows : List Pattern) → rows_of 60000 (drop from t) ≡ some rows → any (λ p. not (fine_row k p)) rows ≡ true
+  pub rest_misfit : i < length masks → 2 ≤ k → k ≤ 5 → ((p : Pattern) (r : List ℕ) → row_of rest ≡ some (p, r) → Fits (k + 1) p → ⊥) →
+      (rows : List Pattern) → rows_of 60000 whole ≡ some rows → list_any (λ p. not (fine_row k p)) rows ≡ true
   rest_misfit h least most n rows e =
       rw (some-injective rows g.rows (sym e ∙ g.lines)) (taking_misfit g.taking g.many few h least most n)
 
-  pub rest_on : i < length masks → (order : List ℕ) (mask next : ℕ) → length orders ≡ length masks * suc k → length order ≡ k + 1 →
-      row_of (drop at t) ≡ some (record { order = order; mask = mask }, drop next t) → Rest t from k (put_row orders k i order) (set masks i mask) (i + 1) next
+  pub rest_on : i < length masks → (order : List ℕ) (mask : ℕ) (next : List ℕ) → length orders ≡ length masks * suc k → length order ≡ k + 1 →
+      row_of rest ≡ some (record { order = order; mask = mask }, next) → Rest whole k (put_row orders k i order) (set masks i mask) (i + 1) next
   rest_on h order mask next long w e =
       record { rows = g.rows; lines = g.lines; many = g.many ∙ sym (length-set masks i mask); taking = taking_on g.taking g.many few h order mask next long w e }

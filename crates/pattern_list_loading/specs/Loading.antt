@@ -1,17 +1,18 @@
 -- What loading a list promises: the rules by which a text is refused, and the rows in the lent places.
-use Rattle.std.specs.Prelude.{◌≡◌, Bool, true, false, not, ℕ, suc, ◌*◌, ◌≤◌, ◌<◌, eqb, length, get_or, take, drop}
+use Rattle.std.specs.Prelude.{◌≡◌, Bool, true, false, not, ℕ, suc, ◌*◌, ◌≤◌, ◌<◌, eqb, length, get_or, take, drop, Some, None, Ok, Err}
+use Rattle.std.specs.Prelude as Rust
+use Rattle.std.specs.Borrow.{Bor}
+use Rattle.std.specs.List.{list_any}
 use mathlib.Core.List.{List, [], ◌∷◌, ◌++◌, map, flatten}
 use Rattle.std.proofs.Math.Option.{Option, none, some}
 use Rattle.theory.specs.Moves.{Pattern}
 use Rattle.theory.specs.Tables.{pattern_rows}
-use Rattle.theory.specs.Refusals.{Rule, any, refusal, if_taken, cut_count, room}
+use Rattle.theory.specs.Refusals.{Rule, refusal, if_taken, cut_count, room}
+use Rattle.theory.specs.Numbers.{refusal_number}
+use Rattle.theory.specs.declared.Refusal.{Refusal}
 use Rattle.pattern_lists.specs.Lists.{fine_row, row_count, row_shapes, row_news}
 use Rattle.pattern_list_text.specs.List.{PatternList}
 use Rattle.pattern_list_text.specs.Reading.{row_of, rows_of, read}
-use Rattle.pattern_list_loading.specs.declared.Taken.{Taken}
-use Rattle.pattern_list_loading.specs.declared.Taken.TheVariants as T
-use Rattle.pattern_list_loading.specs.declared.Loaded.{Loaded}
-use Rattle.pattern_list_loading.specs.declared.Loaded.TheVariants as L
 
 -- "26, rows .. not the announced number."
 abbrev pub announced_rows : (announced count : ℕ) → Rule
@@ -35,8 +36,11 @@ abbrev pub numbers_of : PatternList → List ℕ
 numbers_of l = l.k ∷ length l.rows ∷ []
 
 -- 21 of each of the lent slices: k + 1 places a row, one place a row, two places.
+abbrev pub room_rules : (places count orders masks result : ℕ) → List Rule
+room_rules places count orders masks result = room places orders ∷ room count masks ∷ room 2 result ∷ []
+
 abbrev pub rooms : ℕ → ℕ → (orders masks result : ℕ) → List Rule
-rooms k count orders masks result = room (count * suc k) orders ∷ room count masks ∷ room 2 result ∷ []
+rooms k count orders masks result = room_rules (count * suc k) count orders masks result
 
 -- "Text malformed in its lines or numbers, or above 60,000 bytes, is 10 as before."
 abbrev pub load_rules : Option PatternList → (orders masks result : ℕ) → List Rule
@@ -69,30 +73,30 @@ pub record DigitsOf (digits out : List ℕ) : Type 0 where
 abbrev pub Fits : ℕ → Pattern → Type 0
 Fits width p = (length p.order ≡ width) × (p.mask ≤ 255)
 
-abbrev pub TookRow : List ℕ → ℕ → Taken → List ℕ → Type 0
-TookRow t at T.Misfit order = (p : Pattern) (r : List ℕ) → row_of (drop at t) ≡ some (p, r) → Fits (length order) p → ⊥
-TookRow t at (T.Row mask next) order = row_of (drop at t) ≡ some (record { order = order; mask = mask }, drop next t)
+abbrev pub TookRow : List ℕ → Rust.Option (ℕ × Bor (List ℕ)) → List ℕ → Type 0
+TookRow t None order = (p : Pattern) (r : List ℕ) → row_of t ≡ some (p, r) → Fits (length order) p → ⊥
+TookRow t (Some taken) order = row_of t ≡ some (record { order = order; mask = taken.0 }, taken.1.now)
 
--- The rows of a text from a place on, and places for them.
-pub record Takeable (t : List ℕ) (at k : ℕ) (orders masks : List ℕ) : Type 0 where
+-- The rows of a text, and places for them.
+pub record Takeable (t : List ℕ) (k : ℕ) (orders masks : List ℕ) : Type 0 where
   pub least : 2 ≤ k
   pub most : k ≤ 5
   pub some_row : 1 ≤ length masks
   pub few : length masks ≤ 383
   pub long : length orders ≡ length masks * suc k
   pub rows : List Pattern
-  pub lines : rows_of 60000 (drop at t) ≡ some rows
+  pub lines : rows_of 60000 t ≡ some rows
   pub many : length rows ≡ length masks
 
 -- All stand in their places, or one does not fit them.
-abbrev pub Took : List ℕ → ℕ → ℕ → Bool → (orders masks : List ℕ) → Type 0
-Took t at k true orders masks = rows_of 60000 (drop at t) ≡ some (pattern_rows k orders masks)
-Took t at k false orders masks = (rows : List Pattern) → rows_of 60000 (drop at t) ≡ some rows → any (λ p. not (fine_row k p)) rows ≡ true
+abbrev pub Took : List ℕ → ℕ → Bool → (orders masks : List ℕ) → Type 0
+Took t k true orders masks = rows_of 60000 t ≡ some (pattern_rows k orders masks)
+Took t k false orders masks = (rows : List Pattern) → rows_of 60000 t ≡ some rows → list_any (λ p. not (fine_row k p)) rows ≡ true
 
 -- 27 and 28 of the rows, which stand in their places where neither applies.
-pub record JudgedRows (t : List ℕ) (at k answer : ℕ) (orders masks : List ℕ) : Type 0 where
-  pub number_is : (rows : List Pattern) → rows_of 60000 (drop at t) ≡ some rows → answer ≡ refusal (row_shapes k rows ∷ row_news k rows ∷ [])
-  pub stand : answer ≡ 0 → rows_of 60000 (drop at t) ≡ some (pattern_rows k orders masks)
+pub record JudgedRows (t : List ℕ) (k answer : ℕ) (orders masks : List ℕ) : Type 0 where
+  pub number_is : (rows : List Pattern) → rows_of 60000 t ≡ some rows → answer ≡ refusal (row_shapes k rows ∷ row_news k rows ∷ [])
+  pub stand : answer ≡ 0 → rows_of 60000 t ≡ some (pattern_rows k orders masks)
 
 -- Places for the largest list.
 pub record LargestPlaces (orders masks : List ℕ) : Type 0 where
@@ -115,9 +119,9 @@ pub record NotLoaded (t : List ℕ) (number : ℕ) : Type 0 where
   pub some_number : number ≡ 0 → ⊥
   pub number_is : number ≡ refusal (text_rules (read t))
 
-abbrev pub LoadedBy : List ℕ → Loaded → (orders masks : List ℕ) → Type 0
-LoadedBy t (L.Refused n) orders masks = NotLoaded t n
-LoadedBy t (L.List k count) orders masks = InPlaces t k count orders masks
+abbrev pub LoadedBy : List ℕ → Rust.Result (ℕ × ℕ) Refusal → (orders masks : List ℕ) → Type 0
+LoadedBy t (Err e) orders masks = NotLoaded t (refusal_number e)
+LoadedBy t (Ok list) orders masks = InPlaces t list.0 list.1 orders masks
 
 -- A list to be handed over.
 pub record Whole (k : ℕ) (orders masks : List ℕ) : Type 0 where

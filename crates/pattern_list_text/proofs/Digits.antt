@@ -1,87 +1,84 @@
 -- Digits off the front of a text, as the loop goes on. Assumes nothing.
 use mathlib.Core.Path.{◌≡◌, refl, sym, ap, ◌∙◌}
-use mathlib.Core.Bool.{Bool, true, false, ◌&&◌}
+use mathlib.Core.Logic.{◌⊎◌, inl, inr}
 use mathlib.Core.List.{List, [], ◌∷◌, ◌++◌, map-append, append-nil, append_assoc}
 use Prim.Native.Nat.{ℕ, suc, ◌+◌, ◌-◌, ◌≤◌, ◌<◌}
 use native.Mathlib.Decide.{dec_lt}
 use native.Mathlib.Numerals.{add-one}
 use native.Mathlib.Omega.{arith}
-use lib.Dec.{leb}
-use lib.ListN.{length, get_or, drop, length-drop}
-use lib.Seq.{take-suc, get_or-drop, drop-cons}
-use borrow.Author.Tests.{leb-true, lt-ltb, le-ltb}
-use Rattle.text_tokens.specs.Tokens.{front, digit}
-use Rattle.text_tokens.proofs.Places.{front_place, front_within, digit_between}
-use Rattle.theory.proofs.Judged.{and_true}
+use lib.ListN.{length, get_or, take, drop, drop_of_length-le}
+use lib.Seq.{take-suc, drop-cons, take_all, get_or-take, length-take-le}
+use borrow.Author.Tests.{lt-ltb, le-leb, lt-leb}
+use Rattle.text_tokens.specs.Tokens.{digit}
 use Rattle.pattern_list_text.specs.Reading.{order_of}
-use Rattle.pattern_list_text.specs.Told.{part, digits_at, Spans}
+use Rattle.pattern_list_text.specs.Told.{values, DigitsSplit}
 
 -- The digits that were passed, and then the others.
-pub record Passed (t : List ℕ) (start end : ℕ) : Type 0 where
-  pub reads : order_of (drop start t) ≡ (digits_at t start end ++ (order_of (drop end t)).0, (order_of (drop end t)).1)
-  pub rise : start ≤ end
-  pub within : start < end → end ≤ length t
-  pub digits : (i : ℕ) → start ≤ i → i < end → 48 ≤ get_or t i 0
+pub record Passed (t : List ℕ) (count : ℕ) : Type 0 where
+  pub reads : order_of t ≡ (values (take count t) ++ (order_of (drop count t)).0, (order_of (drop count t)).1)
+  pub each : (i : ℕ) → i < count → 48 ≤ get_or t i 0
 
-pub none_passed : (t : List ℕ) (start : ℕ) → Passed t start start
-none_passed t start =
-    record { reads = let z : start - start ≡ 0 = omega arith in rw z; rise = omega arith; within = λ h. absurd (omega arith); digits = λ i h l. absurd (omega arith) }
+pub none_passed : (t : List ℕ) → Passed t 0
+none_passed t = record { reads = refl; each = λ i l. absurd (omega arith) }
 
--- The test of a byte that was read off the front.
-pub tested : (byte f : ℕ) (r b : Bool) → r ≡ (leb 48 byte && leb byte 57) → byte ≡ f → r ≡ b → (leb 48 f && leb f 57) ≡ b
-tested byte f r b e h t = rw (← h) (sym e ∙ t)
-
--- A digit is a byte from 48 to 57.
-pub digit_byte : (t : List ℕ) (at : ℕ) → (leb 48 (front (drop at t)) && leb (front (drop at t)) 57) ≡ true → (at < length t) × (48 ≤ get_or t at 0) × (get_or t at 0 ≤ 57)
-digit_byte t at e =
-    let p = and_true (leb 48 (front (drop at t))) (leb (front (drop at t)) 57) e in
-    let l = leb-true 48 (front (drop at t)) p.0 in
-    let h = leb-true (front (drop at t)) 57 p.1 in
-    (front_within t at (omega arith), omega (arith, front_place t at), omega (arith, front_place t at))
-
-one_digit : (t : List ℕ) (at : ℕ) → at < length t → 48 ≤ get_or t at 0 → get_or t at 0 ≤ 57 →
-    order_of (drop at t) ≡ ((get_or t at 0 - 48) ∷ (order_of (drop (at + 1) t)).0, (order_of (drop (at + 1) t)).1)
+no_digits : order_of [] ≡ ([], [])
 unfolding order_of
-one_digit t at h l m =
-    rw (add-one at, drop-cons t at 0 h, digit_between (get_or t at 0 ∷ drop (suc at) t) l m, lt-ltb (get_or t at 0 - 48) 10 (omega arith))
+no_digits = refl
 
-one_more : (t : List ℕ) (start end : ℕ) → start ≤ end → end < length t → digits_at t start (end + 1) ≡ digits_at t start end ++ ((get_or t end 0 - 48) ∷ [])
-one_more t start end h l =
-    let n : end + 1 - start ≡ suc (end - start) = omega arith in
-    let s : start + (end - start) ≡ end = omega arith in
-    rw (n, take-suc (drop start t) (end - start) 0 (simp length-drop (omega arith)), get_or-drop start t (end - start) 0, s) (map-append (λ b. b - 48) (part t start end) (get_or t end 0 ∷ []))
+one_digit : (b : ℕ) (t : List ℕ) → 48 ≤ b → b ≤ 57 → order_of (b ∷ t) ≡ ((b - 48) ∷ (order_of t).0, (order_of t).1)
+unfolding order_of digit
+one_digit b t l m = rw (le-leb 48 b l, le-leb b 57 m, lt-ltb (b - 48) 10 (omega arith))
 
-pub passed_more : {t : List ℕ} {start end : ℕ} → Passed t start end → (leb 48 (front (drop end t)) && leb (front (drop end t)) 57) ≡ true → Passed t start (end + 1)
-passed_more {t} {start} {end} p e =
-    let d = digit_byte t end e in
-    let o = one_digit t end d.0 d.1 d.2 in
-    let later = order_of (drop (end + 1) t) in
-    record {
+other_low : (b : ℕ) (t : List ℕ) → b < 48 → order_of (b ∷ t) ≡ ([], b ∷ t)
+unfolding order_of digit
+other_low b t h = rw (lt-leb 48 b h)
+
+other_high : (b : ℕ) (t : List ℕ) → 57 < b → order_of (b ∷ t) ≡ ([], b ∷ t)
+unfolding order_of digit
+other_high b t h = rw (le-leb 48 b (omega arith), lt-leb b 57 h)
+
+pub passed_more : {t : List ℕ} {count : ℕ} → Passed t count → count < length t → 48 ≤ get_or t count 0 → get_or t count 0 ≤ 57 → Passed t (count + 1)
+passed_more {t} {count} p h l m =
+    let later = order_of (drop (suc count) t) in
+    let o : order_of (drop count t) ≡ ((get_or t count 0 - 48) ∷ later.0, later.1) = ap order_of (drop-cons t count 0 h) ∙ one_digit (get_or t count 0) (drop (suc count) t) l m in
+    let more : values (take (suc count) t) ≡ values (take count t) ++ ((get_or t count 0 - 48) ∷ []) = ap values (take-suc t count 0 h) ∙ map-append (λ b. b - 48) (take count t) (get_or t count 0 ∷ []) in
+    rw (add-one count) (record {
       reads =
           p.reads
-          ∙ ap (λ (r : List ℕ × List ℕ). (digits_at t start end ++ r.0, r.1)) o
-          ∙ ap (λ (l : List ℕ). (l, later.1)) (sym (ap (λ (l : List ℕ). l ++ later.0) (one_more t start end p.rise d.0) ∙ append_assoc (digits_at t start end) ((get_or t end 0 - 48) ∷ []) later.0));
-      rise = omega (arith, p.rise);
-      within = λ h. omega (arith, d.0);
-      digits = λ i h l. by i h (dec_lt i end) (p.digits i h) d.1 (omega arith);
-    }
+          ∙ ap (λ (r : List ℕ × List ℕ). (values (take count t) ++ r.0, r.1)) o
+          ∙ ap (λ (r : List ℕ). (r, later.1)) (sym (ap (λ (r : List ℕ). r ++ later.0) more ∙ append_assoc (values (take count t)) ((get_or t count 0 - 48) ∷ []) later.0));
+      each = λ i j. by i (dec_lt i count) (p.each i) l j;
+    })
   where
-    by : (i : ℕ) → start ≤ i → Dec (i < end) → (i < end → 48 ≤ get_or t i 0) → 48 ≤ get_or t end 0 → i ≤ end → 48 ≤ get_or t i 0
-    by i h (yes l) f d m = f l
-    by i h (no n) f d m = let e : i ≡ end = omega arith in rw e d
+    by : (i : ℕ) → Dec (i < count) → (i < count → 48 ≤ get_or t i 0) → 48 ≤ get_or t count 0 → i < suc count → 48 ≤ get_or t i 0
+    by i (yes k) f d m = f k
+    by i (no n) f d m = let e : i ≡ count = omega arith in rw e d
 
-order_none : (t : List ℕ) → 10 ≤ digit t → order_of t ≡ ([], t)
-unfolding order_of
-order_none [] h = refl
-order_none (b ∷ t) h = rw (le-ltb (digit (b ∷ t)) 10 h)
+module _ {t : List ℕ} {count : ℕ} (p : Passed t count) where
+  none_left : count ≤ length t → order_of (drop count t) ≡ ([], drop count t) → DigitsSplit t (take count t) (drop count t)
+  none_left w o =
+      record {
+        reads = p.reads ∙ ap (λ (r : List ℕ × List ℕ). (values (take count t) ++ r.0, r.1)) o ∙ ap (λ (l : List ℕ). (l, drop count t)) (append-nil (values (take count t)));
+        each = λ i h. let l : i < count = omega (arith, length-take-le count t w) in rw (get_or-take count t i 0 l) (p.each i l);
+      }
 
-pub passed_all : {t : List ℕ} {start end : ℕ} → Passed t start end → (leb 48 (front (drop end t)) && leb (front (drop end t)) 57) ≡ false → Spans t start end
-passed_all {t} {start} {end} p e =
-    let n : digit (drop end t) ≡ 10 = unfold digit in rw e in
-    let o = order_none (drop end t) (omega arith) in
-    record {
-      reads = p.reads ∙ ap (λ (r : List ℕ × List ℕ). (digits_at t start end ++ r.0, r.1)) o ∙ ap (λ (l : List ℕ). (l, drop end t)) (append-nil (digits_at t start end));
-      rise = p.rise;
-      within = p.within;
-      digits = p.digits;
-    }
+  passed_low : count < length t → get_or t count 0 < 48 → DigitsSplit t (take count t) (drop count t)
+  passed_low w h =
+      let e = drop-cons t count 0 w in
+      none_left (omega arith) (rw e (other_low (get_or t count 0) (drop (suc count) t) h))
+
+  passed_high : count < length t → 57 < get_or t count 0 → DigitsSplit t (take count t) (drop count t)
+  passed_high w h =
+      let e = drop-cons t count 0 w in
+      none_left (omega arith) (rw e (other_high (get_or t count 0) (drop (suc count) t) h))
+
+  pub passed_end : count < length t → (get_or t count 0 < 48) ⊎ (57 < get_or t count 0) → DigitsSplit t (take count t) (drop count t)
+  passed_end w (inl h) = passed_low w h
+  passed_end w (inr h) = passed_high w h
+
+  pub passed_all : length t ≤ count → count ≤ length t → DigitsSplit t t []
+  passed_all h w =
+      let n : drop count t ≡ [] = drop_of_length-le t {i = count} h in
+      let o : order_of (drop count t) ≡ ([], drop count t) = rw n no_digits in
+      let s = none_left w o in
+      rw (take_all count t h, n) at s

@@ -3,3 +3,4 @@ pub mod Rows
 pub mod Texts
 pub mod Lines
 pub mod Examples
+pub mod Stands

@@ -3,7 +3,7 @@ use mathlib.Core.Path.{◌≡◌, refl, sym, ap, ◌∙◌}
 use mathlib.Core.Bool.{Bool, true, false, cond}
 use mathlib.Core.List.{List, [], ◌∷◌, ◌++◌, map, append_assoc}
 use mathlib.Core.Option.{Option, none, some, bind, none-ne-some, some-injective}
-use Prim.Native.Nat.{ℕ, zero, suc, ◌+◌, ◌-◌, ◌≤◌, ◌<◌}
+use Prim.Native.Nat.{ℕ, zero, suc, ◌+◌, ◌≤◌, ◌<◌}
 use native.Mathlib.Omega.{arith}
 use lib.Dec.{ltb}
 use lib.ListN.{length, get_or, drop, length-append}
@@ -12,8 +12,7 @@ use Rattle.theory.specs.Moves.{Pattern}
 use Rattle.text_decimal.specs.Decimal.{digits}
 use Rattle.text_decimal.specs.Text.{ascii}
 use Rattle.text_tokens.specs.Tokens.{digit, numeral, after}
-use Rattle.text_tokens.proofs.Numbers.{same_read, digit_cons, number_sound, number_complete}
-use Rattle.text_tokens.proofs.Places.{digit_between}
+use Rattle.text_tokens.proofs.Numbers.{same_read, digit_of, digit_cons, number_sound, number_complete}
 use Rattle.text_lines.proofs.Lines.{first_read, key_sound, key_complete}
 use Rattle.pattern_list_text.specs.List.{row_line, row_lines, Digits, HeldRows}
 use Rattle.pattern_list_text.specs.Reading.{order_of, row_of, row_before, rows_of}
@@ -33,14 +32,11 @@ order_sound (b ∷ t) = by (ltb (digit (b ∷ t)) 10) refl (order_sound t)
     by true e r = let d = ltb-true (digit (b ∷ t)) 10 e in (digit_cons (b ∷ t) d ∙ ap (λ (l : List ℕ). (48 + digit (b ∷ t)) ∷ l) r.0, (omega arith, r.1))
     by false e r = (refl, tt)
 
-digit_of : (d : ℕ) (t : List ℕ) → d ≤ 9 → digit ((48 + d) ∷ t) ≡ d
-digit_of d t h = let e : 48 + d - 48 ≡ d = omega arith in digit_between ((48 + d) ∷ t) (omega arith) (omega arith) ∙ e
-
 order_complete : (o r : List ℕ) → Digits o → 10 ≤ digit r → order_of (bytes o ++ r) ≡ (o, r)
 unfolding order_of
 order_complete [] [] h d = refl
 order_complete [] (b ∷ r) h d = rw (le-ltb (digit (b ∷ r)) 10 d)
-order_complete (x ∷ o) r h d = rw (digit_of x (bytes o ++ r) h.0, lt-ltb x 10 (omega (arith, h.0)), order_complete o r h.1 d)
+order_complete (x ∷ o) r h d = rw (digit_of x (bytes o ++ r) (omega (arith, h.0)), lt-ltb x 10 (omega (arith, h.0)), order_complete o r h.1 d)
 
 -- ---- a line
 

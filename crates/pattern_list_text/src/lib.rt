@@ -1,105 +1,82 @@
-// A list of patterns, read from bytes: its numbers, how many rows it has, and a row at a place. No entry: crate pattern_list_loading calls it.
+// A list of patterns, read from bytes: its numbers, how many rows it has, and the row in front of a text. No entry: crate pattern_list_loading calls it.
 #![tactic(auto)]
 
-ghost use Rattle.std.specs.Prelude.{◌≡◌, ◌&&◌, ◌≤◌, leb, length, drop};
+ghost use Rattle.std.specs.Prelude.{◌≡◌, ◌≤◌, length};
 ghost use Rattle.pattern_list_text.specs.Reading.{rows_of};
-ghost use Rattle.pattern_list_text.specs.Told.{Spans, RowRead, count_of, count_told, Answered};
+ghost use Rattle.pattern_list_text.specs.Told.{DigitsSplit, RowRead, count_of, count_told, Answered};
 
 use text_lines::read_value;
-use text_tokens::{Numeral, Place, byte_at, read_numeral, skip_key};
+use text_tokens::{read_numeral, skip_key};
 
-// Where the digits of a row's order begin and end, its mask, and the place after its line.
-#[derive(Clone, Copy)]
-pub enum Row {
-    Read(usize, usize, u32, usize),
-    Malformed,
+// The digits of a row's order, and its mask.
+#[derive(Clone, Copy, Debug, PartialEq, Eq)]
+pub struct Row<'t> {
+    pub digits: &'t [u8],
+    pub mask: u32,
 }
 
-#[derive(Clone, Copy)]
-enum Count {
-    Rows(usize),
-    Malformed,
+// The numbers of a list, how many rows it has, and the text from the first of them on.
+#[derive(Clone, Copy, Debug, PartialEq, Eq)]
+pub struct List<'t> {
+    pub k: u32,
+    pub announced: u32,
+    pub count: usize,
+    pub rows: &'t [u8],
 }
 
-// k, the announced number of rows, their number, and where the first begins.
-#[derive(Clone, Copy)]
-pub enum Reading {
-    List(u32, u32, usize, usize),
-    Malformed,
-}
-
-fn is_digit(byte: u8) -> bool
-    ensures { result ≡ (leb 48 byte && leb byte 57) }
+// The digits in front, and the rest.
+fn split_digits(text: &[u8]) -> (&[u8], &[u8])
+    ensures { DigitsSplit text.now result.0.now result.1.now }
 {
-    if byte < b'0' {
-        return false;
+    for count in 0..text.len() {
+        if !text[count].is_ascii_digit() {
+            return text.split_at(count);
+        }
     }
-    byte <= b'9'
+    (text, &[])
 }
 
-// The place after the digits.
-fn skip_digits(text: &[u8], at: usize) -> usize
-    ensures { Spans text.now at result }
+// The row whose line is in front, and the rest.
+pub fn read_row(text: &[u8]) -> Option<(Row<'_>, &[u8])>
+    ensures { RowRead text.now result }
 {
-    let mut end = at;
-    while is_digit(byte_at(text, end)) {
-        end += 1;
-    }
-    end
+    let order = skip_key(text, b"pattern=")?;
+    let (digits, comma) = split_digits(order);
+    let number = skip_key(comma, b",")?;
+    let (mask, end) = read_numeral(number)?;
+    let rest = skip_key(end, b"\n")?;
+    Some((Row { digits, mask }, rest))
 }
 
-// The row whose line begins at a place.
-pub fn read_row(text: &[u8], at: usize) -> Row
-    ensures { RowRead text.now at result }
-{
-    let Place::At(start) = skip_key(text, at, b"pattern=") else {
-        return Row::Malformed;
-    };
-    let end = skip_digits(text, start);
-    let Place::At(number) = skip_key(text, end, b",") else {
-        return Row::Malformed;
-    };
-    let Numeral::Read(mask, line_end) = read_numeral(text, number) else {
-        return Row::Malformed;
-    };
-    let Place::At(next) = skip_key(text, line_end, b"\n") else {
-        return Row::Malformed;
-    };
-    Row::Read(start, end, mask, next)
-}
-
-// The rows from a place to the end of the text, counted.
-fn count_rows(text: &[u8], at: usize) -> Count
+// The rows up to the end of the text, counted.
+fn count_rows(text: &[u8]) -> Option<usize>
     requires { length text.now ≤ 60000 }
-    ensures { count_of (rows_of 60000 (drop at text.now)) ≡ count_told result }
+    ensures { count_of (rows_of 60000 text.now) ≡ count_told result }
 {
-    let mut at = at;
+    let mut rest = text;
     let mut count = 0;
-    while at < text.len() {
-        let Row::Read(_start, _end, _mask, next) = read_row(text, at) else {
-            return Count::Malformed;
-        };
-        at = next;
+    while rest.len() > 0 {
+        let (_row, next) = read_row(rest)?;
+        rest = next;
         count += 1;
     }
-    Count::Rows(count)
+    Some(count)
 }
 
 // The whole text.
-pub fn read_list(text: &[u8]) -> Reading
+pub fn read_list(text: &[u8]) -> Option<List<'_>>
     ensures { Answered text.now result }
 {
     if text.len() > 60000 {
-        return Reading::Malformed;
+        return None;
     }
-    let Numeral::Read(k, after_k) = read_value(text, 0, b"k=") else {
-        return Reading::Malformed;
-    };
-    let Numeral::Read(announced, rows) = read_value(text, after_k, b"patterns=") else {
-        return Reading::Malformed;
-    };
-    let Count::Rows(count) = count_rows(text, rows) else {
-        return Reading::Malformed;
-    };
-    Reading::List(k, announced, count, rows)
+    let (k, after_k) = read_value(text, b"k=")?;
+    let (announced, rows) = read_value(after_k, b"patterns=")?;
+    let count = count_rows(rows)?;
+    Some(List {
+        k,
+        announced,
+        count,
+        rows,
+    })
 }

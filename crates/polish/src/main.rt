@@ -7,6 +7,7 @@ ghost use Rattle.lent_bytes.specs.Lent.{WritesPart};
 ghost use Rattle.text.specs.Program.{program};
 
 use std::io::{self, Read, Write};
+use text::PolishText;
 
 // Reads a text and writes its answer. One byte more than a text may have is read, so that a longer one is known. Where it returns an error, what was written is a first part of the
 // answer, maybe none.
@@ -15,11 +16,7 @@ fn answer_text<R: Read, W: Write>(reader: &mut R, writer: &mut W) -> io::Result<
     ensures part { OnErr result (IfSome (R.remaining reader.old) (λ text. WritesPart (W.contents writer.old) (W.contents writer.new) (program (take 60001 text)))) }
 {
     let mut input = [0u8; 60001];
-    let got = lent_bytes::read_full(reader, &mut input)?;
-    let answer = text::polish_text(&input[..got]);
-    let bytes = answer.bytes;
-    let length = answer.length;
-    lent_bytes::write_full(writer, &bytes[..length])
+    lent_bytes::answer_input::<6500, PolishText, R, W>(&mut input, reader, writer)
 }
 
 fn main(rt: HostRuntime) -> io::Result<()> {

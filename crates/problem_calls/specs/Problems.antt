@@ -1,13 +1,12 @@
 -- What writing a problem as text and reading one promise. A problem is the values of the text's lines, a question without pairs.
 use Rattle.std.specs.Prelude.{◌≡◌, true, false, ◌||◌, ◌↔◌, List, [], ◌∷◌, ◌++◌, ℕ, ◌*◌, ◌≤◌, ltb, length, get_or, take, drop}
+use Rattle.std.specs.Prelude as Rust
 use Rattle.std.proofs.Math.Option.{Option, none, some}
 use Rattle.theory.specs.Question.{Question, question, question_rules}
 use Rattle.theory.specs.Refusals.{Rule, refusal, if_taken, room}
 use Rattle.refusal_rules.specs.Rules.{polish_to_end_rules}
 use Rattle.text_question.specs.Question.{text_of, Held}
 use Rattle.text_question.specs.Reading.{read}
-use Rattle.problem_calls.specs.declared.Size.{Size}
-use Rattle.problem_calls.specs.declared.Size.TheVariants as S
 
 -- "31, beyond the text's bounds": "more than 96 locations, an allowance above 4294967295 or more than 60,000 bytes".
 abbrev pub text_bounds : Question → Rule
@@ -80,9 +79,9 @@ pub record ReadReply (text legs latest service route result : List ℕ) (answer 
 -- ---- what the parts ask and give
 
 -- How many bytes the text has, of a problem within the bounds.
-abbrev pub SizeTold : Question → Size → Type 0
-SizeTold q S.Beyond = (text_bounds q).1 ≡ true
-SizeTold q (S.Bytes n) = ((text_bounds q).1 ≡ false) × (n ≡ length (text_of q))
+abbrev pub SizeTold : Question → Rust.Option ℕ → Type 0
+SizeTold q Rust.None = (text_bounds q).1 ≡ true
+SizeTold q (Rust.Some n) = ((text_bounds q).1 ≡ false) × (n ≡ length (text_of q))
 
 pub record Accepted (q : Question) : Type 0 where
   pub number : refusal (question_rules q) ≡ 0

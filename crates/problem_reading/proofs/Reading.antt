@@ -1,16 +1,16 @@
 -- A judged problem handed over, and the reply of the reader, over plain values. Assumes nothing.
 use mathlib.Core.Path.{◌≡◌, refl, sym, ap, ap₂, ◌∙◌}
 use mathlib.Core.Bool.{Bool, true, false, cond}
-use mathlib.Core.List.{List, [], ◌∷◌, ◌++◌}
+use mathlib.Core.List.{List}
 use mathlib.Core.Option.{Option, none, some}
-use Prim.Native.Nat.{ℕ, ◌+◌, ◌*◌, ◌≤◌}
+use Prim.Native.Nat.{ℕ, ◌*◌, ◌≤◌}
 use native.Mathlib.Omega.{arith}
 use lib.Dec.{eqb}
-use lib.ListN.{length, drop, set}
+use lib.ListN.{length, drop}
 use lib.Seq.{take_at}
 use borrow.Author.Tests.{eqb-true, eqb-false}
 use Rattle.theory.specs.Question.{Question, question_rules}
-use Rattle.theory.specs.Refusals.{Rule, number, either, refusal, if_taken}
+use Rattle.theory.specs.Refusals.{Rule, either, refusal, if_taken}
 use Rattle.theory.proofs.Refusals.{Passes, known, accepted, either_zero, either_assoc, applies_first, passed_over}
 use Rattle.theory.proofs.Judged.{room_fine}
 use Rattle.theory.proofs.Taken.{refused_kept, taken_done}
@@ -24,25 +24,6 @@ use Rattle.problem_calls.proofs.Laws.{is_taken}
 use Rattle.problem_reading.specs.Handing.{headed, Roomy, Copied, HandedOver}
 
 -- ---- handed over
-
-pub rooms_parts : (a b c d v : Rule) (x y z u w : ℕ) → x ≡ number (21, a.1) → y ≡ number (21, b.1) → z ≡ number (21, c.1) → u ≡ number (21, d.1) → w ≡ number (21, v.1) →
-    either x (either y (either z (either u w))) ≡ refusal ((21, a.1) ∷ (21, b.1) ∷ (21, c.1) ∷ (21, d.1) ∷ (21, v.1) ∷ [])
-unfolding refusal
-rooms_parts a b c d v x y z u w p q r s t = ap₂ either p (ap₂ either q (ap₂ either r (ap₂ either s (t ∙ sym (either_zero _)))))
-
--- Copied from the first place on.
-pub from_first : (values l l' : List ℕ) → l' ≡ values ++ drop (0 + length values) l → l' ≡ put_before values l
-from_first values l l' e = let z : 0 + length values ≡ length values = omega arith in e ∙ ap (λ (i : ℕ). values ++ drop i l) z
-
--- Six numbers into the first places.
-pub six_put : (l : List ℕ) (a b c d e f : ℕ) → 6 ≤ length l → set (set (set (set (set (set l 0 a) 1 b) 2 c) 3 d) 4 e) 5 f ≡ put_before (a ∷ b ∷ c ∷ d ∷ e ∷ f ∷ []) l
-six_put [] a b c d e f h = absurd (omega arith)
-six_put (x ∷ []) a b c d e f h = absurd (omega arith)
-six_put (x ∷ y ∷ []) a b c d e f h = absurd (omega arith)
-six_put (x ∷ y ∷ z ∷ []) a b c d e f h = absurd (omega arith)
-six_put (x ∷ y ∷ z ∷ u ∷ []) a b c d e f h = absurd (omega arith)
-six_put (x ∷ y ∷ z ∷ u ∷ v ∷ []) a b c d e f h = absurd (omega arith)
-six_put (x ∷ y ∷ z ∷ u ∷ v ∷ w ∷ l) a b c d e f h = refl
 
 module _ (q : Question) (legs latest service route result : List ℕ) (n : ℕ)
     (by : n ≡ refusal (list_rooms q (length legs) (length latest) (length service) (length route) (length result))) where

@@ -1,18 +1,24 @@
 // Replays problems as text over the calls that the entries hand on to: texts that are read, written again and refused, and problems at the bounds of what a text holds.
 #![tactic(auto)]
 
+use replay_lines::Spaced;
 use std::io;
+use theory::{Refusal, number_of};
 
 // A line of a call: its refusal number and result, and the stops that it left.
-fn show(rt: &impl Print, call: &[u8], refused: u32, res: &[u64], stops: &[u32]) -> io::Result<()> {
-    let mut line = [0u8; 256];
-    let number = replay_lines::put_number(call, refused as u64, &mut line, 0);
-    let word = replay_lines::put(b" result", &mut line, number);
-    let told = replay_lines::put_numbers(res, &mut line, word);
-    let behind = replay_lines::put(b" stops", &mut line, told);
-    let left = replay_lines::put_stops(stops, &mut line, behind);
-    let end = replay_lines::put(b"\n", &mut line, left);
-    rt.write_all(&line[..end])
+fn show(
+    rt: &impl Print,
+    call: &str,
+    answer: Result<(), Refusal>,
+    res: &[u64],
+    stops: &[u32],
+) -> io::Result<()> {
+    let refused = number_of(answer);
+    println!(rt;
+        "{call} {refused} result{} stops{}",
+        Spaced(res),
+        Spaced(stops)
+    )
 }
 
 // A problem written into a lent text, which it fills.
@@ -30,7 +36,7 @@ fn show_written(
     text: &mut [u8],
 ) -> io::Result<()> {
     let mut result = [9u64; 2];
-    let refused = problem_calls::write_problem(
+    let answer = problem_calls::write_problem(
         k,
         allowance,
         locations,
@@ -43,8 +49,8 @@ fn show_written(
         text,
         &mut result,
     );
-    show(rt, b"write ", refused, &result, &[])?;
-    if refused == 0 {
+    show(rt, "write", answer, &result, &[])?;
+    if answer.is_ok() {
         rt.write_all(&text[..])?;
     }
     Ok(())
@@ -61,13 +67,13 @@ fn show_text(
     again: &mut [u8],
 ) -> io::Result<()> {
     let mut result = [9u64; 7];
-    let refused = problem_reading::read_problem(text, legs, latest, service, route, &mut result);
-    show(rt, b"read ", refused, &result, &route[..])?;
+    let answer = problem_reading::read_problem(text, legs, latest, service, route, &mut result);
+    show(rt, "read", answer, &result, &route[..])?;
     let k = result[0] as usize;
     let locations = result[2] as usize;
     let depot = result[3];
     let end = result[4];
-    if refused != 0 {
+    if answer.is_err() {
         return Ok(());
     }
     if depot > 9 {
@@ -186,7 +192,7 @@ fn show_small(rt: &impl Print) -> io::Result<()> {
 // A problem of 96 locations.
 fn show_large(rt: &impl Print, legs: &[u32; 9216], text: &mut [u8]) -> io::Result<()> {
     let mut result = [9u64; 2];
-    let refused = problem_calls::write_problem(
+    let answer = problem_calls::write_problem(
         3,
         100,
         96,
@@ -199,7 +205,7 @@ fn show_large(rt: &impl Print, legs: &[u32; 9216], text: &mut [u8]) -> io::Resul
         text,
         &mut result,
     );
-    show(rt, b"write ", refused, &result, &[])
+    show(rt, "write", answer, &result, &[])
 }
 
 // Into the longest text, into one of a byte less, and into three bytes.
@@ -244,7 +250,7 @@ fn show_many(rt: &impl Print) -> io::Result<()> {
     let legs = [0u32; 9409];
     let mut text = [0u8; 100];
     let mut result = [9u64; 2];
-    let refused = problem_calls::write_problem(
+    let answer = problem_calls::write_problem(
         3,
         100,
         97,
@@ -257,7 +263,7 @@ fn show_many(rt: &impl Print) -> io::Result<()> {
         &mut text,
         &mut result,
     );
-    show(rt, b"write ", refused, &result, &[])
+    show(rt, "write", answer, &result, &[])
 }
 
 fn main(rt: HostRuntime) -> io::Result<()> {

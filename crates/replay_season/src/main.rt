@@ -5,10 +5,8 @@ use std::io;
 
 fn show_report(rt: &impl Print, text: &[u8]) -> io::Result<()> {
     let report = season_report::report_season(text);
-    let bytes = report.bytes;
-    let length = report.length;
     rt.write_all(b"report ")?;
-    rt.write_all(&bytes[..length])
+    rt.write_all(report.written())
 }
 
 // Empty blocks, and lines that are no separator.

@@ -6,10 +6,8 @@ use std::io;
 // The text program's answer to a text.
 fn show_text(rt: &impl Print, text: &[u8]) -> io::Result<()> {
     let answer = text::polish_text(text);
-    let bytes = answer.bytes;
-    let length = answer.length;
     rt.write_all(b"text ")?;
-    rt.write_all(&bytes[..length])
+    rt.write_all(answer.written())
 }
 
 // Texts that are not of the form, one fault each: of the lines,

@@ -6,6 +6,7 @@ ghost use Rattle.std.specs.Io.KnownBytes.{Appends};
 ghost use Rattle.lent_bytes.specs.Lent.{WritesPart};
 ghost use Rattle.season_report.specs.Report.{report};
 
+use season_report::ReportSeason;
 use std::io::{self, Read, Write};
 
 // Reads blocks and writes the report on them. One byte more than a report's input may have is read, so that a longer one is known. Where it returns an error, what was written is a first part of the
@@ -15,11 +16,7 @@ fn report_blocks<R: Read, W: Write>(reader: &mut R, writer: &mut W) -> io::Resul
     ensures part { OnErr result (IfSome (R.remaining reader.old) (λ text. WritesPart (W.contents writer.old) (W.contents writer.new) (report (take 60001 text)))) }
 {
     let mut input = [0u8; 60001];
-    let got = lent_bytes::read_full(reader, &mut input)?;
-    let report = season_report::report_season(&input[..got]);
-    let bytes = report.bytes;
-    let length = report.length;
-    lent_bytes::write_full(writer, &bytes[..length])
+    lent_bytes::answer_input::<256, ReportSeason, R, W>(&mut input, reader, writer)
 }
 
 fn main(rt: HostRuntime) -> io::Result<()> {

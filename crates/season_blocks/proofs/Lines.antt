@@ -1,37 +1,37 @@
 -- The first line of a text, and the blocks from it on. Assumes nothing.
 use mathlib.Core.Path.{◌≡◌, refl, sym, ap, ◌∙◌}
-use mathlib.Core.Bool.{Bool, true, false, cond, and-eq-true_iff, false≢true}
+use mathlib.Core.Bool.{Bool, true, false, cond, ◌||◌, and-eq-true_iff, true≢false, false≢true}
 use mathlib.Core.List.{List, [], ◌∷◌, ◌++◌}
 use mathlib.Core.Option.{none, some, none-ne-some}
-use Prim.Native.Nat.{ℕ, suc, ◌+◌, ◌≤◌, ◌<◌}
+use Prim.Native.Nat.{ℕ, zero, suc, ◌+◌, ◌-◌, ◌≤◌}
 use native.Mathlib.Omega.{arith}
-use native.Mathlib.Numerals.{add-one}
 use lib.Dec.{eqb}
-use lib.ListN.{length, get_or, take, drop, take-append-drop, drop_of_length-le}
-use lib.Seq.{drop-cons}
-use borrow.Author.Tests.{eqb-true, ne_eqb}
+use lib.ListN.{length, take, drop, take-append-drop, length-drop}
+use lib.Seq.{take_all}
+use borrow.Author.Tests.{eqb-true}
+use Rattle.std.specs.List.{list_any}
 use Rattle.text_tokens.specs.Tokens.{after}
 use Rattle.text_lines.proofs.Lines.{key_sound, key_complete}
 use Rattle.season_blocks.specs.Blocks.{onto_first, lines, same, separator, before_first, blocks_of, blocks, line_size}
 
-pub line_size_none : (t : List ℕ) (at : ℕ) → length t ≤ at → line_size (drop at t) ≡ 0
+-- Bytes in front that hold no LF are the first line's.
+pub no_end : (n : ℕ) (t : List ℕ) → n ≤ length t → list_any (λ b. eqb b 10) (take n t) ≡ false → line_size t ≡ n + line_size (drop n t)
 unfolding line_size
-line_size_none t at h = rw (drop_of_length-le t {i = at} h)
+no_end zero t h e = omega arith
+no_end (suc n) [] h e = absurd (omega arith)
+no_end (suc n) (b ∷ t) h e = by (eqb b 10) e (no_end n t (omega arith))
+  where
+    by : (x : Bool) → (x || list_any (λ b. eqb b 10) (take n t)) ≡ false → (list_any (λ b. eqb b 10) (take n t) ≡ false → line_size t ≡ n + line_size (drop n t)) →
+        cond x 1 (suc (line_size t)) ≡ suc n + line_size (drop n t)
+    by true f more = absurd (true≢false f)
+    by false f more = omega (arith, more f)
 
-pub line_size_ended : (t : List ℕ) (at : ℕ) → at < length t → get_or t at 0 ≡ 10 → line_size (drop at t) ≡ 1
-unfolding line_size
-line_size_ended t at h e = rw (drop-cons t at 0 h, e)
-
-pub line_size_more : (t : List ℕ) (at : ℕ) → at < length t → (get_or t at 0 ≡ 10 → ⊥) → line_size (drop at t) ≡ suc (line_size (drop (at + 1) t))
-unfolding line_size
-line_size_more t at h n = rw (drop-cons t at 0 h, ne_eqb (get_or t at 0) 10 n, add-one at)
-
--- The same at a place that is told.
-pub more_at : (t : List ℕ) (at next : ℕ) → at < length t → (get_or t at 0 ≡ 10 → ⊥) → next ≡ at + 1 → line_size (drop at t) ≡ suc (line_size (drop next t))
-more_at t at next h n e = rw e (line_size_more t at h n)
+-- What is lent of a text from a place on is all that stands there.
+pub rest_whole : (t : List ℕ) (n : ℕ) → take (length t - n) (drop n t) ≡ drop n t
+rest_whole t n = take_all (length t - n) (drop n t) (omega (arith, length-drop n t))
 
 -- Its size, within the text.
-line_most : (t : List ℕ) → line_size t ≤ length t
+pub line_most : (t : List ℕ) → line_size t ≤ length t
 unfolding line_size
 line_most [] = omega arith
 line_most (b ∷ t) = by (eqb b 10) (line_most t)

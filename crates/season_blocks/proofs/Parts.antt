@@ -2,6 +2,7 @@
 use mathlib.Core.Path.{◌≡◌, refl, sym, ap, ◌∙◌}
 use mathlib.Core.Bool.{Bool, true, false, cond}
 use mathlib.Core.List.{List, [], ◌∷◌, ◌++◌, append-nil, append_assoc}
+use Rattle.std.specs.Prelude as Rust
 use Prim.Native.Nat.{ℕ, suc, ◌+◌, ◌-◌, ◌≤◌, ◌<◌}
 use native.Mathlib.Omega.{arith}
 use native.Mathlib.Numerals.{add-one}
@@ -73,8 +74,9 @@ pub record Walk (t ends : List ℕ) (count end : ℕ) : Type 0 where
   pub found : take count ends ++ ends_from (end + 5) (later t end) ≡ ends_from 0 (blocks t)
   pub left : count + length (later t end) ≡ length (blocks t)
 
-pub walk_start : (t ends : List ℕ) (end : ℕ) → length ends ≡ 64 → end ≡ 0 + block_size (drop 0 t) → Walk t (set ends 0 end) 1 end
-walk_start t ends end l is =
+pub walk_start : (t ends : List ℕ) (end : ℕ) → length ends ≡ 64 → end ≡ block_size t → Walk t (set ends 0 end) 1 end
+walk_start t ends end l first_end =
+    let is : end ≡ 0 + block_size (drop 0 t) = omega (arith, first_end) in
     let b = block_at t 0 (omega arith) in
     let e = ends_at t 0 (omega arith) in
     rw is (
@@ -108,15 +110,15 @@ walk_next {t} {ends} {count} {end} next w h k is =
     }
     )
 
-pub walk_ended : {t ends : List ℕ} {count end : ℕ} → Walk t ends count end → length t ≤ end → Parted t ends count
+pub walk_ended : {t ends : List ℕ} {count end : ℕ} → Walk t ends count end → length t ≤ end → Parted t ends (Rust.Some count)
 unfolding ends_from
 walk_ended {t} {ends} {count} {end} w h =
     let none : later t end ≡ [] = rw (le-ltb end (length t) h) in
     let many : count ≡ length (blocks t) = omega (arith, ap length none, w.left) in
     let found : take count ends ≡ ends_from 0 (blocks t) = sym (append-nil (take count ends)) ∙ rw none at w.found in
-    record { places = w.places; counted = rw (le-leb (length (blocks t)) 64 (omega (arith, w.few_found))) many; parted = λ k. rw found (ends_part t (blocks t) 0 (omega arith) refl) }
+    record { places = w.places; counted = rw (le-leb (length (blocks t)) 64 (omega (arith, w.few_found))) (ap Rust.Some many); parted = λ k. rw (← many, found) (ends_part t (blocks t) 0 (omega arith) refl) }
 
-pub walk_full : {t ends : List ℕ} {count end : ℕ} → Walk t ends count end → end < length t → 64 ≤ count → Parted t ends 65
+pub walk_full : {t ends : List ℕ} {count end : ℕ} → Walk t ends count end → end < length t → 64 ≤ count → Parted t ends Rust.None
 walk_full {t} {ends} {count} {end} w h k =
     let more : later t end ≡ blocks (drop (end + 5) t) = rw (lt-ltb end (length t) h) in
     let many : 64 < length (blocks t) = omega (arith, (ends_at t (end + 5) (w.room h)).1, ap length more, w.left) in

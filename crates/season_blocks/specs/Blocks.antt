@@ -1,5 +1,6 @@
 -- Request (xi): "text blocks, with a line `next` between two".
 use Rattle.std.specs.Prelude.{◌≡◌, Bool, true, false, ◌&&◌, cond, List, [], ◌∷◌, ◌++◌, ℕ, suc, ◌+◌, ◌-◌, ◌≤◌, eqb, leb, length, take, drop, get_or}
+use Rattle.std.specs.Prelude as Rust
 use Rattle.text_decimal.specs.Text.{ascii}
 
 -- A byte before the first line.
@@ -58,7 +59,7 @@ Ends t from [] = Unit {0}
 Ends t from (e ∷ es) = (from ≤ e) × (e ≤ length t) × Ends t (e + 5) es
 
 -- The text's blocks are the parts that end at the places told; of more than 64 only that is told.
-pub record Parted (t ends : List ℕ) (told : ℕ) : Type 0 where
+pub record Parted (t ends : List ℕ) (told : Rust.Option ℕ) : Type 0 where
   pub places : length ends ≡ 64
-  pub counted : told ≡ cond (leb (length (blocks t)) 64) (length (blocks t)) 65
-  pub parted : length (blocks t) ≤ 64 → (parts t 0 (take told ends) ≡ blocks t) × Ends t 0 (take told ends)
+  pub counted : told ≡ cond (leb (length (blocks t)) 64) (Rust.Some (length (blocks t))) Rust.None
+  pub parted : length (blocks t) ≤ 64 → (parts t 0 (take (length (blocks t)) ends) ≡ blocks t) × Ends t 0 (take (length (blocks t)) ends)

@@ -1,93 +1,76 @@
 // A season's input parted into its blocks, with a line `next` between two. No entry: crate season_report calls it.
 #![tactic(auto)]
 
-ghost use Rattle.std.specs.Prelude.{◌≡◌, ◌+◌, ◌≤◌, length, drop};
+ghost use Rattle.std.specs.Prelude.{◌≡◌, length};
 ghost use Rattle.season_blocks.specs.Blocks.{line_size, block_size, Ends, Parted};
 
-use text_tokens::{Place, skip_key};
+use text_tokens::skip_key;
 
-// The place after the line that begins at a place, byte by byte.
-fn short_line_end(text: &[u8], at: usize) -> usize
-    requires { at ≤ length text.now }
-    ensures { result ≡ at + line_size (drop at text.now) }
+// How many bytes the first line has, its LF among them.
+#[tactic(auto, unfolding(crate::specs::Blocks::line_size))]
+fn short_line_size(text: &[u8]) -> usize
+    ensures { result ≡ line_size text.now }
 {
-    let mut place = at;
-    while place < text.len() {
-        if text[place] == b'\n' {
-            return place + 1;
+    let mut size = 0;
+    let mut rest = text;
+    while let [byte, tail @ ..] = rest {
+        size += 1;
+        if *byte == b'\n' {
+            return size;
         }
-        place += 1;
+        rest = tail;
     }
-    place
+    size
 }
 
-// The same, eight bytes in a turn as long as there are so many.
-fn line_end(text: &[u8], at: usize) -> usize
-    requires { at ≤ length text.now }
-    ensures { result ≡ at + line_size (drop at text.now) }
+// The same, eight bytes in a turn as long as none of them is LF: byte by byte alone, parting a season costs more than the bar of 5 % of the whole.
+fn line_size(text: &[u8]) -> usize
+    ensures { result ≡ line_size text.now }
 {
-    let mut end = at;
-    while end + 8 <= text.len() {
-        if text[end] == b'\n' {
-            return end + 1;
+    let mut size = 0;
+    let mut rest = text;
+    while rest.len() >= 8 {
+        if rest[..8].contains(&b'\n') {
+            break;
         }
-        if text[end + 1] == b'\n' {
-            return end + 2;
-        }
-        if text[end + 2] == b'\n' {
-            return end + 3;
-        }
-        if text[end + 3] == b'\n' {
-            return end + 4;
-        }
-        if text[end + 4] == b'\n' {
-            return end + 5;
-        }
-        if text[end + 5] == b'\n' {
-            return end + 6;
-        }
-        if text[end + 6] == b'\n' {
-            return end + 7;
-        }
-        if text[end + 7] == b'\n' {
-            return end + 8;
-        }
-        end += 8;
+        size += 8;
+        rest = &rest[8..];
     }
-    short_line_end(text, end)
+    size + short_line_size(rest)
 }
 
-// The place after the block that begins at a place: of its separator, or the end of the text.
-fn block_end(text: &[u8], from: usize) -> usize
-    requires { from ≤ length text.now }
-    ensures { result ≡ from + block_size (drop from text.now) }
+// How many bytes the first block has: those before its separator, or before the end of the text.
+fn block_size(text: &[u8]) -> usize
+    ensures { result ≡ block_size text.now }
 {
-    let mut at = from;
-    while at < text.len() {
-        let separator = skip_key(text, at, b"next\n");
-        if let Place::At(_) = separator {
-            return at;
+    // No iterator goes over the lines: `size` grows by as many bytes as a line has.
+    let mut size = 0;
+    while size < text.len() {
+        let rest = &text[size..];
+        if let Some(_) = skip_key(rest, b"next\n") {
+            return size;
         }
-        at = line_end(text, at);
+        size += line_size(rest);
     }
-    at
+    size
 }
 
-// Where each block ends, into the lent places; how many blocks there are, or 65 for more than 64.
-pub fn part_blocks(text: &[u8], ends: &mut [usize; 64]) -> usize
+// Where each block ends, into the lent places; how many blocks there are, or none for more than 64.
+pub fn part_blocks(text: &[u8], ends: &mut [usize; 64]) -> Option<usize>
     requires { length ends.old ≡ 64 }
     ensures { Parted text.now ends.new result }
 {
-    let mut end = block_end(text, 0);
+    let mut end = block_size(text);
     ends[0] = end;
-    let mut count = 1;
-    while end < text.len() {
-        if count >= 64 {
-            return 65;
+    for count in 1..64 {
+        if text.len() <= end {
+            return Some(count);
         }
-        end = block_end(text, end + 5);
+        end += 5 + block_size(&text[end + 5..]);
         ends[count] = end;
-        count += 1;
     }
-    count
+    if end < text.len() {
+        return None;
+    }
+    Some(64)
 }

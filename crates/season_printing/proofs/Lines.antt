@@ -7,17 +7,14 @@ use Prim.Native.Nat.{ℕ, ◌+◌, ◌-◌, ◌^◌, ◌≤◌, ◌<◌}
 use native.Mathlib.Omega.{arith}
 use lib.Dec.{eqb}
 use lib.ListN.{length, length-append}
-use borrow.Author.Tests.{eq-eqb, ne_eqb}
+use borrow.Author.Tests.{eq-eqb}
 use Rattle.text_decimal.specs.Text.{ascii, line}
 use Rattle.text_putting.proofs.Lengths.{value_length}
-use Rattle.season_numbers.specs.Season.{accepted, refused_blocks, sum, greatest, in_order, inserted}
+use Rattle.season_numbers.specs.Season.{accepted, refused_blocks, greatest, in_order, inserted}
 use Rattle.season_printing.specs.Lines.{value_or_none, season_lines, season_text}
 
 pub none_where : (key : List ℕ) (rounds value : ℕ) → rounds ≡ 0 → value_or_none key rounds value ≡ key ++ ascii "none\n"
 none_where key rounds value e = rw (eq-eqb rounds 0 e)
-
-pub value_where : (key : List ℕ) (rounds value : ℕ) → (rounds ≡ 0 → ⊥) → value_or_none key rounds value ≡ line key (value ∷ [])
-value_where key rounds value n = rw (ne_eqb rounds 0 n)
 
 abbrev pub from_longest : (rounds longest middle : ℕ) → List ℕ
 from_longest rounds longest middle = value_or_none (ascii "longest=") rounds longest ++ value_or_none (ascii "middle=") rounds middle
@@ -73,9 +70,9 @@ season_length rounds refused before after longest middle hr hf hb ha hl hm =
 -- ---- worked examples
 
 pub two_rounds : season_text (some (15, 3) ∷ some (15, 3) ∷ []) ≡ ascii "rounds=2\nrefused=0\nbefore=30\nafter=6\nsaved=24\nlongest=3\nmiddle=3\n"
-unfolding season_lines line accepted refused_blocks sum greatest in_order inserted
+unfolding season_lines line accepted refused_blocks greatest in_order inserted
 two_rounds = refl
 
 pub no_round : season_text (none ∷ []) ≡ ascii "rounds=0\nrefused=1\nbefore=0\nafter=0\nsaved=0\nlongest=none\nmiddle=none\n"
-unfolding season_lines line accepted refused_blocks sum greatest in_order inserted
+unfolding season_lines line accepted refused_blocks greatest in_order inserted
 no_round = refl

@@ -1,8 +1,9 @@
 -- Request (xi): what the season report prints.
 use Rattle.std.specs.Prelude.{cond, List, [], ◌∷◌, ◌++◌, ℕ, ◌-◌, ◌≤◌, eqb, length}
+use Rattle.std.specs.List.{sum}
 use Rattle.std.proofs.Math.Option.{Option}
 use Rattle.text_decimal.specs.Text.{ascii, line}
-use Rattle.season_numbers.specs.Season.{accepted, refused_blocks, befores, afters, sum, greatest, sorted, middle_of}
+use Rattle.season_numbers.specs.Season.{accepted, refused_blocks, befores, afters, greatest, sorted, middle_of}
 use Rattle.season_numbers.specs.declared.Sums.{Sums}
 
 -- "With no block accepted .. the last two read `none`."

@@ -7,16 +7,17 @@ use native.Mathlib.Omega.{arith}
 use lib.Dec.{leb, ltb}
 use lib.ListN.{length, take, drop, length-append}
 use lib.Seq.{take_at, length-take-le}
-use borrow.Author.Tests.{lt-ltb, le-ltb, leb-false}
+use borrow.Author.Tests.{lt-ltb, le-ltb, leb-true, leb-false}
 use Rattle.theory.specs.Refusals.{either, rules_of, first_in, refusal}
 use Rattle.text_polishing.specs.Outcome.{lengths}
 use Rattle.text_printing.specs.Answer.{refusal_text, Printed}
-use Rattle.season_blocks.specs.Blocks.{blocks, parts, Parted}
+use Rattle.std.specs.Prelude as Rust
+use Rattle.season_blocks.specs.Blocks.{blocks, parts, Ends, Parted}
 use Rattle.season_numbers.specs.Season.{middle_of}
 use Rattle.season_numbers.specs.Adding.{Middling, Summed}
 use Rattle.season_numbers.specs.declared.Sums.{Sums}
 use Rattle.season_printing.specs.Lines.{season_text, sums_text, Printable}
-use Rattle.season_report.specs.Report.{report, Room, Parts, Reported}
+use Rattle.season_report.specs.Report.{report, Room, Parts}
 use Rattle.season_report.proofs.Kept.{kept}
 use Rattle.season_report.proofs.Walk.{parts_length}
 
@@ -60,35 +61,37 @@ reported t h k =
     let e = or_false (ltb 60000 (length t)) (ltb 64 (length (blocks t))) (le-ltb 60000 (length t) h) (le-ltb 64 (length (blocks t)) k) in
     rw (rule_30 (ltb 60000 (length t) || ltb 64 (length (blocks t))), e)
 
-counted_many : (n : ℕ) (b : Bool) → leb n 64 ≡ b → 64 < cond b n 65 → 64 < n
-counted_many n true i h = h
-counted_many n false i h = leb-false n 64 i
+module _ {t ends : List ℕ} {told : Rust.Option ℕ} (p : Parted t ends told) where
+  abbrev n : ℕ
+  n = length (blocks t)
 
-counted_few : (n : ℕ) (b : Bool) → leb n 64 ≡ b → cond b n 65 ≤ 64 → n ≤ 64
-counted_few n true i h = h
-counted_few n false i h = absurd (omega arith)
+  pub many_told : told ≡ Rust.None → report t ≡ refusal_text 30
+  many_told is = too_many t (by (leb n 64) refl (sym p.counted ∙ is))
+    where
+      by : (b : Bool) → leb n 64 ≡ b → ◌≡◌ {A = Rust.Option ℕ} (cond b (Rust.Some n) Rust.None) Rust.None → 64 < n
+      by true i e = absurd (cc)
+      by false i e = leb-false n 64 i
 
-module _ {t ends : List ℕ} {told : ℕ} (p : Parted t ends told) where
-  pub many_told : 64 < told → report t ≡ refusal_text 30
-  many_told h = too_many t (counted_many (length (blocks t)) (leb (length (blocks t)) 64) refl (rw p.counted at h))
+  module _ {count : ℕ} (is : told ≡ Rust.Some count) where
+    few_told : (n ≡ count) × (n ≤ 64)
+    few_told = by (leb n 64) refl (sym p.counted ∙ is)
+      where
+        by : (b : Bool) → leb n 64 ≡ b → ◌≡◌ {A = Rust.Option ℕ} (cond b (Rust.Some n) Rust.None) (Rust.Some count) → (n ≡ count) × (n ≤ 64)
+        by true i e = (cc, leb-true n 64 i)
+        by false i e = absurd (cc)
 
-  module _ (h : told ≤ 64) where
-    few_blocks : length (blocks t) ≤ 64
-    few_blocks = counted_few (length (blocks t)) (leb (length (blocks t)) 64) refl (rw p.counted at h)
+    told_parts : (parts t 0 (take count ends) ≡ blocks t) × Ends t 0 (take count ends)
+    told_parts = rw few_told.0 at (p.parted few_told.1)
 
-    pub told_length : length (take told ends) ≡ told
-    told_length = length-take-le told ends (omega (arith, p.places))
+    pub told_length : length (take count ends) ≡ count
+    told_length = length-take-le count ends (omega (arith, p.places, few_told))
 
-    pub parts_told : {out : List ℕ} → Room out → Parts t (take told ends) out
-    parts_told room = record { in_text = (p.parted few_blocks).1; few = omega (arith, told_length); room = room }
+    pub parts_told : {out : List ℕ} → Room out → Parts t (take count ends) out
+    parts_told room = record { in_text = told_parts.1; few = omega (arith, told_length, few_told); room = room }
 
-    pub report_told : length t ≤ 60000 → report t ≡ season_text (map lengths (parts t 0 (take told ends)))
-    report_told short = reported t short few_blocks ∙ ap (λ (bs : List (List ℕ)). season_text (map lengths bs)) (sym (p.parted few_blocks).0)
+    pub report_told : length t ≤ 60000 → report t ≡ season_text (map lengths (parts t 0 (take count ends)))
+    report_told short = reported t short few_told.1 ∙ ap (λ (bs : List (List ℕ)). season_text (map lengths bs)) (sym told_parts.0)
 
 -- What was printed stands in the first places.
-pub shown : {t out out' : List ℕ} {n : ℕ} → Printed (report t) out out' n → Reported t (record { bytes = out'; length = n })
-shown {t} {out} {out'} {n} p =
-    record {
-      text_is = rw p.contents (take_at (report t) (drop n out) n (sym p.count));
-      within = rw p.contents (simp length-append (omega (arith, p.count)));
-    }
+pub shown : (t : List ℕ) {out out' : List ℕ} {n : ℕ} → Printed (report t) out out' n → (take n out' ≡ report t) × (n ≤ length out')
+shown t {out} {out'} {n} p = (rw p.contents (take_at (report t) (drop n out) n (sym p.count)), rw p.contents (simp length-append (omega (arith, p.count))))

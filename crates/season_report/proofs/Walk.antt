@@ -8,9 +8,10 @@ use lib.ListN.{length, get_or, take, drop, length-take}
 use lib.Seq.{drop-cons, take_all}
 use Rattle.text_polishing.specs.Outcome.{lengths}
 use Rattle.season_blocks.specs.Blocks.{parts, Ends}
-use Rattle.season_numbers.specs.Season.{accepted, refused_blocks, sum, greatest, in_order}
+use Rattle.season_numbers.specs.Season.{accepted, refused_blocks, greatest, in_order}
 use Rattle.season_numbers.specs.Adding.{lengths_told, Small, Addable, Summed, Added}
 use Rattle.season_numbers.specs.declared.Sums.{Sums}
+use Rattle.std.specs.Prelude as Rust
 use Rattle.season_numbers.specs.declared.BlockLengths.{BlockLengths}
 use Rattle.season_report.proofs.Kept.{kept}
 
@@ -34,7 +35,7 @@ pub record Goes (t ends : List ℕ) (i from : ℕ) (s : Sums) (afters : List ℕ
   pub summed : Summed (map lengths (take i (parts t 0 ends))) s afters
 
 pub goes_start : (t ends afters : List ℕ) → Ends t 0 ends → length afters ≡ 64 → Goes t ends 0 0 (record { rounds = 0; refused = 0; before = 0; after = 0; longest = 0 }) afters
-unfolding accepted refused_blocks sum greatest in_order
+unfolding accepted refused_blocks greatest in_order
 goes_start t ends afters in_text l =
     record {
       within = omega arith;
@@ -57,7 +58,7 @@ module _ {t ends : List ℕ} {i from : ℕ} {s : Sums} {afters : List ℕ} (g : 
   unfolding parts
   block_is = sym g.left ∙ rw (drop-cons ends i 0 more)
 
-  pub addable : (b : BlockLengths) → length ends ≤ 64 → Small b → Addable s b afters
+  pub addable : (b : Rust.Option BlockLengths) → length ends ≤ 64 → Small b → Addable s b afters
   addable b few small =
       let k = kept (take i (parts t 0 ends)) in
       let h = g.summed in
@@ -69,7 +70,7 @@ module _ {t ends : List ℕ} {i from : ℕ} {s : Sums} {afters : List ℕ} (g : 
         small = small;
       }
 
-  pub goes_next : (b : BlockLengths) (s' : Sums) (afters' : List ℕ) → lengths_told b ≡ lengths block → Added s b afters s' afters' → Goes t ends (i + 1) (e + 5) s' afters'
+  pub goes_next : (b : Rust.Option BlockLengths) (s' : Sums) (afters' : List ℕ) → lengths_told b ≡ lengths block → Added s b afters s' afters' → Goes t ends (i + 1) (e + 5) s' afters'
   goes_next b s' afters' is added =
       let o = one_more (parts t 0 ends) i block _ block_is in
       let bs = map lengths (take i (parts t 0 ends)) in

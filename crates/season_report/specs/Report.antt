@@ -1,5 +1,5 @@
 -- Request (xi): the season report from bytes to bytes.
-use Rattle.std.specs.Prelude.{◌≡◌, ◌||◌, List, [], ◌∷◌, map, ℕ, ◌≤◌, ltb, length, take}
+use Rattle.std.specs.Prelude.{◌≡◌, ◌||◌, List, [], ◌∷◌, map, ℕ, ◌≤◌, ltb, length}
 use Rattle.theory.specs.Tables.{Tables}
 use Rattle.theory.specs.Refusals.{Rule, refusal, if_taken}
 use Rattle.text_problem.specs.Judged.{ProblemPlaces}
@@ -7,7 +7,6 @@ use Rattle.text_polishing.specs.Outcome.{lengths}
 use Rattle.text_printing.specs.Answer.{refusal_text}
 use Rattle.season_blocks.specs.Blocks.{blocks, Ends}
 use Rattle.season_printing.specs.Lines.{season_text}
-use Rattle.season_report.specs.declared.Report.{Report}
 
 -- "30, more than 64 blocks or a longer input": "the whole report input is at most 60,000 bytes".
 abbrev pub report_bounds : List ℕ → Rule
@@ -35,8 +34,3 @@ pub record Parts (t ends out : List ℕ) : Type 0 where
   pub in_text : Ends t 0 ends
   pub few : length ends ≤ 64
   pub room : Room out
-
--- The program's bytes are those of its definition, for every input.
-pub record Reported (t : List ℕ) (output : Report) : Type 0 where
-  pub text_is : take output.length output.bytes ≡ report t
-  pub within : output.length ≤ length output.bytes

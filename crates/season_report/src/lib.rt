@@ -2,7 +2,6 @@
 #![tactic(auto)]
 
 ghost use Rattle.std.specs.Prelude.{◌≡◌, map};
-ghost use Rattle.std.proofs.Math.Option.{some};
 ghost use Rattle.theory.specs.Tables.{tables};
 ghost use Rattle.theory.specs.Answers.{counts_of};
 ghost use Rattle.text_problem.specs.Judged.{ProblemPlaces};
@@ -11,37 +10,39 @@ ghost use Rattle.text_printing.specs.Answer.{Printed};
 ghost use Rattle.season_blocks.specs.Blocks.{parts};
 ghost use Rattle.season_numbers.specs.Adding.{lengths_told, Summed};
 ghost use Rattle.season_printing.specs.Lines.{season_text};
-ghost use Rattle.season_report.specs.Report.{report, Work, Parts, Room, Reported};
+ghost use Rattle.season_report.specs.Report.{report, Work, Parts, Room};
 
+use lent_bytes::{Filled, Program};
 use season_numbers::{BlockLengths, Sums};
-use text_polishing::TextAnswer;
 use theory::Polished;
 
 // "A finished or spent one is accepted."
 fn accepted_lengths(answer: Polished) -> BlockLengths
-    ensures { lengths_told result ≡ some ((counts_of answer).before, (counts_of answer).after) }
+    ensures before { result.before ≡ (counts_of answer).before }
+    ensures after { result.after ≡ (counts_of answer).after }
 {
     match answer {
-        Polished::Finished(counts) => BlockLengths::Accepted(counts.before, counts.after),
-        Polished::Spent(counts) => BlockLengths::Accepted(counts.before, counts.after),
+        Polished::Finished(counts) | Polished::Spent(counts) => BlockLengths {
+            before: counts.before,
+            after: counts.after,
+        },
     }
 }
 
-// The lengths of a block, polished in lent places.
+// The lengths of a block, polished in lent places; none where it is refused.
 fn block_lengths(
     text: &[u8],
     legs: &mut [u32],
     latest: &mut [u32],
     service: &mut [u32],
     stops: &mut [u32],
-) -> BlockLengths
+) -> Option<BlockLengths>
     requires { ProblemPlaces (tables 96 legs.old latest.old service.old) stops.old }
     ensures { lengths_told result ≡ lengths text.now }
 {
-    let answer = text_polishing::polish_in_places(text, legs, latest, service, stops);
-    match answer {
-        TextAnswer::Refused(_) => BlockLengths::Refused,
-        TextAnswer::Polished(polished, _) => accepted_lengths(polished),
+    match text_polishing::polish_in_places(text, legs, latest, service, stops) {
+        Ok(answer) => Some(accepted_lengths(answer.polished)),
+        Err(_) => None,
     }
 }
 
@@ -66,13 +67,10 @@ fn add_blocks(
         longest: 0,
     };
     let mut from = 0;
-    let mut i = 0;
-    while i < ends.len() {
-        let end = ends[i];
+    for &end in ends {
         let block = block_lengths(&text[from..end], legs, latest, service, stops);
         sums = season_numbers::add_block(sums, block, afters);
         from = end + 5;
-        i += 1;
     }
     sums
 }
@@ -105,29 +103,33 @@ fn report_text(text: &[u8], out: &mut [u8]) -> usize
     requires { Room out.old }
     ensures { Printed (report text.now) out.old out.new result }
 {
+    // 30 is the report's own refusal; the enum has those of the calls.
     if text.len() > 60000 {
         return text_printing::print_refusal(30, out);
     }
     let mut ends = [0usize; 64];
-    let count = season_blocks::part_blocks(text, &mut ends);
-    if count > 64 {
+    let Some(count) = season_blocks::part_blocks(text, &mut ends) else {
         return text_printing::print_refusal(30, out);
-    }
+    };
     report_blocks(text, &ends[..count], out)
 }
 
-// What the program writes: the first `length` of the bytes.
-#[derive(Clone, Copy)]
-pub struct Report {
-    pub bytes: [u8; 256],
-    pub length: usize,
-}
-
 // The program, from bytes to bytes.
-pub fn report_season(text: &[u8]) -> Report
-    ensures { Reported text.now result }
+pub fn report_season(text: &[u8]) -> Filled<256>
+    ensures { result ≡ report text.now }
 {
     let mut bytes = [0u8; 256];
     let length = report_text(text, &mut bytes);
-    Report { bytes, length }
+    Filled::new(bytes, length)
+}
+
+// The program as one that answers an input.
+pub struct ReportSeason;
+
+impl Program<256> for ReportSeason {
+    ghost answer = { report };
+
+    fn run(text: &[u8]) -> Filled<256> {
+        report_season(text)
+    }
 }

@@ -1,11 +1,10 @@
 -- The text program from bytes to bytes: what it answers, printed.
-use Rattle.std.specs.Prelude.{Bool, List, ◌≡◌, ℕ, ◌≤◌, length, take}
+use Rattle.std.specs.Prelude.{Bool, List, ◌≡◌, ℕ, ◌≤◌, length}
 use Rattle.theory.specs.Tables.{Tables}
 use Rattle.theory.specs.declared.Counts.{Counts}
 use Rattle.theory.specs.declared.Polished.{Polished}
 use Rattle.text_problem.specs.Judged.{ProblemPlaces}
 use Rattle.text_polishing.specs.Outcome.{Answer, Outcome, no, yes, outcome, counts_told, answer_told}
-use Rattle.text.specs.declared.Output.{Output}
 use Rattle.text_printing.specs.Answer.{answer_text, refusal_text}
 
 abbrev pub answer_lines : Answer → List ℕ
@@ -40,11 +39,6 @@ pub record Printable (route out : List ℕ) : Type 0 where
 pub record Work (T : Tables) (stops out : List ℕ) : Type 0 where
   pub lent : ProblemPlaces T stops
   pub room : Room out
-
--- The program's bytes are those of its definition, for every input.
-pub record Shown (text : List ℕ) (output : Output) : Type 0 where
-  pub text_is : take output.length output.bytes ≡ program text
-  pub within : output.length ≤ length output.bytes
 
 -- An answer with these lengths before and after.
 pub record Answers (output : List ℕ) (before after : ℕ) : Type 0 where

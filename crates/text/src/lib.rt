@@ -1,11 +1,12 @@
 // The text program's function from bytes to bytes: a question is read, judged and polished in crate text_polishing, and the answer printed.
 #![tactic(auto)]
 
+ghost use Rattle.std.specs.Prelude.{◌≡◌};
 ghost use Rattle.theory.specs.Tables.{tables};
 ghost use Rattle.text_printing.specs.Answer.{Printed};
-ghost use Rattle.text.specs.Program.{program, counts_text, polished_text, Printable, Work, Shown};
+ghost use Rattle.text.specs.Program.{program, counts_text, polished_text, Printable, Work};
 
-use text_polishing::TextAnswer;
+use lent_bytes::{Filled, Program};
 use theory::{Counts, Polished};
 
 // Any answer has room.
@@ -47,23 +48,15 @@ fn answer_text(
     requires { Work (tables 96 legs.old latest.old service.old) stops.old out.old }
     ensures { Printed (program text.now) out.old out.new result }
 {
-    let answer = text_polishing::polish_in_places(text, legs, latest, service, stops);
-    match answer {
-        TextAnswer::Refused(number) => text_printing::print_refusal(number, out),
-        TextAnswer::Polished(polished, count) => print_polished(polished, &stops[..count], out),
+    match text_polishing::polish_in_places(text, legs, latest, service, stops) {
+        Err(refusal) => text_printing::print_refusal(refusal.number(), out),
+        Ok(answer) => print_polished(answer.polished, &stops[..answer.count], out),
     }
 }
 
-// What the program writes: the first `length` of the bytes.
-#[derive(Clone, Copy)]
-pub struct Output {
-    pub bytes: [u8; 6500],
-    pub length: usize,
-}
-
 // The program, from bytes to bytes.
-pub fn polish_text(text: &[u8]) -> Output
-    ensures { Shown text.now result }
+pub fn polish_text(text: &[u8]) -> Filled<6500>
+    ensures { result ≡ program text.now }
 {
     let mut legs = [0u32; 9216];
     let mut latest = [0u32; 96];
@@ -78,5 +71,16 @@ pub fn polish_text(text: &[u8]) -> Output
         &mut stops,
         &mut bytes,
     );
-    Output { bytes, length }
+    Filled::new(bytes, length)
+}
+
+// The program as one that answers an input.
+pub struct PolishText;
+
+impl Program<6500> for PolishText {
+    ghost answer = { program };
+
+    fn run(text: &[u8]) -> Filled<6500> {
+        polish_text(text)
+    }
 }

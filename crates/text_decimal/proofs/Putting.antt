@@ -4,11 +4,8 @@ use mathlib.Core.List.{List, [], ◌++◌, append-nil, append_assoc}
 use Prim.Native.Nat.{ℕ, ◌+◌, ◌≤◌}
 use native.Mathlib.Omega.{arith}
 use lib.ListN.{length, take, drop, length-append, length-take, length-drop, take-append-drop}
-use lib.Seq.{take_at, drop_at, drop-drop, take-length, paste}
+use lib.Seq.{take_at, drop_at, drop-drop}
 use Rattle.text_decimal.specs.Text.{Room, Put}
-
-pub pasted : (text out : List ℕ) (at : ℕ) → Put text out at (paste out at text (length text)) (at + length text)
-pasted text out at = record { ends = refl; contents = rw (take-length text) (append_assoc (take at out) text (drop (at + length text) out)) }
 
 module _ {s out out₁ : List ℕ} {at m : ℕ} (r : Room s out at) (p : Put s out at out₁ m) where
   long : length (take at out ++ s) ≡ m

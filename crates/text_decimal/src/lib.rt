@@ -10,10 +10,9 @@ pub fn put_text(text: &[u8], out: &mut [u8], at: usize) -> usize
     requires { Room text.now out.old at }
     ensures { Put text.now out.old at out.new result }
 {
-    for i in 0..text.len() {
-        out[at + i] = text[i];
-    }
-    at + text.len()
+    let end = at + text.len();
+    out[at..end].copy_from_slice(text);
+    end
 }
 
 // The byte of the last digit.
@@ -31,6 +30,7 @@ fn spell(value: u64, places: &mut [u8; 20]) -> usize
     let mut start = 19;
     places[start] = last_digit(value);
     let mut rest = value / 10;
+    // A for loop is no plainer: how many digits there are is known only where none is left, so it would need a second way out.
     while rest > 0 {
         start -= 1;
         places[start] = last_digit(rest);

@@ -1,4 +1,4 @@
--- The readers of a line at a place of the text, as the code's loops go on. Assumes nothing.
+-- The readers of a line, as the code goes on. Assumes nothing.
 use mathlib.Core.Path.{◌≡◌, refl, sym, ◌∙◌}
 use mathlib.Core.List.{List, [], ◌∷◌, ◌++◌, append_assoc}
 use mathlib.Core.Option.{Option, none, some, bind}
@@ -10,9 +10,21 @@ use lib.ListN.{length, get_or, take, drop, set, length-set}
 use lib.Seq.{take-suc-set, take_all, length-take-le}
 use borrow.Author.Tests.{eq-eqb, ne_eqb}
 use Rattle.text_tokens.specs.Tokens.{choose, front, numeral, after}
-use Rattle.text_tokens.proofs.Places.{drop_next}
 use Rattle.text_lines.specs.Reading.{before, entries, entries_or_none, line_of, row, value}
 use Rattle.text_lines.proofs.Lines.{entries_on, entries_missing}
+
+-- A text that a pattern takes apart, by its first byte.
+pub begins : (t : List ℕ) (b : ℕ) → 1 ≤ length t → get_or t 0 0 ≡ b → t ≡ b ∷ take (length t - 1) (drop 1 t)
+begins [] b h e = absurd (omega arith)
+begins (x ∷ t) b h e = rw (take_all (length (x ∷ t) - 1) t (omega arith), e)
+
+pub front_none : (t : List ℕ) (b : ℕ) → 0 < b → length t < 1 → front t ≡ b → ⊥
+front_none [] b p h e = omega arith
+front_none (x ∷ t) b p h e = omega arith
+
+pub front_other : (t : List ℕ) (b : ℕ) → (get_or t 0 0 ≡ b → ⊥) → front t ≡ b → ⊥
+front_other [] b n e = n e
+front_other (x ∷ t) b n e = n e
 
 pub before_before : (xs ys : List ℕ) (o : Option (List ℕ × List ℕ)) → before xs (before ys o) ≡ before (xs ++ ys) o
 unfolding before
@@ -39,30 +51,27 @@ pub entries_break : (out t : List ℕ) (count : ℕ) → numeral t ≡ none → 
 unfolding before
 entries_break out t count n = rw (entries_missing (length out - count) t n)
 
-module _ (out t : List ℕ) (at count v next : ℕ) (c : count < length out) (n : numeral (drop at t) ≡ some (v, drop next t)) where
-  room : length out - count ≡ suc (length out - (count + 1))
-  room = omega arith
+module _ (out t s : List ℕ) (count v : ℕ) (c : count < length out) (n : numeral t ≡ some (v, s)) where
+  read_one : to_come out count t
+      ≡ before (take count out) (choose (eqb (front s) 10) (some (v ∷ [], drop 1 s)) (eqb (front s) 44) (before (v ∷ []) (entries (length out - (count + 1)) (drop 1 s))) none)
+  read_one = let room : length out - count ≡ suc (length out - (count + 1)) = omega arith in rw (room, entries_on (length out - (count + 1)) v t s n)
 
-  read_one : to_come out count (drop at t)
-      ≡ before (take count out) (choose (eqb (front (drop next t)) 10) (some (v ∷ [], drop 1 (drop next t))) (eqb (front (drop next t)) 44) (before (v ∷ []) (entries (length out - (count + 1)) (drop 1 (drop next t)))) none)
-  read_one = rw (room, entries_on (length out - (count + 1)) v (drop at t) (drop next t) n)
-
-  pub entry_last : front (drop next t) ≡ 10 → to_come out count (drop at t) ≡ some (take (count + 1) (set out count v), drop (next + 1) t)
+  pub entry_last : (rest : List ℕ) → s ≡ 10 ∷ rest → to_come out count t ≡ some (take (count + 1) (set out count v), rest)
   unfolding before
-  entry_last e = read_one ∙ rw (eq-eqb (front (drop next t)) 10 e, add-one count, take-suc-set out count v c, drop_next t next)
+  entry_last rest e = read_one ∙ rw (e, add-one count, take-suc-set out count v c)
 
-  pub entry_more : front (drop next t) ≡ 44 → to_come out count (drop at t) ≡ to_come (set out count v) (count + 1) (drop (next + 1) t)
-  entry_more e =
+  pub entry_more : (rest : List ℕ) → s ≡ 44 ∷ rest → to_come out count t ≡ to_come (set out count v) (count + 1) rest
+  entry_more rest e =
       read_one
-      ∙ rw (ne_eqb (front (drop next t)) 10 (omega arith), eq-eqb (front (drop next t)) 44 e, length-set out count v, drop_next t next) (before_before (take count out) (v ∷ []) (entries (length out - (count + 1)) (drop (next + 1) t)) ∙ rw (add-one count, take-suc-set out count v c))
+      ∙ rw (e, length-set out count v) (before_before (take count out) (v ∷ []) (entries (length out - (count + 1)) rest) ∙ rw (add-one count, take-suc-set out count v c))
 
-  pub entry_breaks : (front (drop next t) ≡ 10 → ⊥) → (front (drop next t) ≡ 44 → ⊥) → to_come out count (drop at t) ≡ none
+  pub entry_breaks : (front s ≡ 10 → ⊥) → (front s ≡ 44 → ⊥) → to_come out count t ≡ none
   unfolding before
-  entry_breaks h k = read_one ∙ rw (ne_eqb (front (drop next t)) 10 h, ne_eqb (front (drop next t)) 44 k)
+  entry_breaks h k = read_one ∙ rw (ne_eqb (front s) 10 h, ne_eqb (front s) 44 k)
 
-pub list_empty : (room at : ℕ) (t : List ℕ) → front (drop at t) ≡ 10 → entries_or_none room (drop at t) ≡ some ([], drop (at + 1) t)
+pub list_empty : (room : ℕ) (t rest : List ℕ) → t ≡ 10 ∷ rest → entries_or_none room t ≡ some ([], rest)
 unfolding entries_or_none
-list_empty room at t e = rw (eq-eqb (front (drop at t)) 10 e, drop_next t at)
+list_empty room t rest e = rw e
 
 pub list_entries : (room : ℕ) (t : List ℕ) → (front t ≡ 10 → ⊥) → entries_or_none room t ≡ entries room t
 unfolding entries_or_none

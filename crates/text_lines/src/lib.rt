@@ -1,84 +1,64 @@
-// Lines of numbers, read from bytes. No entry: the crates above call it.
+// Lines of numbers in front of a text, read from bytes. No entry: the crates above call it.
 #![tactic(auto)]
 
-ghost use Rattle.std.specs.Prelude.{◌≡◌, length, drop};
+ghost use Rattle.std.specs.Prelude.{◌≡◌, length};
 ghost use Rattle.text_tokens.specs.Told.{numeral_told};
 ghost use Rattle.text_lines.specs.Reading.{entries, entries_or_none, line_of, row, value};
 ghost use Rattle.text_lines.specs.Told.{row_told, Listed};
 
-use text_tokens::{Numeral, Place, byte_at, read_numeral, skip_key};
-
-// How many entries a line has, and the place after it.
-#[derive(Clone, Copy)]
-pub enum Entries {
-    Read(usize, usize),
-    Malformed,
-}
+use text_tokens::{read_numeral, skip_key};
 
 // Numbers with commas between, up to the line's end, into out.
-fn read_entries(text: &[u8], at: usize, out: &mut [u32]) -> Entries
-    ensures { Listed (entries (length out.old) (drop at text.now)) text.now out.new result }
+fn read_entries<'t>(text: &'t [u8], out: &mut [u32]) -> Option<(usize, &'t [u8])>
+    ensures { Listed (entries (length out.old) text.now) out.new result }
 {
-    let mut at = at;
-    let mut count = 0;
-    while count < out.len() {
-        let Numeral::Read(value, next) = read_numeral(text, at) else {
-            return Entries::Malformed;
-        };
+    let mut rest = text;
+    for count in 0..out.len() {
+        let (value, end) = read_numeral(rest)?;
         out[count] = value;
-        count += 1;
-        let end = byte_at(text, next);
-        if end == b'\n' {
-            return Entries::Read(count, next + 1);
+        match end {
+            [b'\n', next @ ..] => return Some((count + 1, next)),
+            [b',', next @ ..] => rest = next,
+            _ => return None,
         }
-        if end != b',' {
-            return Entries::Malformed;
-        }
-        at = next + 1;
     }
-    Entries::Malformed
+    None
 }
 
 // The same, or no number.
-fn read_list(text: &[u8], at: usize, out: &mut [u32]) -> Entries
-    ensures { Listed (entries_or_none (length out.old) (drop at text.now)) text.now out.new result }
+fn read_list<'t>(text: &'t [u8], out: &mut [u32]) -> Option<(usize, &'t [u8])>
+    ensures { Listed (entries_or_none (length out.old) text.now) out.new result }
 {
-    if byte_at(text, at) == b'\n' {
-        return Entries::Read(0, at + 1);
+    if let [b'\n', rest @ ..] = text {
+        return Some((0, rest));
     }
-    read_entries(text, at, out)
+    read_entries(text, out)
 }
 
 // A line of numbers into out.
-pub fn read_line(text: &[u8], at: usize, key: &[u8], out: &mut [u32]) -> Entries
-    ensures { Listed (line_of key.now (length out.old) (drop at text.now)) text.now out.new result }
+pub fn read_line<'t>(text: &'t [u8], key: &[u8], out: &mut [u32]) -> Option<(usize, &'t [u8])>
+    ensures { Listed (line_of key.now (length out.old) text.now) out.new result }
 {
-    let Place::At(list) = skip_key(text, at, key) else {
-        return Entries::Malformed;
-    };
-    read_list(text, list, out)
+    let list = skip_key(text, key)?;
+    read_list(list, out)
 }
 
 // A line of as many numbers as out has places.
-pub fn read_row(text: &[u8], at: usize, key: &[u8], out: &mut [u32]) -> Place
-    ensures { row key.now (length out.old) (drop at text.now) ≡ row_told text.now out.new result }
+pub fn read_row<'t>(text: &'t [u8], key: &[u8], out: &mut [u32]) -> Option<&'t [u8]>
+    ensures { row key.now (length out.old) text.now ≡ row_told out.new result }
 {
-    let Entries::Read(count, next) = read_line(text, at, key, out) else {
-        return Place::Nowhere;
-    };
+    let (count, rest) = read_line(text, key, out)?;
     if count != out.len() {
-        return Place::Nowhere;
+        return None;
     }
-    Place::At(next)
+    Some(rest)
 }
 
 // A line of one number.
-pub fn read_value(text: &[u8], at: usize, key: &[u8]) -> Numeral
-    ensures { value key.now (drop at text.now) ≡ numeral_told text.now result }
+pub fn read_value<'t>(text: &'t [u8], key: &[u8]) -> Option<(u32, &'t [u8])>
+    ensures { value key.now text.now ≡ numeral_told result }
 {
     let mut one = [0u32; 1];
-    let Place::At(next) = read_row(text, at, key, &mut one) else {
-        return Numeral::Missing;
-    };
-    Numeral::Read(one[0], next)
+    let rest = read_row(text, key, &mut one)?;
+    Some((one[0], rest))
 }

@@ -24,9 +24,9 @@ use Rattle.text_question.specs.Reading.{read}
 use Rattle.text_question.specs.declared.Header.{Header}
 use Rattle.text_problem.specs.Judged.{refused, taken, judge_read, judged, ProblemPlaces, question_in, judged_told, locations_told, stops_told, Judges}
 use Rattle.text_problem.specs.declared.ProblemRead.{ProblemRead}
-use Rattle.text_problem.specs.declared.ProblemRead.TheVariants as P
+use Rattle.std.specs.Prelude as Rust
+use Rattle.theory.specs.declared.Refusal.{Refusal}
 use Rattle.text_polishing.specs.Outcome.{yes, reply_answer, answer, outcome_of, outcome, Asked, PolishedIn, answer_told, Tells}
-use Rattle.text_polishing.specs.declared.TextAnswer.TheVariants as T
 
 -- A question that is taken is not refused.
 number_none : (number : ℕ) (q p : Question) (b : Bool) → eqb number 0 ≡ b → cond b (taken q) (refused number) ≡ taken p → (q ≡ p) × (number ≡ 0)
@@ -66,33 +66,33 @@ polished_in {count = count} {stops = stops} asked part l s =
     let e : length part ≡ count = l ∙ length-take-le count stops asked.few_stops in
     record { polishes = rw (take_at part (drop count stops) count e) s; as_many = simp (length-append, length-drop) (omega (arith, asked.few_stops)) }
 
-module _ {text : List ℕ} {tabled : Tables} {stops : List ℕ} {answer : ProblemRead} (j : Judges text tabled stops answer) where
-  judged_is : (a : ProblemRead) → answer ≡ a → judged text ≡ judged_told a tabled stops
-  judged_is a is = j.judges ∙ ap (λ (b : ProblemRead). judged_told b tabled stops) is
+module _ {text : List ℕ} {tabled : Tables} {stops : List ℕ} {answer : Rust.Result ProblemRead Refusal} (j : Judges text tabled stops answer) where
+  judged_is : (a : Rust.Result ProblemRead Refusal) → answer ≡ a → judged text ≡ judged_told a tabled stops
+  judged_is a is = j.judges ∙ ap (λ (b : Rust.Result ProblemRead Refusal). judged_told b tabled stops) is
 
-  pub told_no : (number : ℕ) → answer ≡ P.Refused number → Tells text stops (T.Refused number)
-  told_no number is = record { tells = outcome_judged text ∙ ap outcome_of (judged_is (P.Refused number) is); few = omega arith; within = omega arith }
+  pub told_no : (e : Refusal) → answer ≡ Rust.Err e → Tells text stops (Rust.Err e)
+  told_no e is = record { tells = outcome_judged text ∙ ap outcome_of (judged_is (Rust.Err e) is); few = omega arith; within = omega arith }
 
-  module _ (h : Header) (count : ℕ) (is : answer ≡ P.Read h count) where
-    taken_in : judged text ≡ taken (question_in h count tabled stops)
-    taken_in = judged_is (P.Read h count) is
+  module _ (r : ProblemRead) (is : answer ≡ Rust.Ok r) where
+    taken_in : judged text ≡ taken (question_in r.header r.count tabled stops)
+    taken_in = judged_is (Rust.Ok r) is
 
-    pub asked_in : ProblemPlaces tabled stops → Asked h count tabled stops
+    pub asked_in : ProblemPlaces tabled stops → Asked r.header r.count tabled stops
     asked_in places =
         record {
           places = places;
           few_locations = subst (λ a. locations_told a ≤ 96) is j.few_locations;
           few_stops = subst (λ a. stops_told a ≤ length stops) is j.few_stops;
-          taken = taken_fine text (question_in h count tabled stops) taken_in;
+          taken = taken_fine text (question_in r.header r.count tabled stops) taken_in;
         }
 
-    pub told_yes : (p : Polished) (stops' : List ℕ) → PolishedIn h count tabled stops p stops' → Tells text stops' (T.Polished p count)
+    pub told_yes : (p : Polished) (stops' : List ℕ) → PolishedIn r.header r.count tabled stops p stops' → Tells text stops' (Rust.Ok (record { polished = p; count = r.count }))
     told_yes p stops' s =
-        let q = question_in h count tabled stops in
-        let few_stops : count ≤ length stops = subst (λ a. stops_told a ≤ length stops) is j.few_stops in
+        let q = question_in r.header r.count tabled stops in
+        let few_stops : r.count ≤ length stops = subst (λ a. stops_told a ≤ length stops) is j.few_stops in
         let short = (fine q (taken_fine text q taken_in) refl).timed.measurable.stops.short in
         record {
-          tells = outcome_judged text ∙ ap outcome_of taken_in ∙ ap yes (polished_is q p (take count stops') s.polishes);
-          few = omega (arith, length-take-le count stops few_stops, short);
+          tells = outcome_judged text ∙ ap outcome_of taken_in ∙ ap yes (polished_is q p (take r.count stops') s.polishes);
+          few = omega (arith, length-take-le r.count stops few_stops, short);
           within = omega (arith, few_stops, s.as_many);
         }

@@ -1,6 +1,9 @@
 -- What the text program answers to a text, before it is printed.
 use Rattle.std.specs.Prelude.{◌≡◌, Bool, true, false, List, ℕ, ◌≤◌, length, take}
+use Rattle.std.specs.Prelude as Rust
 use Rattle.std.proofs.Math.Option.{Option, none, some}
+use Rattle.theory.specs.Numbers.{refusal_number}
+use Rattle.theory.specs.declared.Refusal.{Refusal}
 use Rattle.theory.specs.Moves.{patterns}
 use Rattle.theory.specs.Scan.{Reply}
 use Rattle.theory.specs.Route.{Problem, tour_length, late_position, timetable_of}
@@ -14,7 +17,6 @@ use Rattle.theory.specs.declared.Polished.TheVariants as Polishing
 use Rattle.text_question.specs.declared.Header.{Header}
 use Rattle.text_problem.specs.Judged.{Judged, refused, taken, judged, ProblemPlaces, question_in}
 use Rattle.text_polishing.specs.declared.TextAnswer.{TextAnswer}
-use Rattle.text_polishing.specs.declared.TextAnswer.TheVariants as T
 
 -- "Answers: finished or spent, examined, accepted, length before, length after"; the lowest late position; the route handed back.
 pub record Answer : Type 0 where
@@ -84,16 +86,16 @@ abbrev pub answer_told : Polished → List ℕ → Answer
 answer_told (Polishing.Finished c) route = counts_told true c route
 answer_told (Polishing.Spent c) route = counts_told false c route
 
-abbrev pub outcome_told : TextAnswer → (stops : List ℕ) → Outcome
-outcome_told (T.Refused number) stops = no number
-outcome_told (T.Polished answer count) stops = yes (answer_told answer (take count stops))
+abbrev pub outcome_told : Rust.Result TextAnswer Refusal → (stops : List ℕ) → Outcome
+outcome_told (Rust.Err refusal) stops = no (refusal_number refusal)
+outcome_told (Rust.Ok a) stops = yes (answer_told a.polished (take a.count stops))
 
-abbrev pub stops_told : TextAnswer → ℕ
-stops_told (T.Refused number) = 0
-stops_told (T.Polished answer count) = count
+abbrev pub stops_told : Rust.Result TextAnswer Refusal → ℕ
+stops_told (Rust.Err refusal) = 0
+stops_told (Rust.Ok a) = a.count
 
 -- The answer tells the outcome of the text, with the stops in the lent places.
-pub record Tells (text stops : List ℕ) (answer : TextAnswer) : Type 0 where
+pub record Tells (text stops : List ℕ) (answer : Rust.Result TextAnswer Refusal) : Type 0 where
   pub tells : outcome text ≡ outcome_told answer stops
   pub few : stops_told answer ≤ 512
   pub within : stops_told answer ≤ length stops

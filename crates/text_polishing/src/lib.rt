@@ -6,28 +6,27 @@ ghost use Rattle.text_problem.specs.Judged.{ProblemPlaces};
 ghost use Rattle.text_polishing.specs.Outcome.{Asked, PolishedIn, Tells};
 
 use text_problem::ProblemRead;
-use text_question::Header;
-use theory::Polished;
+use theory::{Polished, Refusal};
 
-// The polished question with the number of its stops, which are in lent places; or why there is none.
-#[derive(Clone, Copy)]
-pub enum TextAnswer {
-    Refused(u32),
-    Polished(Polished, usize),
+// What came of a question that was polished, and the number of its stops, which are in lent places.
+#[derive(Clone, Copy, Debug, PartialEq, Eq)]
+pub struct TextAnswer {
+    pub polished: Polished,
+    pub count: usize,
 }
 
 // The problem that was read, polished in its place. A text holds no pairs.
 fn polish_problem(
-    header: Header,
-    count: usize,
+    problem: ProblemRead,
     legs: &[u32],
     latest: &[u32],
     service: &[u32],
     stops: &mut [u32],
 ) -> Polished
-    requires { Asked header count (tables 96 legs.now latest.now service.now) stops.old }
-    ensures { PolishedIn header count (tables 96 legs.now latest.now service.now) stops.old result stops.new }
+    requires { Asked problem.header problem.count (tables 96 legs.now latest.now service.now) stops.old }
+    ensures { PolishedIn problem.header problem.count (tables 96 legs.now latest.now service.now) stops.old result stops.new }
 {
+    let ProblemRead { header, count } = problem;
     let k = header.k as usize;
     let allowance = header.allowance as u64;
     let locations = header.locations;
@@ -54,16 +53,14 @@ pub fn polish_in_places(
     latest: &mut [u32],
     service: &mut [u32],
     stops: &mut [u32],
-) -> TextAnswer
+) -> Result<TextAnswer, Refusal>
     requires { ProblemPlaces (tables 96 legs.old latest.old service.old) stops.old }
     ensures { Tells text.now stops.new result }
 {
-    let answer = text_problem::read_problem(text, legs, latest, service, stops);
-    match answer {
-        ProblemRead::Refused(number) => TextAnswer::Refused(number),
-        ProblemRead::Read(header, count) => {
-            let polished = polish_problem(header, count, legs, latest, service, stops);
-            TextAnswer::Polished(polished, count)
-        }
-    }
+    let problem = text_problem::read_problem(text, legs, latest, service, stops)?;
+    let polished = polish_problem(problem, legs, latest, service, stops);
+    Ok(TextAnswer {
+        polished,
+        count: problem.count,
+    })
 }

@@ -18,7 +18,7 @@ fn put_outcome(finished: bool, out: &mut [u8], at: usize) -> usize
     put_text(b"answer=spent\n", out, at)
 }
 
-// The line of the lowest late position, for which the number of stops stands for none.
+// The line of the lowest late position, for which the number of stops stands for none: `none_exactly` speaks of that number.
 fn put_late(late: u64, route: &[u32], out: &mut [u8], at: usize) -> usize
     requires { Room (late_line late route.now) out.old at }
     ensures { Put (late_line late route.now) out.old at out.new result }
@@ -52,7 +52,7 @@ pub fn print_answer(
     put_late(late, route, out, at)
 }
 
-// The answer to a text that is refused; how many bytes it has.
+// The answer to a text that is refused; how many bytes it has. The number is no `Refusal`, since the season report has one of its own.
 pub fn print_refusal(number: u32, out: &mut [u8]) -> usize
     requires { Fits (refusal_text number) out.old }
     ensures { Printed (refusal_text number) out.old out.new result }

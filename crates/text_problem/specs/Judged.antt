@@ -1,6 +1,9 @@
 -- A text judged: the question that polishing takes, or the number by which the text is refused.
 use Rattle.std.specs.Prelude.{◌≡◌, cond, List, [], ◌∷◌, ℕ, ◌≤◌, eqb, length, take}
+use Rattle.std.specs.Prelude as Rust
 use Rattle.std.proofs.Math.Option.{Option, none, some}
+use Rattle.theory.specs.Numbers.{refusal_number}
+use Rattle.theory.specs.declared.Refusal.{Refusal}
 use Rattle.theory.specs.Tables.{Tables}
 use Rattle.theory.specs.Refusals.{either, number, refusal, stop_count}
 use Rattle.theory.specs.Question.{Question, question_rules}
@@ -9,7 +12,6 @@ use Rattle.text_question.specs.Reading.{read}
 use Rattle.text_question.specs.Told.{question_with, Places}
 use Rattle.text_question.specs.declared.Header.{Header}
 use Rattle.text_problem.specs.declared.ProblemRead.{ProblemRead}
-use Rattle.text_problem.specs.declared.ProblemRead.TheVariants as P
 
 pub data Judged : Type 0 where
   refused : ℕ → Judged
@@ -49,20 +51,20 @@ first_refusal h T count top = either (refusal (question_rules (question_with h T
 abbrev pub question_in : Header → (count : ℕ) → Tables → (stops : List ℕ) → Question
 question_in h count T stops = question_with h T (take count stops)
 
-abbrev pub judged_told : ProblemRead → Tables → (stops : List ℕ) → Judged
-judged_told (P.Refused number) T stops = refused number
-judged_told (P.Read h count) T stops = taken (question_in h count T stops)
+abbrev pub judged_told : Rust.Result ProblemRead Refusal → Tables → (stops : List ℕ) → Judged
+judged_told (Rust.Err refusal) T stops = refused (refusal_number refusal)
+judged_told (Rust.Ok p) T stops = taken (question_in p.header p.count T stops)
 
-abbrev pub stops_told : ProblemRead → ℕ
-stops_told (P.Refused number) = 0
-stops_told (P.Read h count) = count
+abbrev pub stops_told : Rust.Result ProblemRead Refusal → ℕ
+stops_told (Rust.Err refusal) = 0
+stops_told (Rust.Ok p) = p.count
 
-abbrev pub locations_told : ProblemRead → ℕ
-locations_told (P.Refused number) = 0
-locations_told (P.Read h count) = h.locations
+abbrev pub locations_told : Rust.Result ProblemRead Refusal → ℕ
+locations_told (Rust.Err refusal) = 0
+locations_told (Rust.Ok p) = p.header.locations
 
 -- The answer tells how the text is judged; a problem lies within the lent places.
-pub record Judges (text : List ℕ) (T : Tables) (stops : List ℕ) (answer : ProblemRead) : Type 0 where
+pub record Judges (text : List ℕ) (T : Tables) (stops : List ℕ) (answer : Rust.Result ProblemRead Refusal) : Type 0 where
   pub judges : judged text ≡ judged_told answer T stops
   pub few_locations : locations_told answer ≤ 96
   pub few_stops : stops_told answer ≤ length stops

@@ -12,11 +12,9 @@ fn put_further(values: &[u32], out: &mut [u8], at: usize) -> usize
     ensures { Put (further values.now) out.old at out.new result }
 {
     let mut at = at;
-    let mut i = 0;
-    while i < values.len() {
+    for &value in values {
         let number = put_text(b",", out, at);
-        at = put_number(values[i] as u64, out, number);
-        i += 1;
+        at = put_number(u64::from(value), out, number);
     }
     at
 }
@@ -26,11 +24,11 @@ fn put_list(values: &[u32], out: &mut [u8], at: usize) -> usize
     requires { Room (listed values.now) out.old at }
     ensures { Put (listed values.now) out.old at out.new result }
 {
-    if values.len() == 0 {
+    let [first, others @ ..] = values else {
         return at;
-    }
-    let rest = put_number(values[0] as u64, out, at);
-    put_further(&values[1..], out, rest)
+    };
+    let rest = put_number(u64::from(*first), out, at);
+    put_further(others, out, rest)
 }
 
 // A line of one number.

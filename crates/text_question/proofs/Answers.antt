@@ -1,10 +1,11 @@
 -- The question line by line, as far as it is read, and what the answer then tells. Assumes nothing.
-use mathlib.Core.Path.{◌≡◌, ◌∙◌}
-use mathlib.Core.List.{List, [], ◌++◌}
+use mathlib.Core.Path.{◌≡◌, refl, ◌∙◌}
+use mathlib.Core.List.{List, [], ◌∷◌, ◌++◌}
 use mathlib.Core.Option.{none, some, bind}
 use Prim.Native.Nat.{ℕ, ◌*◌, ◌≤◌, ◌<◌}
 use native.Mathlib.Nat.{mul-le-mul}
-use lib.ListN.{length, take, drop, drop_of_length-le}
+use native.Mathlib.Omega.{arith}
+use lib.ListN.{length, take, drop}
 use lib.Seq.{drop-cons, take_at, length-take-le}
 use borrow.Author.Tests.{le-leb, lt-leb}
 use Rattle.theory.specs.Tables.{Tables}
@@ -16,6 +17,10 @@ use Rattle.text_question.specs.Reading.{Heading, header, question_of, read}
 pub too_long : (t : List ℕ) → 60000 < length t → read t ≡ none
 unfolding read
 too_long t h = rw (lt-leb (length t) 60000 h)
+
+pub empty : (l : List ℕ) → length l ≡ 0 → l ≡ []
+empty [] e = refl
+empty (x ∷ l) e = absurd (omega arith)
 
 module _ (t : List ℕ) (short : length t ≤ 60000) where
   whole : read t ≡ question_of t
@@ -36,15 +41,15 @@ module _ (t : List ℕ) (short : length t ≤ 60000) where
       unfolding question_of bind
       round_missing e = whole ∙ rw (header_read, tables_read, e)
 
-      module _ {stops : List ℕ} (end : ℕ) (round_read : line_of (ascii "round=") 30000 s ≡ some (stops, drop end t)) where
-        pub more_left : end < length t → read t ≡ none
+      module _ {stops end : List ℕ} (round_read : line_of (ascii "round=") 30000 s ≡ some (stops, end)) where
+        pub more_left : 0 < length end → read t ≡ none
         unfolding question_of bind
-        more_left h = whole ∙ rw (header_read, tables_read, round_read, drop-cons t end 0 h)
+        more_left h = whole ∙ rw (header_read, tables_read, round_read, drop-cons end 0 0 h)
 
-        pub question_read : length t ≤ end →
+        pub question_read : length end ≡ 0 →
             read t ≡ some (record { k = h.k; allowance = h.allowance; trip = record { tables = T; depot = h.depot; end = h.end; pairs = [] }; route = stops })
         unfolding question_of bind
-        question_read h = whole ∙ rw (header_read, tables_read, round_read, drop_of_length-le t {i = end} h)
+        question_read e = whole ∙ rw (header_read, tables_read, round_read, empty end e)
 
 -- A part that was lent from the front is at the front.
 pub front_part : (n : ℕ) (l part : List ℕ) → n ≤ length l → length part ≡ length (take n l) → take n (part ++ drop n l) ≡ part

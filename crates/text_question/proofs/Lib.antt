@@ -3,3 +3,4 @@ pub mod Examples
 pub mod Heading
 pub mod Tables
 pub mod Texts
+pub mod Stands

@@ -47,9 +47,6 @@ rows_none n i legs h = let e : n - i ≡ 0 = omega arith in rw e
 
 -- ---- sizes
 
-pub rows_begin : (n : ℕ) (legs : List ℕ) → 0 + length (rows_from n 0 legs) ≡ length (legs_lines n n legs)
-rows_begin n legs = omega (arith, ap length (rows_all n legs))
-
 pub rows_on : (n i : ℕ) (legs : List ℕ) (size row : ℕ) → i < n → size + length (rows_from n i legs) ≡ length (legs_lines n n legs) →
     row ≡ length (line (ascii "legs=") (take (i * n + n - i * n) (drop (i * n) legs))) → size + row + length (rows_from n (i + 1) legs) ≡ length (legs_lines n n legs)
 rows_on n i legs size row h e r =

@@ -13,6 +13,7 @@ ghost use Rattle.text_sizes.specs.Parts.{header_text, tables_text, SizeOf, Short
 fn digit_count(value: u64) -> usize
     ensures { SizeOf (digits value) 20 result }
 {
+    // No list is walked: each turn takes a digit off the number.
     let mut rest = value / 10;
     let mut count = 1;
     while rest > 0 {
@@ -28,10 +29,8 @@ fn further_size(values: &[u32]) -> usize
     ensures { SizeOf (further values.now) (21 * length values.now) result }
 {
     let mut size = 0;
-    let mut i = 0;
-    while i < values.len() {
-        size = size + 1 + digit_count(values[i] as u64);
-        i += 1;
+    for &value in values {
+        size += 1 + digit_count(value as u64);
     }
     size
 }
@@ -69,12 +68,10 @@ fn rows_size(locations: usize, legs: &[u32]) -> usize
     ensures { SizeOf (legs_lines locations locations legs.now) 1033248 result }
 {
     let mut size = 0;
-    let mut row = 0;
-    while row < locations {
+    for row in 0..locations {
         let start = row * locations;
         let end = start + locations;
         size += line_size(b"legs=", &legs[start..end]);
-        row += 1;
     }
     size
 }

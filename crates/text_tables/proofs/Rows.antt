@@ -10,8 +10,9 @@ use lib.ListN.{length, take, drop, length-append, length-take, length-drop}
 use lib.Seq.{take_at, take_all}
 use Rattle.theory.specs.Tables.{tables}
 use Rattle.text_decimal.specs.Text.{ascii}
-use Rattle.text_tokens.specs.declared.Place.{Place}
-use Rattle.text_tokens.specs.declared.Place.TheVariants as P
+use Rattle.std.specs.Prelude as Rust
+use Rattle.std.specs.Prelude.{Some, None}
+use Rattle.std.specs.Borrow.{Bor}
 use Rattle.text_lines.specs.Reading.{before, row}
 use Rattle.text_lines.specs.Told.{row_told}
 use Rattle.text_lines.proofs.Places.{before_none, before_before}
@@ -63,8 +64,8 @@ module _ (n : ℕ) (t : List ℕ) {legs r : List ℕ} (legs_read : rows n n t �
   unfolding tables_of bind
   latest_missing e = rw (legs_read, e)
 
-  pub service_told : {latest u : List ℕ} → row (ascii "latest=") n r ≡ some (latest, u) → (text service : List ℕ) (answer : Place) →
-      row (ascii "service=") n u ≡ row_told text service answer → tables_of n t ≡ tables_told text (tables n legs latest service) answer
+  pub service_told : {latest u : List ℕ} → row (ascii "latest=") n r ≡ some (latest, u) → (service : List ℕ) (answer : Rust.Option (Bor (List ℕ))) →
+      row (ascii "service=") n u ≡ row_told service answer → tables_of n t ≡ tables_told (tables n legs latest service) answer
   unfolding tables_of bind
-  service_told latest_read text service P.Nowhere e = rw (legs_read, latest_read, e)
-  service_told latest_read text service (P.At next) e = rw (legs_read, latest_read, e)
+  service_told latest_read service None e = rw (legs_read, latest_read, e)
+  service_told latest_read service (Some rest) e = rw (legs_read, latest_read, e)

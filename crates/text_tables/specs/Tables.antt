@@ -1,10 +1,10 @@
 -- The running form of reading the legs, the deadlines and the service times, and what the answers of the code say of them.
-use Rattle.std.specs.Prelude.{◌≡◌, List, [], ℕ, zero, suc, ◌*◌, length, drop}
+use Rattle.std.specs.Prelude.{◌≡◌, List, [], ℕ, zero, suc, ◌*◌, length, Some, None}
+use Rattle.std.specs.Prelude as Rust
+use Rattle.std.specs.Borrow.{Bor}
 use Rattle.std.proofs.Math.Option.{Option, none, some, bind}
 use Rattle.theory.specs.Tables.{Tables, tables}
 use Rattle.text_decimal.specs.Text.{ascii}
-use Rattle.text_tokens.specs.declared.Place.{Place}
-use Rattle.text_tokens.specs.declared.Place.TheVariants as P
 use Rattle.text_lines.specs.Reading.{before, row}
 
 -- The lines of the legs.
@@ -22,9 +22,9 @@ tables_of locations t =
     bind (row (ascii "service=") locations latest.1) (λ service.
     some (tables locations legs.0 latest.0 service.0, service.1))))
 
-abbrev pub tables_told : List ℕ → Tables → Place → Option (Tables × List ℕ)
-tables_told t T P.Nowhere = none
-tables_told t T (P.At next) = some (T, drop next t)
+abbrev pub tables_told : Tables → Rust.Option (Bor (List ℕ)) → Option (Tables × List ℕ)
+tables_told T None = none
+tables_told T (Some rest) = some (T, rest.now)
 
 -- As many entries as the locations ask for: of the legs, and of all tables.
 pub record Square (locations : ℕ) (legs : List ℕ) : Type 0 where

@@ -23,7 +23,7 @@ digit_front t h = go (leb 48 (front t)) (leb (front t) 57) refl refl
     go true false p q = let e : digit t ≡ 10 = rw (p, q) in absurd (omega arith)
     go false b p q = let e : digit t ≡ 10 = rw p in absurd (omega arith)
 
-digit_of : (d : ℕ) (t : List ℕ) → d < 10 → digit ((48 + d) ∷ t) ≡ d
+pub digit_of : (d : ℕ) (t : List ℕ) → d < 10 → digit ((48 + d) ∷ t) ≡ d
 unfolding digit
 digit_of d t h = rw (le-leb 48 (48 + d) (omega arith), le-leb (48 + d) 57 (omega arith)) (omega arith)
 
@@ -76,7 +76,7 @@ number_sound t w r e = go (eqb (digit t) 0) (ltb (digit t) 10) refl refl
         (digit_cons t d ∙ ap (λ (x : List ℕ). x ++ drop 1 t) (sym (digits_one (digit t) d)) ∙ l.0, l.1)
     go false false i j = absurd (none-ne-some (w, r) (rw (i, j) at e))
 
-after_step : (v d : ℕ) (t : List ℕ) → d < 10 → v * 10 + d ≤ 4294967295 → digits_after v ((48 + d) ∷ t) ≡ digits_after (v * 10 + d) t
+pub after_step : (v d : ℕ) (t : List ℕ) → d < 10 → v * 10 + d ≤ 4294967295 → digits_after v ((48 + d) ∷ t) ≡ digits_after (v * 10 + d) t
 unfolding digits_after
 after_step v d t h k = rw (digit_of d t h, lt-leb 10 d h, le-ltb 4294967295 (v * 10 + d) k)
 

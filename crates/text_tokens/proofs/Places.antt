@@ -1,88 +1,79 @@
--- A number or a key at a place of the text, as the code's loops go on. Assumes nothing.
-use mathlib.Core.Path.{◌≡◌, refl}
+-- What the code meets in front of a text: a digit or none, a number, a key. Assumes nothing.
+use mathlib.Core.Path.{◌≡◌, refl, ◌∙◌}
 use mathlib.Core.List.{List, [], ◌∷◌}
 use mathlib.Core.Option.{none, some}
-use Prim.Native.Nat.{ℕ, zero, suc, ◌+◌, ◌-◌, ◌*◌, ◌≤◌, ◌<◌}
-use native.Mathlib.Numerals.{add-one}
+use mathlib.Core.Bool.{Bool, true, false, cond, ◌&&◌}
+use lib.Dec.{eqb}
+use lib.Pointwise.{pointwise}
+use Prim.Native.Nat.{ℕ, ◌+◌, ◌*◌, ◌≤◌, ◌<◌}
 use native.Mathlib.Omega.{arith}
-use lib.ListN.{length, get_or, drop, drop_of_length-le}
-use lib.Seq.{drop-cons, drop-drop}
-use borrow.Author.Tests.{lt-ltb, le-ltb, le-leb, lt-leb, eq-eqb, ne_eqb}
-use Rattle.text_tokens.proofs.Numbers.{digit_front}
-use Rattle.text_tokens.specs.Tokens.{front, digit, digits_after, numeral, after}
+use lib.ListN.{length, get_or, take, drop}
+use borrow.Author.Tests.{lt-ltb, le-ltb, le-leb, lt-leb, ne_eqb}
+use Rattle.std.specs.Prelude as Rust
+use Rattle.std.specs.Prelude.{Some, None}
+use Rattle.std.specs.Borrow.{Bor}
+use Rattle.std.specs.Option.{MatchOption}
+use Rattle.text_tokens.proofs.Numbers.{digit_of, after_step, after_none}
+use Rattle.text_tokens.specs.Tokens.{digit, digits_after, numeral, after}
+use Rattle.text_tokens.specs.Told.{rest_told}
 
-pub front_place : (t : List ℕ) (at : ℕ) → front (drop at t) ≡ get_or t at 0
-front_place [] zero = refl
-front_place [] (suc at) = refl
-front_place (b ∷ t) zero = refl
-front_place (b ∷ t) (suc at) = front_place t at
-
--- A byte that is not 0 stands in the text.
-pub front_within : (t : List ℕ) (at : ℕ) → 0 < front (drop at t) → at < length t
-front_within [] zero h = absurd (omega arith)
-front_within [] (suc at) h = absurd (omega arith)
-front_within (b ∷ t) zero h = omega arith
-front_within (b ∷ t) (suc at) h = let w = front_within t at h in omega arith
-
-pub drop_next : (t : List ℕ) (at : ℕ) → drop 1 (drop at t) ≡ drop (at + 1) t
-drop_next t at = drop-drop 1 at t
-
--- What `digit` gives, by the byte in front.
-pub digit_low : (t : List ℕ) → front t < 48 → digit t ≡ 10
+-- No digit stands in front: the text has ended, or the byte is another.
+pub no_text : (t : List ℕ) → length t < 1 → 10 ≤ digit t
 unfolding digit
-digit_low t h = rw (lt-leb 48 (front t) h)
+no_text [] h = omega arith
+no_text (b ∷ t) h = absurd (omega arith)
 
-pub digit_high : (t : List ℕ) → 57 < front t → digit t ≡ 10
+pub too_low : (t : List ℕ) → get_or t 0 0 < 48 → 10 ≤ digit t
 unfolding digit
-digit_high t h = rw (le-leb 48 (front t) (omega arith), lt-leb (front t) 57 h)
+too_low [] h = omega arith
+too_low (b ∷ t) h = rw (lt-leb 48 b h) (omega arith)
 
-pub digit_between : (t : List ℕ) → 48 ≤ front t → front t ≤ 57 → digit t ≡ front t - 48
+pub too_high : (t : List ℕ) → 58 ≤ get_or t 0 0 → 10 ≤ digit t
 unfolding digit
-digit_between t h k = rw (le-leb 48 (front t) h, le-leb (front t) 57 k)
+too_high [] h = omega arith
+too_high (b ∷ t) h = rw (le-leb 48 b (omega arith), lt-leb b 57 (omega arith)) (omega arith)
 
-pub digit_within : (t : List ℕ) (at : ℕ) → digit (drop at t) < 10 → at < length t
-digit_within t at h = let f = digit_front (drop at t) h in front_within t at (omega arith)
+pub ruleset no_digit = (no_text, too_low, too_high)
 
--- A number goes on by a digit, becomes too large, or ends.
-longer : (v : ℕ) (s : List ℕ) → digit s < 10 → v * 10 + digit s ≤ 4294967295 → digits_after v s ≡ digits_after (v * 10 + digit s) (drop 1 s)
+-- A number goes on by a digit, or becomes too large.
+pub longer : (v d : ℕ) (t rest : List ℕ) → d < 10 → t ≡ (48 + d) ∷ rest → v * 10 + d ≤ 4294967295 → digits_after v t ≡ digits_after (v * 10 + d) rest
+longer v d t rest h e k = rw e (after_step v d rest h k)
+
+pub too_large : (v d : ℕ) (t rest : List ℕ) → d < 10 → t ≡ (48 + d) ∷ rest → 4294967295 < v * 10 + d → digits_after v t ≡ none
 unfolding digits_after
-longer v [] h k = absurd (omega (arith, digit_low [] (omega arith)))
-longer v (b ∷ t) h k = rw (lt-leb 10 (digit (b ∷ t)) h, le-ltb 4294967295 (v * 10 + digit (b ∷ t)) k)
+too_large v d t rest h e k = rw (e, digit_of d rest h, lt-leb 10 d h, lt-ltb 4294967295 (v * 10 + d) k)
 
-pub after_longer : (v d at : ℕ) (t : List ℕ) → d ≡ digit (drop at t) → d < 10 → v * 10 + d ≤ 4294967295 → digits_after v (drop at t) ≡ digits_after (v * 10 + d) (drop (at + 1) t)
-after_longer v d at t e h k = rw (e, ← drop_next t at) (longer v (drop at t) (omega arith) (omega arith))
+pub ruleset further_digits = (longer, too_large, after_none)
 
-pub after_too_large : (v : ℕ) (t : List ℕ) → digit t < 10 → 4294967295 < v * 10 + digit t → digits_after v t ≡ none
-unfolding digits_after
-after_too_large v [] h k = absurd (omega (arith, digit_low [] (omega arith)))
-after_too_large v (b ∷ t) h k = rw (lt-leb 10 (digit (b ∷ t)) h, lt-ltb 4294967295 (v * 10 + digit (b ∷ t)) k)
-
--- A key goes on, ends the text, differs, or is whole.
-pub key_next : (key t : List ℕ) (i at : ℕ) → i < length key → at < length t → get_or t at 0 ≡ get_or key i 0 → after (drop i key) (drop at t) ≡ after (drop (i + 1) key) (drop (at + 1) t)
-unfolding after
-key_next key t i at h k e = rw (add-one i, add-one at, drop-cons key i 0 h, drop-cons t at 0 k, eq-eqb (get_or t at 0) (get_or key i 0) e)
-
-pub key_ends : (key t : List ℕ) (i at : ℕ) → i < length key → length t ≤ at → after (drop i key) (drop at t) ≡ none
-unfolding after
-key_ends key t i at h k = rw (drop-cons key i 0 h, drop_of_length-le t {i = at} k)
-
-pub key_differs : (key t : List ℕ) (i at : ℕ) → i < length key → at < length t → (get_or t at 0 ≡ get_or key i 0 → ⊥) → after (drop i key) (drop at t) ≡ none
-unfolding after
-key_differs key t i at h k n = rw (drop-cons key i 0 h, drop-cons t at 0 k, ne_eqb (get_or t at 0) (get_or key i 0) n)
-
-pub key_whole : (key s : List ℕ) (i : ℕ) → length key ≤ i → after (drop i key) s ≡ some s
-unfolding after
-key_whole key s i h = rw (drop_of_length-le key {i = i} h)
-
--- A number at a place: 0, a longer one, or none.
-pub number_zero_at : (t : List ℕ) (at : ℕ) → digit (drop at t) ≡ 0 → numeral (drop at t) ≡ some (0, drop (at + 1) t)
+-- A number: 0, a longer one, or none.
+pub zero_read : (t rest : List ℕ) (d : ℕ) → t ≡ (48 + d) ∷ rest → d ≡ 0 → numeral t ≡ some (0, rest)
 unfolding numeral
-number_zero_at t at e = rw (e, drop_next t at)
+zero_read t rest d e z = rw (e, z, digit_of 0 rest (omega arith))
 
-pub number_longer : (t : List ℕ) (at d : ℕ) → d ≡ digit (drop at t) → (d ≡ 0 → ⊥) → d < 10 → numeral (drop at t) ≡ digits_after d (drop (at + 1) t)
+pub longer_read : (t rest : List ℕ) (d : ℕ) → t ≡ (48 + d) ∷ rest → (d ≡ 0 → ⊥) → d < 10 → numeral t ≡ digits_after d rest
 unfolding numeral
-number_longer t at d e n h = rw (← e, ne_eqb d 0 n, lt-ltb d 10 h, drop_next t at)
+longer_read t rest d e n h = rw (e, digit_of d rest h, ne_eqb d 0 n, lt-ltb d 10 h)
 
-pub number_none : (t : List ℕ) → 10 ≤ digit t → numeral t ≡ none
+pub none_read : (t : List ℕ) → 10 ≤ digit t → numeral t ≡ none
 unfolding numeral
-number_none t h = rw (ne_eqb (digit t) 0 (omega arith), le-ltb (digit t) 10 h)
+none_read t h = rw (ne_eqb (digit t) 0 (omega arith), le-ltb (digit t) 10 h)
+
+pub ruleset number = (zero_read, longer_read, none_read)
+
+-- A key stands, or does not.
+key_stands : (key t : List ℕ) → after key t ≡ cond (pointwise eqb (take (length key) t) key) (some (drop (length key) t)) none
+unfolding after
+key_stands [] t = refl
+key_stands (k ∷ key) [] = refl
+key_stands (k ∷ key) (b ∷ t) = by (eqb b k) (key_stands key t)
+  where
+    by : (e : Bool) → after key t ≡ cond (pointwise eqb (take (length key) t) key) (some (drop (length key) t)) none →
+        cond e (after key t) none ≡ cond (e && pointwise eqb (take (length key) t) key) (some (drop (length key) t)) none
+    by true h = h
+    by false h = refl
+
+pub key_skipped : (key t : List ℕ) (result : Rust.Option (Bor (List ℕ))) →
+    MatchOption result (pointwise eqb (take (length key) t) key ≡ false) (λ x. (pointwise eqb (take (length key) t) key ≡ true) × (x.now ≡ drop (length key) t) × (length x.now + length key ≡ length t)) →
+    after key t ≡ rest_told result
+key_skipped key t None h = key_stands key t ∙ rw h
+key_skipped key t (Some rest) h = key_stands key t ∙ rw (h.0, h.1)

@@ -1,15 +1,19 @@
--- What the answers of the code say: the number read and the rest of the text, or none.
-use Rattle.std.specs.Prelude.{List, ℕ, drop}
+-- What the answers of the code say: what was read off the front and the rest of the text, or none.
+use Rattle.std.specs.Prelude.{◌≡◌, List, ◌∷◌, ℕ, ◌+◌, ◌<◌, ◌≤◌, Some, None}
+use Rattle.std.specs.Prelude as Rust
+use Rattle.std.specs.Borrow.{Bor}
 use Rattle.std.proofs.Math.Option.{Option, none, some}
-use Rattle.text_tokens.specs.declared.Numeral.{Numeral}
-use Rattle.text_tokens.specs.declared.Numeral.TheVariants as N
-use Rattle.text_tokens.specs.declared.Place.{Place}
-use Rattle.text_tokens.specs.declared.Place.TheVariants as P
+use Rattle.text_tokens.specs.Tokens.{digit}
 
-abbrev pub numeral_told : List ℕ → Numeral → Option (ℕ × List ℕ)
-numeral_told t N.Missing = none
-numeral_told t (N.Read v next) = some (v, drop next t)
+-- The digit in front, if one stands there.
+abbrev pub DigitTaken : List ℕ → Rust.Option (ℕ × Bor (List ℕ)) → Type 0
+DigitTaken t None = 10 ≤ digit t
+DigitTaken t (Some r) = (r.0 < 10) × (t ≡ (48 + r.0) ∷ r.1.now)
 
-abbrev pub place_told : List ℕ → Place → Option (List ℕ)
-place_told t P.Nowhere = none
-place_told t (P.At next) = some (drop next t)
+abbrev pub numeral_told : Rust.Option (ℕ × Bor (List ℕ)) → Option (ℕ × List ℕ)
+numeral_told None = none
+numeral_told (Some r) = some (r.0, r.1.now)
+
+abbrev pub rest_told : Rust.Option (Bor (List ℕ)) → Option (List ℕ)
+rest_told None = none
+rest_told (Some rest) = some rest.now

@@ -1,96 +1,53 @@
-// A number or a key at a place of a text, read from bytes. No entry: the crates above call it.
+// A number or a key in front of a text, read from bytes: each reader hands on the rest of the text. No entry: the crates above call it.
 #![tactic(auto)]
 
-ghost use Rattle.std.specs.Prelude.{◌≡◌, ◌≤◌, drop};
-ghost use Rattle.text_tokens.specs.Tokens.{front, digit, digits_after, numeral, after};
-ghost use Rattle.text_tokens.specs.Told.{numeral_told, place_told};
+ghost use Rattle.std.specs.Prelude.{◌≡◌, ◌≤◌};
+ghost use Rattle.text_tokens.specs.Tokens.{digits_after, numeral, after};
+ghost use Rattle.text_tokens.specs.Told.{DigitTaken, numeral_told, rest_told};
 
-// A number and the place after it.
-#[derive(Clone, Copy)]
-pub enum Numeral {
-    Read(u32, usize),
-    Missing,
-}
-
-// A place of the text.
-#[derive(Clone, Copy)]
-pub enum Place {
-    At(usize),
-    Nowhere,
-}
-
-// The byte at a place; 0 past the end.
-pub fn byte_at(text: &[u8], at: usize) -> u8
-    ensures { result ≡ front (drop at text.now) }
+// The digit in front, and the rest.
+#[tactic(auto, using(crate::proofs::Places::no_digit))]
+fn split_digit(text: &[u8]) -> Option<(u64, &[u8])>
+    ensures { DigitTaken text.now result }
 {
-    if at < text.len() {
-        return text[at];
+    match text {
+        [byte @ b'0'..=b'9', rest @ ..] => Some(((byte - b'0') as u64, rest)),
+        _ => None,
     }
-    0
 }
 
-// The digit at a place; 10 where none stands.
-fn digit_at(text: &[u8], at: usize) -> u64
-    ensures { result ≡ digit (drop at text.now) }
-{
-    let byte = byte_at(text, at);
-    if byte < b'0' {
-        return 10;
-    }
-    if byte > b'9' {
-        return 10;
-    }
-    (byte - b'0') as u64
-}
-
-// The number that begins with `first`, whose further digits stand at `at`.
-fn read_digits(text: &[u8], at: usize, first: u64) -> Numeral
+// The number that begins with `first`, whose further digits stand in front.
+#[tactic(auto, using(crate::proofs::Places::further_digits))]
+fn read_digits(text: &[u8], first: u64) -> Option<(u32, &[u8])>
     requires { first ≤ 9 }
-    ensures { digits_after first (drop at text.now) ≡ numeral_told text.now result }
+    ensures { digits_after first text.now ≡ numeral_told result }
 {
     let mut value = first;
-    let mut at = at;
-    let mut digit = digit_at(text, at);
-    while digit < 10 {
+    let mut rest = text;
+    while let Some((digit, tail)) = split_digit(rest) {
         value = value * 10 + digit;
         if value > 4294967295 {
-            return Numeral::Missing;
+            return None;
         }
-        at += 1;
-        digit = digit_at(text, at);
+        rest = tail;
     }
-    Numeral::Read(value as u32, at)
+    Some((value as u32, rest))
 }
 
-// The number at a place.
-pub fn read_numeral(text: &[u8], at: usize) -> Numeral
-    ensures { numeral (drop at text.now) ≡ numeral_told text.now result }
+// The number in front.
+#[tactic(auto, using(crate::proofs::Places::number))]
+pub fn read_numeral(text: &[u8]) -> Option<(u32, &[u8])>
+    ensures { numeral text.now ≡ numeral_told result }
 {
-    let first = digit_at(text, at);
-    if first == 0 {
-        return Numeral::Read(0, at + 1);
+    match split_digit(text)? {
+        (0, rest) => Some((0, rest)),
+        (first, rest) => read_digits(rest, first),
     }
-    if first < 10 {
-        return read_digits(text, at + 1, first);
-    }
-    Numeral::Missing
 }
 
-// The place after a key.
-pub fn skip_key(text: &[u8], at: usize, key: &[u8]) -> Place
-    ensures { after key.now (drop at text.now) ≡ place_told text.now result }
+// The text after a key.
+pub fn skip_key<'t>(text: &'t [u8], key: &[u8]) -> Option<&'t [u8]>
+    ensures { after key.now text.now ≡ rest_told result }
 {
-    let mut at = at;
-    let mut i = 0;
-    while i < key.len() {
-        if at >= text.len() {
-            return Place::Nowhere;
-        }
-        if text[at] != key[i] {
-            return Place::Nowhere;
-        }
-        at += 1;
-        i += 1;
-    }
-    Place::At(at)
+    text.strip_prefix(key)
 }

@@ -3,47 +3,63 @@ use mathlib.Core.Path.{◌≡◌, sym}
 use native.Mathlib.Omega.{arith}
 use lib.ListN.{length}
 use lib.Seq.{length-take-le}
+use Rattle.theory.specs.Numbers.{judged, refusal_number}
 use Rattle.pattern_list_loading.specs.Loading.{InPlaces}
 use Rattle.pattern_list_loading.proofs.Judging.{list_places}
 use Rattle.pattern_list_loading.proofs.Replies.{refused, whole, loaded_reply}
 use borrow.Author.Rules.{rules}
 use Rattle.pattern_list_loading.proofs.load_patterns.Goals as goal
-use Rattle.pattern_list_loading.proofs.load_patterns.Goals.{In-List}
+use Rattle.pattern_list_loading.proofs.load_patterns.Goals.{In_ok-k}
 
-list : (c : In-List) → InPlaces c.args.text.now c.in-List.k c.in-List.count c.load_rows-loaded.new.orders c.load_rows-loaded.new.masks
-list c = rw c.in-List.is at c.load_rows-loaded.ensures
+list : (c : In_ok-k) → InPlaces c.args.text.now c.in_ok-k.k c.in_ok-k.count c.load_rows.new.orders c.load_rows.new.masks
+list c = rw c.in_ok-k.was at c.load_rows.ensures
 
-own_orders : (c : In-List) → length c.load_rows-loaded.new.orders ≡ 2298
+own_orders : (c : In_ok-k) → length c.load_rows.new.orders ≡ 2298
 own_orders c = search rules
 
-own_masks : (c : In-List) → length c.load_rows-loaded.new.masks ≡ 383
+own_masks : (c : In_ok-k) → length c.load_rows.new.masks ≡ 383
 own_masks c = search rules
 
+pub returns-in_err-k : goal.returns-in_err-k
+returns-in_err-k c =
+    let refusal = c.in_err-k.field-0.0 in
+    let goes : judged c.from_residual.result ≡ refusal_number refusal = search rules in
+    rw goes (refused c.args.text.now c.args.orders.now c.args.masks.now c.args.res.now (refusal_number refusal) (rw c.in_err-k.was at c.load_rows.ensures))
+
 pub overflow_add-places : goal.overflow_add-places
-overflow_add-places c = omega (arith, (list (goal.at.overflow_add-places c).In-List).most)
+overflow_add-places c = omega (arith, (list (goal.at.overflow_add-places c).In_ok-k).most)
 
 pub overflow_mul-places : goal.overflow_mul-places
-overflow_mul-places c = omega (arith, list_places c.in-List.k c.in-List.count (list (goal.at.overflow_mul-places c).In-List).most (list (goal.at.overflow_mul-places c).In-List).few)
+overflow_mul-places c =
+    let p = list (goal.at.overflow_mul-places c).In_ok-k in
+    omega (arith, list_places c.in_ok-k.k c.in_ok-k.count p.most p.few)
 
 pub slice_bounds-own_orders-end : goal.slice_bounds-own_orders-end
-slice_bounds-own_orders-end c = omega (arith, list_places c.in-List.k c.in-List.count (list (goal.at.slice_bounds-own_orders-end c).In-List).most (list (goal.at.slice_bounds-own_orders-end c).In-List).few, own_orders (goal.at.slice_bounds-own_orders-end c).In-List)
+slice_bounds-own_orders-end c =
+    let at = (goal.at.slice_bounds-own_orders-end c).In_ok-k in
+    omega (arith, list_places c.in_ok-k.k c.in_ok-k.count (list at).most (list at).few, own_orders at)
 
 pub slice_bounds-hand_over-end : goal.slice_bounds-hand_over-end
-slice_bounds-hand_over-end c = sym (length-take-le _ _ (omega (arith, list_places c.in-List.k c.in-List.count (list (goal.at.slice_bounds-hand_over-end c).In-List).most (list (goal.at.slice_bounds-hand_over-end c).In-List).few, own_orders (goal.at.slice_bounds-hand_over-end c).In-List)))
+slice_bounds-hand_over-end c =
+    let at = (goal.at.slice_bounds-hand_over-end c).In_ok-k in
+    sym (length-take-le _ _ (omega (arith, list_places c.in_ok-k.k c.in_ok-k.count (list at).most (list at).few, own_orders at)))
 
 pub slice_bounds-own_masks-end : goal.slice_bounds-own_masks-end
-slice_bounds-own_masks-end c = omega (arith, (list (goal.at.slice_bounds-own_masks-end c).In-List).few, own_masks (goal.at.slice_bounds-own_masks-end c).In-List)
+slice_bounds-own_masks-end c =
+    let at = (goal.at.slice_bounds-own_masks-end c).In_ok-k in
+    omega (arith, (list at).few, own_masks at)
 
-pub slice_bounds-hand_over-end-in-List : goal.slice_bounds-hand_over-end-in-List
-slice_bounds-hand_over-end-in-List c = sym (length-take-le _ _ (omega (arith, (list (goal.at.slice_bounds-hand_over-end-in-List c).In-List).few, own_masks (goal.at.slice_bounds-hand_over-end-in-List c).In-List)))
+pub slice_bounds-hand_over-end-2 : goal.slice_bounds-hand_over-end-2
+slice_bounds-hand_over-end-2 c =
+    let at = (goal.at.slice_bounds-hand_over-end-2 c).In_ok-k in
+    sym (length-take-le _ _ (omega (arith, (list at).few, own_masks at)))
 
 pub hand_over-requires : goal.hand_over-requires
-hand_over-requires c = whole (list (goal.at.hand_over-requires c).In-List) (own_orders (goal.at.hand_over-requires c).In-List) (own_masks (goal.at.hand_over-requires c).In-List)
+hand_over-requires c =
+    let at = (goal.at.hand_over-requires c).In_ok-k in
+    whole (list at) (own_orders at) (own_masks at)
 
-pub returns-in-Refused : goal.returns-in-Refused
-returns-in-Refused c =
-    refused c.args.text.now c.args.orders.now c.args.masks.now c.args.res.now c.in-Refused.number (rw c.in-Refused.is at c.load_rows-loaded.ensures)
-
-pub returns-in-List : goal.returns-in-List
-returns-in-List c =
-    loaded_reply c.args.text.now c.args.orders.now c.args.masks.now c.args.res.now (list (goal.at.returns-in-List c).In-List) (whole (list (goal.at.returns-in-List c).In-List) (own_orders (goal.at.returns-in-List c).In-List) (own_masks (goal.at.returns-in-List c).In-List)) c.hand_over.ensures
+pub returns : goal.returns
+returns c =
+    let at = (goal.at.returns c).In_ok-k in
+    loaded_reply c.args.text.now c.args.orders.now c.args.masks.now c.args.res.now (list at) (whole (list at) (own_orders at) (own_masks at)) c.hand_over.ensures

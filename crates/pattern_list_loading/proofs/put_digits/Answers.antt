@@ -20,4 +20,4 @@ loop-i-preserved c =
 pub returns : goal.returns
 returns c =
     let l = c.loop-i in
-    all_put c.args.digits.now l.out l.i c.loop-i-test.false l.invariant.1 l.invariant.2
+    all_put c.args.digits.now l.out l.i (omega arith) l.invariant.1 l.invariant.2

@@ -7,6 +7,3 @@ use Rattle.pattern_list_loading.proofs.put_digits.Given as goal
 
 abbrev pub invariant-loop-i : goal.invariant-loop-i
 invariant-loop-i l = (l.i ≤ length l.digits) × (length l.out ≡ length l.digits) × (take l.i l.out ≡ map (λ b. b - 48) (take l.i l.digits))
-
-abbrev pub decreases-loop-i : goal.decreases-loop-i
-decreases-loop-i l = length l.digits - l.i

@@ -1,40 +1,31 @@
 -- `pattern_list_loading::take_row` meets its contract: a row that has as many digits as there are places, and a mask of a byte. Assumes nothing.
 use mathlib.Core.Path.{◌≡◌, sym}
 use mathlib.Core.Option.{some}
-use native.Mathlib.Omega.{arith}
-use lib.ListN.{length, drop}
+use Prim.Native.Nat.{ℕ, ◌≤◌, ◌<◌}
+use lib.ListN.{length, get_or}
 use Rattle.pattern_list_text.specs.Reading.{row_of}
-use Rattle.pattern_list_text.specs.Told.{Spans, digits_at}
-use Rattle.pattern_list_loading.proofs.Places.{span_digits}
+use Rattle.pattern_list_text.specs.Told.{values}
 use Rattle.pattern_list_loading.proofs.Misfits.{no_row_there, other_length, large_mask}
 use Rattle.pattern_list_loading.proofs.take_row.Goals as goal
-use Rattle.pattern_list_loading.proofs.take_row.Goals.{In-Read}
+use Rattle.pattern_list_loading.proofs.take_row.Goals.{In_ok-row}
 
-row_is : (c : In-Read) →
-    let t = c.args.text.now in
-    row_of (drop c.args.at t) ≡ some (record { order = digits_at t c.in-Read.start c.in-Read.end; mask = c.in-Read.mask }, drop c.in-Read.next t)
-row_is c = rw c.in-Read.is at c.read_row.ensures.reads
+row_is : (c : In_ok-row) → row_of c.args.text.now ≡ some (record { order = values c.in_ok-row.row.digits.now; mask = c.in_ok-row.row.mask }, c.in_ok-row.rest.now)
+row_is c = rw c.in_ok-row.was at c.read_row.ensures.reads
 
-spans : (c : In-Read) → Spans c.args.text.now c.in-Read.start c.in-Read.end
-spans c = rw c.in-Read.is at c.read_row.ensures.placed
+spelled : (c : In_ok-row) → (i : ℕ) → i < length c.in_ok-row.row.digits.now → 48 ≤ get_or c.in_ok-row.row.digits.now i 0
+spelled c = rw c.in_ok-row.was at c.read_row.ensures.spelled
 
-pub returns-in_default : goal.returns-in_default
-returns-in_default c = no_row_there (drop c.args.at c.args.text.now) (length c.args.order.now) (rw c.in_default.is at c.read_row.ensures.reads)
+pub returns-in_err-row : goal.returns-in_err-row
+returns-in_err-row c = rw c.from_residual.ensures (no_row_there c.args.text.now (length c.args.order.now) (rw c.in_err-row.was at c.read_row.ensures.reads))
 
-pub overflow_sub-end : goal.overflow_sub-end
-overflow_sub-end c = omega (arith, (spans (goal.at.overflow_sub-end c).In-Read).rise)
+pub returns-then-row-order : goal.returns-then-row-order
+returns-then-row-order c = other_length c.args.text.now (length c.args.order.now) c.in_ok-row.row.digits.now (row_is (goal.at.returns-then-row-order c).In_ok-row) c.if-row-order.true
 
-pub returns-then-end-start : goal.returns-then-end-start
-returns-then-end-start c = other_length (drop c.args.at c.args.text.now) (length c.args.order.now) (row_is (goal.at.returns-then-end-start c).In-Read) (spans (goal.at.returns-then-end-start c).In-Read) c.if-end-start.true
-
-pub returns-then-mask-gt255 : goal.returns-then-mask-gt255
-returns-then-mask-gt255 c = large_mask (drop c.args.at c.args.text.now) (length c.args.order.now) (row_is (goal.at.returns-then-mask-gt255 c).In-Read) c.if-mask-gt255.true
-
-pub slice_bounds-put_digits-end : goal.slice_bounds-put_digits-end
-slice_bounds-put_digits-end c = (spans (goal.at.slice_bounds-put_digits-end c).In-Read).within (omega (arith, c.requires))
+pub returns-then-row-gt255 : goal.returns-then-row-gt255
+returns-then-row-gt255 c = large_mask c.args.text.now (length c.args.order.now) (row_is (goal.at.returns-then-row-gt255 c).In_ok-row) c.if-row-gt255.true
 
 pub put_digits-requires : goal.put_digits-requires
-put_digits-requires c = span_digits c.args.order.now (spans (goal.at.put_digits-requires c).In-Read) (sym c.if-end-start.false)
+put_digits-requires c = record { places = sym c.if-row-order.false; each = spelled (goal.at.put_digits-requires c).In_ok-row }
 
 pub returns : goal.returns
-returns c = rw c.put_digits.ensures (row_is (goal.at.returns c).In-Read)
+returns c = rw c.put_digits.ensures (row_is (goal.at.returns c).In_ok-row)

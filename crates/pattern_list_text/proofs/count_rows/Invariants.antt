@@ -1,10 +1,10 @@
 -- `pattern_list_text::count_rows` meets its contract: the rows that were counted come before the others. Assumes nothing.
-use lib.ListN.{length, drop}
+use lib.ListN.{length}
 use Rattle.pattern_list_text.proofs.Lines.{Counting}
 use Rattle.pattern_list_text.proofs.count_rows.Given as goal
 
-abbrev pub invariant-loop-at : goal.invariant-loop-at
-invariant-loop-at l = Counting l.text l.at-2 l.at l.count
+abbrev pub invariant-loop-rest : goal.invariant-loop-rest
+invariant-loop-rest l = Counting l.text l.rest l.count
 
-abbrev pub decreases-loop-at : goal.decreases-loop-at
-decreases-loop-at l = length (drop l.at l.text)
+abbrev pub decreases-loop-rest : goal.decreases-loop-rest
+decreases-loop-rest l = length l.rest

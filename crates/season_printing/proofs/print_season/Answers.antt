@@ -1,5 +1,5 @@
 -- `season_printing::print_season` meets its contract: line by line. Assumes nothing.
-use mathlib.Core.Path.{◌≡◌, refl, sym, ◌∙◌}
+use mathlib.Core.Path.{◌≡◌, refl, sym}
 use mathlib.Core.List.{List, [], ◌∷◌, ◌++◌, append-nil}
 use Prim.Native.Nat.{ℕ}
 use native.Mathlib.Omega.{arith}
@@ -65,16 +65,6 @@ put_value_or_none-at-requires c = put_room _ refl (saved_put (goal.at.put_value_
 
 pub put_value_or_none-requires : goal.put_value_or_none-requires
 put_value_or_none-requires c = put_room [] (sym (append-nil _)) (longest_put (goal.at.put_value_or_none-requires c).After-put_value_or_none-at)
-
-pub shape_of-out : goal.shape_of-out
-shape_of-out c =
-    c.put_value_or_none.auto.out
-    ∙ c.put_value_or_none-at.auto.out
-    ∙ c.put_value-at-5.auto.out
-    ∙ c.put_value-at-4.auto.out
-    ∙ c.put_value-at-3.auto.out
-    ∙ c.put_value-at-2.auto.out
-    ∙ c.put_value-at.auto.out
 
 pub returns : goal.returns
 returns c = printed (put_rest (longest_put (goal.at.returns c).After-put_value_or_none-at) c.put_value_or_none.ensures)

@@ -11,17 +11,17 @@ print_refusal-requires c = record { room = omega (arith, refusal_length 30 (omeg
 pub returns-then-text-gt60000 : goal.returns-then-text-gt60000
 returns-then-text-gt60000 c = rw (too_long c.args.text.now c.if-text-gt60000.true) c.print_refusal.ensures
 
-pub print_refusal-requires-then-count-gt64 : goal.print_refusal-requires-then-count-gt64
-print_refusal-requires-then-count-gt64 c = record { room = omega (arith, refusal_length 30 (omega arith), c.requires.places) }
+pub print_refusal-requires-in_default : goal.print_refusal-requires-in_default
+print_refusal-requires-in_default c = record { room = omega (arith, refusal_length 30 (omega arith), c.requires.places) }
 
-pub returns-then-count-gt64 : goal.returns-then-count-gt64
-returns-then-count-gt64 c = rw (many_told c.part_blocks-count.ensures c.if-count-gt64.true) c.print_refusal-then-count-gt64.ensures
+pub returns-in_default : goal.returns-in_default
+returns-in_default c = rw (many_told c.part_blocks.ensures c.in_default.is) c.print_refusal-in_default.ensures
 
 pub slice_bounds-report_blocks-end : goal.slice_bounds-report_blocks-end
-slice_bounds-report_blocks-end c = sym (told_length c.part_blocks-count.ensures c.if-count-gt64.false)
+slice_bounds-report_blocks-end c = sym (told_length c.part_blocks.ensures c.in-Some.is)
 
 pub report_blocks-requires : goal.report_blocks-requires
-report_blocks-requires c = parts_told c.part_blocks-count.ensures c.if-count-gt64.false c.requires
+report_blocks-requires c = parts_told c.part_blocks.ensures c.in-Some.is c.requires
 
 pub returns : goal.returns
-returns c = rw (report_told c.part_blocks-count.ensures c.if-count-gt64.false c.if-text-gt60000.false) c.report_blocks.ensures
+returns c = rw (report_told c.part_blocks.ensures c.in-Some.is c.if-text-gt60000.false) c.report_blocks.ensures

@@ -1,18 +1,20 @@
 -- `text_lines::read_list` meets its contract. Assumes nothing.
-use mathlib.Core.Path.{sym, ◌∙◌}
-use lib.ListN.{length, drop}
-use Rattle.text_tokens.proofs.Places.{front_within}
-use Rattle.text_lines.proofs.Places.{list_empty, list_entries}
+use mathlib.Core.Path.{◌≡◌}
+use lib.ListN.{length}
+use Rattle.text_tokens.specs.Tokens.{front}
+use Rattle.text_lines.proofs.Places.{begins, front_none, front_other, list_empty, list_entries}
 use native.Mathlib.Omega.{arith}
+use borrow.Author.Rules.{rules}
 use Rattle.text_lines.proofs.read_list.Goals as goal
+use Rattle.text_lines.proofs.read_list.Goals.{then-text-lt1, else-text-lt1+in_default-1}
 
-pub overflow_add-result : goal.overflow_add-result
-overflow_add-result c = omega (arith, front_within c.args.text.now c.args.at (omega (arith, c.byte_at.ensures)))
-
-pub returns-then-byte_at-eq10 : goal.returns-then-byte_at-eq10
-returns-then-byte_at-eq10 c =
-    record { reads = list_empty (length c.args.out.now) c.args.at c.args.text.now (sym c.byte_at.ensures ∙ c.if-byte_at-eq10.true); within = omega arith }
+pub returns-in-10 : goal.returns-in-10
+returns-in-10 c =
+    record { reads = list_empty (length c.args.out.now) c.args.text.now _ (begins c.args.text.now 10 c.in-10.len_at_least (omega arith)); within = omega arith }
 
 pub returns : goal.returns
 returns c =
-    rw (list_entries (length c.args.out.now) (drop c.args.at c.args.text.now) (λ e. c.if-byte_at-eq10.false (c.byte_at.ensures ∙ e))) c.read_entries.ensures
+    let text = c.args.text.now in
+    let no_line_end : (front text ≡ 10 → ⊥) =
+    elim c.if-text-lt1.branch [ then-text-lt1 w ↦ front_none text 10 (omega arith) (grind arith) | else-text-lt1+in_default-1 w ↦ front_other text 10 (search rules) ] in
+    rw (list_entries (length c.args.out.now) text no_line_end) c.read_entries.ensures

@@ -10,8 +10,8 @@ use Rattle.text_polishing.proofs.polish_problem.Goals as goal
 use Rattle.text_polishing.proofs.polish_problem.Goals.{Start}
 
 -- The problem lies within the lent places.
-fits_at : (s : Start) → Fits s.args.header s.args.count (tables 96 s.args.legs.now s.args.latest.now s.args.service.now) s.args.stops.now
-fits_at s = fitting s.args.header s.args.count (lent_tables s.requires.places) s.requires.few_locations s.requires.few_stops
+fits_at : (s : Start) → Fits s.args.problem.header s.args.problem.count (tables 96 s.args.legs.now s.args.latest.now s.args.service.now) s.args.stops.now
+fits_at s = fitting s.args.problem.header s.args.problem.count (lent_tables s.requires.places) s.requires.few_locations s.requires.few_stops
 
 pub overflow_mul-cells : goal.overflow_mul-cells
 overflow_mul-cells c = omega (arith, (fits_at (goal.at.overflow_mul-cells c).Start).cells)
@@ -30,7 +30,7 @@ slice_bounds-polish_route-end-7 c = sym (length-take-le _ _ (fits_at (goal.at.sl
 
 pub polish_route-requires : goal.polish_route-requires
 polish_route-requires c =
-    fine (question_in c.args.header c.args.count (tables 96 c.args.legs.now c.args.latest.now c.args.service.now) c.args.stops.now) c.requires.taken refl
+    fine (question_in c.args.problem.header c.args.problem.count (tables 96 c.args.legs.now c.args.latest.now c.args.service.now) c.args.stops.now) c.requires.taken refl
 
 pub returns : goal.returns
 returns c =

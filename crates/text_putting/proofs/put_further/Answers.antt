@@ -10,35 +10,32 @@ use Rattle.text_putting.proofs.Lists.{further_next, further_none}
 use native.Mathlib.Omega.{arith}
 use borrow.Author.Rules.{rules}
 use Rattle.text_putting.proofs.put_further.Goals as goal
-use Rattle.text_putting.proofs.put_further.Goals.{After-put_text-number, In-loop-i}
+use Rattle.text_putting.proofs.put_further.Goals.{After-put_text-number, In-loop-value}
 
-next_number : (c : In-loop-i) →
-    further (drop c.loop-i.i c.args.values.now)
-    ≡ (44 ∷ []) ++ (digits (get_or c.args.values.now c.loop-i.i 0)
-    ++ further (drop (c.loop-i.i + 1) c.args.values.now))
-next_number c = further_next c.args.values.now c.loop-i.i c.loop-i-test.true
+next_number : (c : In-loop-value) →
+    further (drop c.loop-value.value-index c.args.values.now)
+    ≡ (44 ∷ []) ++ (digits (get_or c.args.values.now c.loop-value.value-index 0)
+    ++ further (drop (c.loop-value.value-index + 1) c.args.values.now))
+next_number c = further_next c.args.values.now c.loop-value.value-index c.loop-value-test.true
 
 after_comma : (c : After-put_text-number) →
-    let i = c.loop-i.i in
+    let i = c.loop-value.value-index in
     Partway (further c.args.values.now) c.args.out.now c.args.at
     (digits (get_or c.args.values.now i 0) ++ further (drop (i + 1) c.args.values.now)) c.put_text-number.new.out c.put_text-number.result
-after_comma c = put_more (next_number (goal.at.After-put_text-number c).In-loop-i) c.loop-i.invariant.2 c.put_text-number.ensures
+after_comma c = put_more (next_number (goal.at.After-put_text-number c).In-loop-value) c.loop-value.invariant.1 c.put_text-number.ensures
 
 pub put_text-number-requires : goal.put_text-number-requires
-put_text-number-requires c = put_room _ (next_number (goal.at.put_text-number-requires c).In-loop-i) c.loop-i.invariant.2
-
-pub overflow_cast-values : goal.overflow_cast-values
-overflow_cast-values c = omega (arith, c.shared_slice_known-in-loop-i-1.given c.loop-i.i)
+put_text-number-requires c = put_room _ (next_number (goal.at.put_text-number-requires c).In-loop-value) c.loop-value.invariant.1
 
 pub put_number-at-requires : goal.put_number-at-requires
-put_number-at-requires c = put_room _ refl (after_comma (goal.at.put_number-at-requires c).After-put_text-number)
+put_number-at-requires c = rw c.from.ensures (put_room _ refl (after_comma (goal.at.put_number-at-requires c).After-put_text-number))
 
-pub loop-i-preserved : goal.loop-i-preserved
-loop-i-preserved c =
-    let n = put_more refl (after_comma (goal.at.loop-i-preserved c).After-put_text-number) c.put_number-at.ensures in
-    (omega arith, search rules, n)
+pub loop-value-preserved : goal.loop-value-preserved
+loop-value-preserved c =
+    let n = put_more refl (after_comma (goal.at.loop-value-preserved c).After-put_text-number) (rw c.from.ensures at c.put_number-at.ensures) in
+    (search rules, n)
 
 pub returns : goal.returns
 returns c =
-    let l = c.loop-i in
-    put_all (rw (further_none c.args.values.now l.i (omega arith)) at l.invariant.2)
+    let l = c.loop-value in
+    put_all (rw (further_none c.args.values.now l.value-index (omega arith)) at l.invariant.1)

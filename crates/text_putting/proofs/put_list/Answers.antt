@@ -9,9 +9,9 @@ use Rattle.text_decimal.proofs.Putting.{Partway, put_none, put_room, put_more, p
 use Rattle.text_putting.proofs.Lists.{listed_none, listed_first}
 use native.Mathlib.Omega.{arith}
 use Rattle.text_putting.proofs.put_list.Goals as goal
-use Rattle.text_putting.proofs.put_list.Goals.{After-put_number-rest, Else-values-eq0}
+use Rattle.text_putting.proofs.put_list.Goals.{After-put_number-rest, In-len1-up}
 
-first_number : (c : Else-values-eq0) →
+first_number : (c : In-len1-up) →
     let values = c.args.values.now in
     listed values ≡ digits (get_or values 0 0) ++ further (take (length values - 1) (drop 1 values))
 first_number c = listed_first c.args.values.now (omega arith)
@@ -19,16 +19,13 @@ first_number c = listed_first c.args.values.now (omega arith)
 after_first : (c : After-put_number-rest) →
     let values = c.args.values.now in
     Partway (listed values) c.args.out.now c.args.at (further (take (length values - 1) (drop 1 values))) c.put_number-rest.new.out c.put_number-rest.result
-after_first c = put_more (first_number (goal.at.After-put_number-rest c).Else-values-eq0) (put_none c.requires) c.put_number-rest.ensures
+after_first c = put_more (first_number (goal.at.After-put_number-rest c).In-len1-up) (put_none c.requires) (rw c.from.ensures at c.put_number-rest.ensures)
 
-pub returns-then-values-eq0 : goal.returns-then-values-eq0
-returns-then-values-eq0 c = put_empty (listed_none c.args.values.now c.if-values-eq0.true) c.requires
-
-pub overflow_cast-values : goal.overflow_cast-values
-overflow_cast-values c = omega (arith, c.shared_slice_known-2-1.given 0)
+pub returns-in_default : goal.returns-in_default
+returns-in_default c = put_empty (listed_none c.args.values.now (grind arith)) c.requires
 
 pub put_number-rest-requires : goal.put_number-rest-requires
-put_number-rest-requires c = put_room _ (first_number (goal.at.put_number-rest-requires c).Else-values-eq0) (put_none c.requires)
+put_number-rest-requires c = rw c.from.ensures (put_room _ (first_number (goal.at.put_number-rest-requires c).In-len1-up) (put_none c.requires))
 
 pub put_further-requires : goal.put_further-requires
 put_further-requires c = put_room [] (sym (append-nil _)) (after_first (goal.at.put_further-requires c).After-put_number-rest)

@@ -1,53 +1,51 @@
 -- `text_round::scan_entries` meets its contract: the stops that are counted come before those still to be read. Assumes nothing.
-use mathlib.Core.Path.{◌≡◌, refl, sym, ◌∙◌}
+use mathlib.Core.Path.{◌≡◌, refl, ◌∙◌}
 use mathlib.Core.Option.{some}
-use lib.ListN.{drop}
-use Rattle.text_tokens.specs.Tokens.{numeral}
-use Rattle.text_tokens.proofs.Places.{front_within}
+use Rattle.text_tokens.specs.Tokens.{front, numeral}
+use Rattle.text_lines.proofs.Places.{begins, front_none, front_other}
 use Rattle.text_round.proofs.Counting.{count_break, count_full, count_last, count_more, count_breaks}
 use native.Mathlib.Omega.{arith}
+use borrow.Author.Rules.{rules}
 use Rattle.text_round.proofs.scan_entries.Goals as goal
-use Rattle.text_round.proofs.scan_entries.Goals.{In-Read}
+use Rattle.text_round.proofs.scan_entries.Goals.{In_ok-stop, in_default-via-then-end-lt1, in_default-via-else-end-lt1+in_default-1}
 
--- The number that was taken apart.
-number_read : (c : In-Read) →
-    let t = c.args.text.now in
-    numeral (drop c.loop-count.at t) ≡ some (c.in-Read.stop, drop c.in-Read.next t)
-number_read c = rw c.in-Read.is at c.read_numeral.ensures
+number_read : (c : In_ok-stop) → numeral c.loop-count.rest.now ≡ some (c.in_ok-stop.stop, c.in_ok-stop.end.now)
+number_read c = rw c.in_ok-stop.was at c.read_numeral.ensures
 
 pub loop-count-init : goal.loop-count-init
 loop-count-init c = (omega arith, refl)
 
+pub returns-in_err-stop : goal.returns-in_err-stop
+returns-in_err-stop c =
+    let l = c.loop-count in
+    rw c.from_residual.ensures (l.invariant.1 ∙ count_break l.count l.highest l.rest.now (rw c.in_err-stop.was at c.read_numeral.ensures))
+
+pub returns-in-10 : goal.returns-in-10
+returns-in-10 c =
+    let l = c.loop-count in
+    let n = number_read (goal.at.returns-in-10 c).In_ok-stop in
+    let e = begins c.in_ok-stop.end.now 10 c.in-10.len_at_least (omega arith) in
+    l.invariant.1 ∙ rw c.max-highest.ensures (count_last l.rest.now c.in_ok-stop.end.now l.count l.highest c.in_ok-stop.stop (omega arith) n _ e)
+
 pub returns-in_default : goal.returns-in_default
 returns-in_default c =
     let l = c.loop-count in
-    l.invariant.1 ∙ count_break l.count l.top (drop l.at c.args.text.now) (rw c.in_default.is at c.read_numeral.ensures)
-
-pub overflow_add-result : goal.overflow_add-result
-overflow_add-result c = omega (arith, front_within c.args.text.now c.in-Read.next (omega (arith, c.byte_at-end.ensures)))
-
-pub returns-then-end-eq10 : goal.returns-then-end-eq10
-returns-then-end-eq10 c =
-    let l = c.loop-count in
-    let t = c.args.text.now in
-    rw c.higher-top.ensures (l.invariant.1 ∙ count_last t l.at l.count l.top c.in-Read.stop c.in-Read.next c.loop-count-test.true (number_read (goal.at.returns-then-end-eq10 c).In-Read) (sym c.byte_at-end.ensures ∙ c.if-end-eq10.true))
-
-pub returns-then-end-ne44 : goal.returns-then-end-ne44
-returns-then-end-ne44 c =
-    let l = c.loop-count in
-    let t = c.args.text.now in
-    l.invariant.1 ∙ count_breaks t l.at l.count l.top c.in-Read.stop c.in-Read.next c.loop-count-test.true (number_read (goal.at.returns-then-end-ne44 c).In-Read) (λ e. c.if-end-eq10.false (c.byte_at-end.ensures ∙ e)) (λ e. c.if-end-ne44.true (c.byte_at-end.ensures ∙ e))
-
-pub overflow_add-at : goal.overflow_add-at
-overflow_add-at c = omega (arith, front_within c.args.text.now c.in-Read.next (omega (arith, c.byte_at-end.ensures)))
+    let end = c.in_ok-stop.end.now in
+    let n = number_read (goal.at.returns-in_default c).In_ok-stop in
+    let no_line_end : (front end ≡ 10 → ⊥) =
+    elim c.in_default.branch [ in_default-via-then-end-lt1 w ↦ front_none end 10 (omega arith) (grind arith) | in_default-via-else-end-lt1+in_default-1 w ↦ front_other end 10 (search rules) ] in
+    let no_comma : (front end ≡ 44 → ⊥) =
+    elim c.in_default.branch [ in_default-via-then-end-lt1 w ↦ front_none end 44 (omega arith) (grind arith) | in_default-via-else-end-lt1+in_default-1 w ↦ front_other end 44 (search rules) ] in
+    l.invariant.1 ∙ count_breaks l.rest.now end l.count l.highest c.in_ok-stop.stop (omega arith) n no_line_end no_comma
 
 pub loop-count-preserved : goal.loop-count-preserved
 loop-count-preserved c =
     let l = c.loop-count in
-    let t = c.args.text.now in
-    (omega arith, rw c.higher-top.ensures (l.invariant.1 ∙ count_more t l.at l.count l.top c.in-Read.stop c.in-Read.next c.loop-count-test.true (number_read (goal.at.loop-count-preserved c).In-Read) (sym c.byte_at-end.ensures ∙ c.if-end-ne44.false)))
+    let n = number_read (goal.at.loop-count-preserved c).In_ok-stop in
+    let e = begins c.in_ok-stop.end.now 44 c.in-44.len_at_least (omega arith) in
+    (omega arith, l.invariant.1 ∙ rw c.max-highest.ensures (count_more l.rest.now c.in_ok-stop.end.now l.count l.highest c.in_ok-stop.stop (omega arith) n _ e))
 
 pub returns : goal.returns
 returns c =
     let l = c.loop-count in
-    l.invariant.1 ∙ count_full l.count l.top (drop l.at c.args.text.now) (omega arith)
+    l.invariant.1 ∙ count_full l.count l.highest l.rest.now (omega arith)

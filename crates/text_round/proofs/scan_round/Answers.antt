@@ -1,29 +1,28 @@
 -- `text_round::scan_round` meets its contract. Assumes nothing.
-use mathlib.Core.Path.{◌≡◌, sym, ◌∙◌}
+use mathlib.Core.Path.{◌≡◌, ◌∙◌}
 use mathlib.Core.Option.{some}
-use lib.ListN.{drop}
 use Rattle.text_decimal.specs.Text.{ascii}
-use Rattle.text_tokens.specs.Tokens.{after}
-use Rattle.text_tokens.proofs.Places.{front_within}
+use Rattle.text_tokens.specs.Tokens.{front, after}
+use Rattle.text_lines.proofs.Places.{begins, front_none, front_other}
 use Rattle.text_round.proofs.Counting.{no_key, no_stops, some_stops}
 use native.Mathlib.Omega.{arith}
+use borrow.Author.Rules.{rules}
 use Rattle.text_round.proofs.scan_round.Goals as goal
-use Rattle.text_round.proofs.scan_round.Goals.{In-At}
+use Rattle.text_round.proofs.scan_round.Goals.{In_ok-list, then-list-lt1, else-list-lt1+in_default-1}
 
-key_skipped : (c : In-At) →
-    after (ascii "round=") (drop c.args.at c.args.text.now) ≡ some (drop c.in-At.list c.args.text.now)
-key_skipped c = rw c.in-At.is at c.skip_key.ensures
+key_skipped : (c : In_ok-list) → after (ascii "round=") c.args.text.now ≡ some c.in_ok-list.list.now
+key_skipped c = rw c.in_ok-list.was at c.skip_key.ensures
 
-pub returns-in_default : goal.returns-in_default
-returns-in_default c = no_key (drop c.args.at c.args.text.now) (rw c.in_default.is at c.skip_key.ensures)
+pub returns-in_err-list : goal.returns-in_err-list
+returns-in_err-list c = rw c.from_residual.ensures (no_key c.args.text.now (rw c.in_err-list.was at c.skip_key.ensures))
 
-pub overflow_add-result : goal.overflow_add-result
-overflow_add-result c = omega (arith, front_within c.args.text.now c.in-At.list (omega (arith, c.byte_at.ensures)))
-
-pub returns-then-byte_at-eq10 : goal.returns-then-byte_at-eq10
-returns-then-byte_at-eq10 c =
-    no_stops c.args.text.now c.args.at c.in-At.list (key_skipped (goal.at.returns-then-byte_at-eq10 c).In-At) (sym c.byte_at.ensures ∙ c.if-byte_at-eq10.true)
+pub returns-in-10 : goal.returns-in-10
+returns-in-10 c =
+    no_stops c.args.text.now c.in_ok-list.list.now (key_skipped (goal.at.returns-in-10 c).In_ok-list) _ (begins c.in_ok-list.list.now 10 c.in-10.len_at_least (omega arith))
 
 pub returns : goal.returns
 returns c =
-    some_stops c.args.text.now c.args.at c.in-At.list (key_skipped (goal.at.returns c).In-At) (λ e. c.if-byte_at-eq10.false (c.byte_at.ensures ∙ e)) ∙ c.scan_entries.ensures
+    let list = c.in_ok-list.list.now in
+    let no_line_end : (front list ≡ 10 → ⊥) =
+    elim c.if-list-lt1.branch [ then-list-lt1 w ↦ front_none list 10 (omega arith) (grind arith) | else-list-lt1+in_default-1 w ↦ front_other list 10 (search rules) ] in
+    some_stops c.args.text.now list (key_skipped (goal.at.returns c).In_ok-list) no_line_end ∙ c.scan_entries.ensures
