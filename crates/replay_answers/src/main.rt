@@ -3,24 +3,16 @@
 // Of polishing's late position the Rust knows only yes or no: it is stored by the definition.
 #![tactic(auto)]
 
+use replay_drawing::{allowance_of, cuts_of, fill};
+use replay_lines::Spaced;
 use std::io;
 
-// A line of a call: its refusal number and result, and the stops that it left.
-fn show_line(
-    rt: &impl Print,
-    call: &[u8],
-    refused: u32,
-    res: &[u64],
-    name: &[u8],
-    stops: &[u32],
-) -> io::Result<()> {
-    let mut line = [0u8; 1024];
-    let number = replay_lines::put_number(call, refused as u64, &mut line, 0);
-    let told = replay_lines::put_numbers(res, &mut line, number);
-    let word = replay_lines::put(name, &mut line, told);
-    let left = replay_lines::put_stops(stops, &mut line, word);
-    let end = replay_lines::put(b"\n", &mut line, left);
-    rt.write_all(&line[..end])
+// The tables of a question: ten locations; legs to 99 seconds, deadlines to 799, service times.
+#[derive(Drop)]
+struct Tables {
+    legs: [u32; 100],
+    latest: [u32; 10],
+    service: [u32; 10],
 }
 
 // The most seconds at a stop: none for every other four seeds.
@@ -28,137 +20,145 @@ fn service_of(seed: u16) -> u16 {
     seed / 4 % 2 * 40
 }
 
-// Ten locations; legs to 99 seconds but for the first, deadlines to 799, service times but for the first. For the questions that are refused: another
-// number of locations, a longer leg, a longer service time, another depot.
-fn show_polish(
-    rt: &impl Print,
-    seed: u16,
+fn tables_of(seed: u16) -> Tables {
+    let mut tables = Tables {
+        legs: [0; 100],
+        latest: [0; 10],
+        service: [0; 10],
+    };
+    fill(seed, 99, &mut tables.legs);
+    fill(seed, 799, &mut tables.latest);
+    fill(seed, service_of(seed), &mut tables.service);
+    tables
+}
+
+fn stops_of<const N: usize>(seed: u16) -> [u32; N] {
+    let mut stops = [0; N];
+    fill(seed, 9, &mut stops);
+    stops
+}
+
+// What polishing is asked beside what is drawn: the cuts, the number of locations, the first leg, the first service time and the depot.
+#[derive(Clone, Copy)]
+struct Asked {
     k: usize,
     locations: usize,
     leg: u32,
     stay: u32,
     depot: u32,
+}
+
+// What is asked where nothing is to be refused.
+fn usual(seed: u16) -> Asked {
+    Asked {
+        k: cuts_of(seed),
+        locations: 10,
+        leg: 0,
+        stay: u32::from(service_of(seed)),
+        depot: 0,
+    }
+}
+
+fn show_polish(
+    rt: &impl Print,
+    seed: u16,
+    asked: Asked,
     route: &mut [u32],
     res: &mut [u64],
 ) -> io::Result<()> {
-    let mut legs = [0u32; 100];
-    let mut latest = [0u32; 10];
-    let mut service = [0u32; 10];
-    replay_drawing::fill(seed, 99, &mut legs);
-    replay_drawing::fill(seed, 799, &mut latest);
-    replay_drawing::fill(seed, service_of(seed), &mut service);
-    replay_drawing::fill(seed, 9, route);
-    legs[0] = leg;
-    service[0] = stay;
+    let mut tables = tables_of(seed);
+    tables.legs[0] = asked.leg;
+    tables.service[0] = asked.stay;
+    fill(seed, 9, route);
     let refused = mittenschist::mittenschist_polish_route(
-        k,
-        replay_drawing::allowance_of(seed),
-        locations,
-        &legs,
-        &latest,
-        &service,
-        depot,
+        asked.k,
+        allowance_of(seed),
+        asked.locations,
+        &tables.legs,
+        &tables.latest,
+        &tables.service,
+        asked.depot,
         route,
         res,
     );
-    show_line(rt, b"polish ", refused, &res[..], b" route", &route[..])
+    println!(rt; "polish {refused}{} route{}", Spaced(res), Spaced(route))
 }
 
 // Seven stops from location 0 to an end harbour.
 fn show_ended(rt: &impl Print, seed: u16, end: u32) -> io::Result<()> {
-    let mut legs = [0u32; 100];
-    let mut latest = [0u32; 10];
-    let mut service = [0u32; 10];
-    let mut route = [0u32; 7];
-    let mut result = [9u64; 7];
-    replay_drawing::fill(seed, 99, &mut legs);
-    replay_drawing::fill(seed, 799, &mut latest);
-    replay_drawing::fill(seed, service_of(seed), &mut service);
-    replay_drawing::fill(seed, 9, &mut route);
+    let tables = tables_of(seed);
+    let mut route = stops_of::<7>(seed);
+    let mut result = [9; 7];
     let refused = mittenschist::mittenschist_polish_route_to_end(
-        replay_drawing::cuts_of(seed),
-        replay_drawing::allowance_of(seed),
+        cuts_of(seed),
+        allowance_of(seed),
         10,
-        &legs,
-        &latest,
-        &service,
+        &tables.legs,
+        &tables.latest,
+        &tables.service,
         0,
         end,
         &mut route,
         &mut result,
     );
-    show_line(rt, b"ended ", refused, &result, b" route", &route)
+    println!(rt;
+        "ended {refused}{} route{}",
+        Spaced(&result),
+        Spaced(&route)
+    )
 }
 
 // One round of eight stops.
 fn show_pairs(rt: &impl Print, seed: u16, res: &mut [u64]) -> io::Result<()> {
-    let mut legs = [0u32; 100];
-    let mut latest = [0u32; 10];
-    let mut service = [0u32; 10];
-    let mut route = [0u32; 8];
-    replay_drawing::fill(seed, 99, &mut legs);
-    replay_drawing::fill(seed, 799, &mut latest);
-    replay_drawing::fill(seed, service_of(seed), &mut service);
-    replay_drawing::fill(seed, 9, &mut route);
+    let tables = tables_of(seed);
+    let mut route = stops_of::<8>(seed);
     let refused = mittenschist::mittenschist_pair_loop(
-        replay_drawing::allowance_of(seed),
+        allowance_of(seed),
         10,
-        &legs,
-        &latest,
-        &service,
+        &tables.legs,
+        &tables.latest,
+        &tables.service,
         0,
         &mut route,
         res,
     );
-    show_line(rt, b"pairs ", refused, &res[..], b" route", &route)
+    println!(rt; "pairs {refused}{} route{}", Spaced(res), Spaced(&route))
 }
 
 // Three rounds; the middle one is short, and pinned for every other four seeds. The last one is longer than its stops where the run is refused.
 fn show_run(rt: &impl Print, seed: u16, last: usize) -> io::Result<()> {
-    let mut legs = [0u32; 100];
-    let mut latest = [0u32; 10];
-    let mut service = [0u32; 10];
-    let mut stops = [0u32; 16];
-    let mut result = [9u64; 13];
-    replay_drawing::fill(seed, 99, &mut legs);
-    replay_drawing::fill(seed, 799, &mut latest);
-    replay_drawing::fill(seed, service_of(seed), &mut service);
-    replay_drawing::fill(seed, 9, &mut stops);
+    let tables = tables_of(seed);
+    let mut stops = stops_of::<16>(seed);
+    let mut result = [9; 13];
     let pin = (seed / 4 % 2) as u8;
     let refused = mittenschist::mittenschist_run_list_k_opt(
-        replay_drawing::cuts_of(seed),
-        replay_drawing::allowance_of(seed),
+        cuts_of(seed),
+        allowance_of(seed),
         10,
-        &legs,
-        &latest,
-        &service,
+        &tables.legs,
+        &tables.latest,
+        &tables.service,
         &mut stops,
         &[6, 3, last],
         &[0, 1, 2],
         &[0, pin, 0],
         &mut result,
     );
-    show_line(rt, b"run ", refused, &result, b" stops", &stops)
+    println!(rt; "run {refused}{} stops{}", Spaced(&result), Spaced(&stops))
 }
 
 // Two rounds, each to its own end; one end too few where the run is refused.
 fn show_run_to_ends(rt: &impl Print, seed: u16, ends: &[u32]) -> io::Result<()> {
-    let mut legs = [0u32; 100];
-    let mut latest = [0u32; 10];
-    let mut service = [0u32; 10];
-    let mut stops = [0u32; 11];
-    let mut result = [9u64; 9];
-    replay_drawing::fill(seed, 99, &mut legs);
-    replay_drawing::fill(seed, 799, &mut latest);
-    replay_drawing::fill(seed, service_of(seed), &mut service);
-    replay_drawing::fill(seed, 9, &mut stops);
+    let tables = tables_of(seed);
+    let mut stops = stops_of::<11>(seed);
+    let mut result = [9; 9];
     let refused = mittenschist::mittenschist_run_list_k_opt_to_ends(
-        replay_drawing::cuts_of(seed),
-        replay_drawing::allowance_of(seed),
+        cuts_of(seed),
+        allowance_of(seed),
         10,
-        &legs,
-        &latest,
-        &service,
+        &tables.legs,
+        &tables.latest,
+        &tables.service,
         &mut stops,
         &[6, 5],
         &[0, 1],
@@ -166,54 +166,42 @@ fn show_run_to_ends(rt: &impl Print, seed: u16, ends: &[u32]) -> io::Result<()> 
         &[0, 0],
         &mut result,
     );
-    show_line(rt, b"ran ", refused, &result, b" stops", &stops)
+    println!(rt; "ran {refused}{} stops{}", Spaced(&result), Spaced(&stops))
 }
 
 // Seven stops to an end harbour, with pairs.
 fn show_kept(rt: &impl Print, seed: u16, end: u32, pairs: &[u32]) -> io::Result<()> {
-    let mut legs = [0u32; 100];
-    let mut latest = [0u32; 10];
-    let mut service = [0u32; 10];
-    let mut route = [0u32; 7];
-    let mut result = [9u64; 7];
-    replay_drawing::fill(seed, 99, &mut legs);
-    replay_drawing::fill(seed, 799, &mut latest);
-    replay_drawing::fill(seed, service_of(seed), &mut service);
-    replay_drawing::fill(seed, 9, &mut route);
+    let tables = tables_of(seed);
+    let mut route = stops_of::<7>(seed);
+    let mut result = [9; 7];
     let refused = mittenschist::mittenschist_polish_route_with_pairs(
-        replay_drawing::cuts_of(seed),
-        replay_drawing::allowance_of(seed),
+        cuts_of(seed),
+        allowance_of(seed),
         10,
-        &legs,
-        &latest,
-        &service,
+        &tables.legs,
+        &tables.latest,
+        &tables.service,
         0,
         end,
         pairs,
         &mut route,
         &mut result,
     );
-    show_line(rt, b"kept ", refused, &result, b" route", &route)
+    println!(rt; "kept {refused}{} route{}", Spaced(&result), Spaced(&route))
 }
 
 // Two rounds to their ends, with pairs for both.
 fn show_run_kept(rt: &impl Print, seed: u16, ends: &[u32], pairs: &[u32]) -> io::Result<()> {
-    let mut legs = [0u32; 100];
-    let mut latest = [0u32; 10];
-    let mut service = [0u32; 10];
-    let mut stops = [0u32; 11];
-    let mut result = [9u64; 9];
-    replay_drawing::fill(seed, 99, &mut legs);
-    replay_drawing::fill(seed, 799, &mut latest);
-    replay_drawing::fill(seed, service_of(seed), &mut service);
-    replay_drawing::fill(seed, 9, &mut stops);
+    let tables = tables_of(seed);
+    let mut stops = stops_of::<11>(seed);
+    let mut result = [9; 9];
     let refused = mittenschist::mittenschist_run_list_k_opt_with_pairs(
-        replay_drawing::cuts_of(seed),
-        replay_drawing::allowance_of(seed),
+        cuts_of(seed),
+        allowance_of(seed),
         10,
-        &legs,
-        &latest,
-        &service,
+        &tables.legs,
+        &tables.latest,
+        &tables.service,
         &mut stops,
         &[6, 5],
         &[0, 1],
@@ -222,101 +210,97 @@ fn show_run_kept(rt: &impl Print, seed: u16, ends: &[u32], pairs: &[u32]) -> io:
         pairs,
         &mut result,
     );
-    show_line(rt, b"run kept ", refused, &result, b" stops", &stops)
+    println!(rt;
+        "run kept {refused}{} stops{}",
+        Spaced(&result),
+        Spaced(&stops)
+    )
 }
 
 // Two pairs, drawn from elsewhere than the stops.
 fn show_keeping(rt: &impl Print, seed: u16) -> io::Result<()> {
-    let mut pairs = [0u32; 4];
-    replay_drawing::fill(65535 - seed, 9, &mut pairs);
-    let end = (seed % 10) as u32;
+    let pairs = stops_of::<4>(65535 - seed);
+    let end = u32::from(seed % 10);
     show_kept(rt, seed, end, &pairs)?;
     show_run_kept(rt, seed, &[end, 9 - end], &pairs)
 }
 
 fn show_to_ends(rt: &impl Print, seed: u16) -> io::Result<()> {
-    let end = (seed % 10) as u32;
+    let end = u32::from(seed % 10);
     show_ended(rt, seed, end)?;
     show_run_to_ends(rt, seed, &[end, 9 - end])
 }
 
 // Twelve positions; distances to 7, so that many are equal. From seed 29 on there are too many neighbours.
 fn show_nearby(rt: &impl Print, seed: u16) -> io::Result<()> {
-    let mut distances = [0.0f64; 144];
-    let mut sets = [99usize; 40];
-    let mut result = [9u64; 3];
-    replay_drawing::fill_floats(seed, 7, &mut distances);
+    let mut distances = [0.0; 144];
+    let mut sets = [99; 40];
+    let mut result = [9; 3];
+    fill(seed, 7, &mut distances);
     let refused = mittenschist::mittenschist_nearby_cuts(
         12,
         &distances,
-        replay_drawing::cuts_of(seed),
-        (1 + seed / 4 % 2) as usize,
-        seed as usize + 4,
+        cuts_of(seed),
+        usize::from(1 + seed / 4 % 2),
+        usize::from(seed) + 4,
         &mut sets,
         &mut result,
     );
-    let mut line = [0u8; 1024];
-    let number = replay_lines::put_number(b"nearby ", refused as u64, &mut line, 0);
-    let told = replay_lines::put_numbers(&result, &mut line, number);
-    let word = replay_lines::put(b" sets", &mut line, told);
-    let left = replay_lines::put_places(&sets, &mut line, word);
-    let end = replay_lines::put(b"\n", &mut line, left);
-    rt.write_all(&line[..end])
+    println!(rt; "nearby {refused}{} sets{}", Spaced(&result), Spaced(&sets))
 }
 
-fn show_nine(rt: &impl Print, seed: u16) -> io::Result<()> {
-    let k = replay_drawing::cuts_of(seed);
-    let stay = service_of(seed) as u32;
-    show_polish(rt, seed, k, 10, 0, stay, 0, &mut [0u32; 9], &mut [9u64; 7])
-}
-
-fn show_five(
-    rt: &impl Print,
-    seed: u16,
-    k: usize,
-    locations: usize,
-    leg: u32,
-    stay: u32,
-    depot: u32,
-) -> io::Result<()> {
-    show_polish(
-        rt,
-        seed,
-        k,
-        locations,
-        leg,
-        stay,
-        depot,
-        &mut [0u32; 5],
-        &mut [9u64; 7],
-    )
-}
-
-fn show_short_result(rt: &impl Print) -> io::Result<()> {
-    show_polish(rt, 1, 3, 10, 0, 0, 0, &mut [0u32; 5], &mut [9u64; 5])
+fn show_five(rt: &impl Print, seed: u16, asked: Asked) -> io::Result<()> {
+    show_polish(rt, seed, asked, &mut [0; 5], &mut [9; 7])
 }
 
 fn show(rt: &impl Print, seed: u16) -> io::Result<()> {
-    show_nine(rt, seed)?;
-    let stay = service_of(seed) as u32;
-    show_five(rt, seed, replay_drawing::cuts_of(seed), 10, 0, stay, 0)?;
-    show_pairs(rt, seed, &mut [9u64; 7])?;
+    show_polish(rt, seed, usual(seed), &mut [0; 9], &mut [9; 7])?;
+    show_five(rt, seed, usual(seed))?;
+    show_pairs(rt, seed, &mut [9; 7])?;
     show_run(rt, seed, 7)?;
     show_to_ends(rt, seed)?;
     show_keeping(rt, seed)?;
     show_nearby(rt, seed)
 }
 
-// A question for each refusal number that a small one can have.
-fn show_refused(rt: &impl Print) -> io::Result<()> {
-    show_five(rt, 1, 6, 10, 0, 0, 0)?;
-    show_five(rt, 1, 3, 9, 0, 0, 0)?;
-    show_five(rt, 1, 3, 10, 1000001, 0, 0)?;
+// A question of polishing for each refusal number that a small one can have.
+fn show_refused_polish(rt: &impl Print) -> io::Result<()> {
+    let asked = usual(1);
+    show_five(rt, 1, Asked { k: 6, ..asked })?;
+    show_five(
+        rt,
+        1,
+        Asked {
+            locations: 9,
+            ..asked
+        },
+    )?;
+    show_five(
+        rt,
+        1,
+        Asked {
+            leg: 1000001,
+            ..asked
+        },
+    )?;
     // Before 4, which it would be too.
-    show_five(rt, 1, 3, 10, 0, 1000001, 10)?;
-    show_five(rt, 1, 3, 10, 0, 0, 10)?;
-    show_short_result(rt)?;
-    show_pairs(rt, 1, &mut [9u64; 5])?;
+    show_five(
+        rt,
+        1,
+        Asked {
+            stay: 1000001,
+            depot: 10,
+            ..asked
+        },
+    )?;
+    show_five(rt, 1, Asked { depot: 10, ..asked })?;
+    show_polish(rt, 1, asked, &mut [0; 5], &mut [9; 5])
+}
+
+// And of the other calls.
+fn show_refused(rt: &impl Print) -> io::Result<()> {
+    show_refused_polish(rt)?;
+    show_pairs(rt, 1, &mut [9; 5])?;
     show_run(rt, 1, 8)?;
     show_ended(rt, 1, 10)?;
     show_run_to_ends(rt, 1, &[0])?;
@@ -328,7 +312,7 @@ fn show_refused(rt: &impl Print) -> io::Result<()> {
 }
 
 fn main(rt: HostRuntime) -> io::Result<()> {
-    for seed in 0..16u16 {
+    for seed in 0..16 {
         show(&rt, seed)?;
     }
     show_refused(&rt)

@@ -1,7 +1,7 @@
 // The questions of the stored answers, drawn by a rule: the host's store_answers draws the same. No entry: the replaying programs call it.
 #![tactic(auto)]
 
-ghost use Rattle.std.specs.Prelude.{◌≡◌, length};
+ghost use Rattle.std.specs.Prelude.{◌≡◌, ℕ, length};
 ghost use Rattle.replay_drawing.specs.Draw.{following, drawn, itself, float, all_drawn, allowance, cut_count};
 
 // The number that follows.
@@ -18,29 +18,38 @@ fn draw(state: u16, span: u16) -> u32
     (state as u32 / 8) % (span as u32 + 1)
 }
 
-// Numbers from 0 to span in every place, drawn one after another.
-pub fn fill(seed: u16, span: u16, places: &mut [u32])
-    ensures { places.new ≡ all_drawn itself span seed (length places.old) }
-{
-    let mut state = seed;
-    let mut i = 0;
-    while i < places.len() {
-        state = next(state);
-        places[i] = draw(state, span);
-        i += 1;
+// A number as a table has it.
+pub trait Entry: Copy {
+    ghost value: { ℕ → Self };
+
+    fn of(number: u32) -> Self
+        ensures { result ≡ value number };
+}
+
+impl Entry for u32 {
+    ghost value = { itself };
+
+    fn of(number: u32) -> u32 {
+        number
     }
 }
 
-// The same numbers as floats.
-pub fn fill_floats(seed: u16, span: u16, places: &mut [f64])
-    ensures { places.new ≡ all_drawn float span seed (length places.old) }
+impl Entry for f64 {
+    ghost value = { float };
+
+    fn of(number: u32) -> f64 {
+        f64::from(number)
+    }
+}
+
+// Numbers from 0 to span in every place, drawn one after another.
+pub fn fill<T: Entry>(seed: u16, span: u16, places: &mut [T])
+    ensures { places.new ≡ all_drawn T.value span seed (length places.old) }
 {
     let mut state = seed;
-    let mut i = 0;
-    while i < places.len() {
+    for place in places.iter_mut() {
         state = next(state);
-        places[i] = draw(state, span) as f64;
-        i += 1;
+        *place = T::of(draw(state, span));
     }
 }
 
@@ -48,9 +57,10 @@ pub fn allowance_of(seed: u16) -> u64
     ensures { result ≡ allowance seed }
 {
     if seed % 3 == 2 {
-        return seed as u64 * 20;
+        seed as u64 * 20
+    } else {
+        1000000
     }
-    1000000
 }
 
 pub fn cuts_of(seed: u16) -> usize

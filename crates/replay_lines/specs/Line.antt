@@ -1,15 +1,7 @@
--- A line in lent bytes.
-use Rattle.std.specs.Prelude.{◌≡◌, List, [], ◌∷◌, ◌++◌, ℕ, min, ◌+◌, length}
-use Rattle.std.proofs.lemmas.List.Edits.{sets}
-use Rattle.text_decimal.specs.Decimal.{digits}
+-- What a line has of a list.
+use Rattle.std.specs.Prelude.{List, ◌∷◌, ℕ, flat_map}
+use Rattle.std.specs.Fmt.{decimal}
 
 -- Numbers in decimal, each after a space.
-unfoldable pub spaced : List ℕ → List ℕ
-unfolding digits
-spaced [] = []
-spaced (x ∷ xs) = (32 ∷ digits x) ++ spaced xs
-
--- The text stands from place `at` on as far as the bytes reach, and ends at `next`; the other places keep their contents.
-pub record Reaches (text before : List ℕ) (at : ℕ) (after : List ℕ) (next : ℕ) : Type 0 where
-  pub bytes : after ≡ sets before at text
-  pub ends : next ≡ min (at + length text) (length before)
+abbrev pub spaced : {A : Type 0} → (A → ℕ) → List A → List ℕ
+spaced value numbers = flat_map (λ number. 32 ∷ decimal (value number)) numbers

@@ -1,92 +1,62 @@
-// Lines of the programs that replay runs, put into lent bytes: words, and numbers behind them. What does not fit is left out, so that any line can be asked for. Writing is left to the programs.
+// What the replaying programs share: lists of numbers in a line, each after a space, and the tables of their cases.
 #![tactic(auto)]
 
-ghost use Rattle.std.specs.Prelude.{◌≡◌, ◌++◌, min, ◌≤◌, length, take};
-ghost use Rattle.text_decimal.specs.Decimal.{digits};
-ghost use Rattle.replay_lines.specs.Line.{spaced, Reaches};
+ghost use Rattle.std.specs.Prelude.{◌≡◌, ℕ, Some};
+ghost use Rattle.replay_lines.specs.Line.{spaced};
 
-fn least(a: usize, b: usize) -> usize
-    ensures { result ≡ min a b }
-{
-    if a < b {
-        return a;
-    }
-    b
+use std::fmt;
+
+// The legs of document 01's pair case: D, A, B, C, E are 0 to 4.
+pub const PAIR_CASE_LEGS: [u32; 25] = [
+    0, 10, 1, 5, 1, 10, 0, 1, 1, 1, 1, 1, 0, 10, 10, 5, 1, 10, 0, 1, 1, 1, 10, 1, 0,
+];
+
+// The legs of its text case.
+pub const TEXT_CASE_LEGS: [u32; 9] = [0, 5, 1, 1, 0, 5, 5, 1, 0];
+
+// A number of any width, which a line has in decimal.
+pub trait Number: Copy {
+    ghost value: { Self → ℕ };
+
+    fn wide(self) -> u64
+        ensures { result ≡ value self };
 }
 
-// A word from place `at` on; where it ends.
-pub fn put(word: &[u8], line: &mut [u8], at: usize) -> usize
-    ensures reaches { Reaches word.now line.old at line.new result }
-    ensures upper_bound { (result ≤ length line.new) × (result ≡ length (take result line.new)) }
-{
-    let end = line.len();
-    let mut place = least(at, end);
-    let mut i = 0;
-    while i < word.len() {
-        if place < end {
-            line[place] = word[i];
-            place += 1;
-        }
-        i += 1;
+impl Number for u64 {
+    ghost value = { λ n. n };
+
+    fn wide(self) -> u64 {
+        self
     }
-    place
 }
 
-// A word and a number.
-pub fn put_number(word: &[u8], n: u64, line: &mut [u8], at: usize) -> usize
-    ensures reaches { Reaches (word.now ++ digits n) line.old at line.new result }
-    ensures upper_bound { (result ≤ length line.new) × (result ≡ length (take result line.new)) }
-{
-    let mut places = [0u8; 20];
-    let end = text_decimal::put_number(n, &mut places, 0);
-    let behind = put(word, line, at);
-    put(&places[..end], line, behind)
+impl Number for u32 {
+    ghost value = { λ n. n };
+
+    fn wide(self) -> u64 {
+        u64::from(self)
+    }
+}
+
+impl Number for usize {
+    ghost value = { λ n. n };
+
+    fn wide(self) -> u64 {
+        self as u64
+    }
 }
 
 // Numbers, each after a space.
-pub fn put_numbers(numbers: &[u64], line: &mut [u8], at: usize) -> usize
-    ensures reaches { Reaches (spaced numbers.now) line.old at line.new result }
-    ensures upper_bound { (result ≤ length line.new) × (result ≡ length (take result line.new)) }
-{
-    let mut place = least(at, line.len());
-    let mut i = 0;
-    while i < numbers.len() {
-        place = put_number(b" ", numbers[i], line, place);
-        i += 1;
-    }
-    place
-}
+#[derive(Clone, Copy)]
+pub struct Spaced<'a, T>(pub &'a [T]);
 
-fn wide(n: u32) -> u64
-    ensures { result ≡ n }
-{
-    n as u64
-}
+impl<'a, T: Number> fmt::Display for Spaced<'a, T> {
+    ghost output = { λ list. Some (spaced T.value list.0.now) };
 
-// Stops, each after a space.
-pub fn put_stops(numbers: &[u32], line: &mut [u8], at: usize) -> usize
-    ensures reaches { Reaches (spaced numbers.now) line.old at line.new result }
-    ensures upper_bound { (result ≤ length line.new) × (result ≡ length (take result line.new)) }
-{
-    let mut place = least(at, line.len());
-    let mut i = 0;
-    while i < numbers.len() {
-        place = put_number(b" ", wide(numbers[i]), line, place);
-        i += 1;
+    fn fmt<W: fmt::Write>(&self, f: &mut fmt::Formatter<W>) -> fmt::Result {
+        for number in self.0 {
+            write!(f, " {}", number.wide())?;
+        }
+        Ok(())
     }
-    place
-}
-
-// Places, each after a space.
-pub fn put_places(numbers: &[usize], line: &mut [u8], at: usize) -> usize
-    ensures reaches { Reaches (spaced numbers.now) line.old at line.new result }
-    ensures upper_bound { (result ≤ length line.new) × (result ≡ length (take result line.new)) }
-{
-    let mut place = least(at, line.len());
-    let mut i = 0;
-    while i < numbers.len() {
-        place = put_number(b" ", numbers[i] as u64, line, place);
-        i += 1;
-    }
-    place
 }

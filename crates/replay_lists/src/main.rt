@@ -2,53 +2,46 @@
 // pairs.
 #![tactic(auto)]
 
+use replay_lines::{Spaced, TEXT_CASE_LEGS};
 use std::io;
-
-// A line of a call: its refusal number and result, and the stops that it left.
-fn show(rt: &impl Print, call: &[u8], refused: u32, res: &[u64], stops: &[u32]) -> io::Result<()> {
-    let mut line = [0u8; 256];
-    let number = replay_lines::put_number(call, refused as u64, &mut line, 0);
-    let word = replay_lines::put(b" result", &mut line, number);
-    let told = replay_lines::put_numbers(res, &mut line, word);
-    let behind = replay_lines::put(b" stops", &mut line, told);
-    let left = replay_lines::put_stops(stops, &mut line, behind);
-    let end = replay_lines::put(b"\n", &mut line, left);
-    rt.write_all(&line[..end])
-}
 
 // The text case with a list.
 fn show_polished(rt: &impl Print, k: usize, orders: &[u8], masks: &[u8]) -> io::Result<()> {
-    let mut route = [1u32, 2];
-    let mut result = [9u64; 7];
+    let mut route = [1, 2];
+    let mut result = [9; 7];
     let refused = mittenschist::mittenschist_polish_with_patterns(
         k,
         orders,
         masks,
         100,
         3,
-        &[0, 5, 1, 1, 0, 5, 5, 1, 0],
-        &[4294967295; 3],
+        &TEXT_CASE_LEGS,
+        &[u32::MAX; 3],
         &[0; 3],
         0,
         0,
         &mut route,
         &mut result,
     );
-    show(rt, b"polish ", refused, &result, &route)
+    println!(rt;
+        "polish {refused} result{} stops{}",
+        Spaced(&result),
+        Spaced(&route)
+    )
 }
 
 // The text case with a row that swaps the stops, and pairs.
 fn show_keeping(rt: &impl Print, masks: &[u8], pairs: &[u32]) -> io::Result<()> {
-    let mut route = [1u32, 2];
-    let mut result = [9u64; 7];
+    let mut route = [1, 2];
+    let mut result = [9; 7];
     let refused = mittenschist::mittenschist_polish_with_patterns_and_pairs(
         3,
         &[0, 2, 1, 3],
         masks,
         100,
         3,
-        &[0, 5, 1, 1, 0, 5, 5, 1, 0],
-        &[4294967295; 3],
+        &TEXT_CASE_LEGS,
+        &[u32::MAX; 3],
         &[0; 3],
         0,
         0,
@@ -56,27 +49,30 @@ fn show_keeping(rt: &impl Print, masks: &[u8], pairs: &[u32]) -> io::Result<()> 
         &mut route,
         &mut result,
     );
-    show(rt, b"polish ", refused, &result, &route)
+    println!(rt;
+        "polish {refused} result{} stops{}",
+        Spaced(&result),
+        Spaced(&route)
+    )
 }
 
 // A text with places for three rows, and the text case with its rows where they are for 3 cuts.
 fn show_list(rt: &impl Print, text: &[u8]) -> io::Result<()> {
-    let mut orders = [9u8; 12];
-    let mut masks = [9u8; 3];
-    let mut result = [9u64; 3];
+    let mut orders = [9; 12];
+    let mut masks = [9; 3];
+    let mut result = [9; 3];
     let refused = mittenschist::mittenschist_load_patterns(
         text,
         &mut orders,
         &mut masks,
         &mut result,
     );
-    show(rt, b"load ", refused, &result, &[])?;
+    println!(rt; "load {refused} result{} stops", Spaced(&result))?;
     let rows = result[1] as usize;
     if rows > 3 {
         return Ok(());
     }
-    let places = rows * 4;
-    show_polished(rt, 3, &orders[..places], &masks[..rows])
+    show_polished(rt, 3, &orders[..4 * rows], &masks[..rows])
 }
 
 fn show_loaded(rt: &impl Print) -> io::Result<()> {

@@ -2,42 +2,33 @@
 // and one beyond the place.
 #![tactic(auto)]
 
+use replay_lines::{Spaced, TEXT_CASE_LEGS};
 use std::io;
+use theory::number_of;
 
-fn show(
-    rt: &impl Print,
-    refused: u32,
-    res: &[u64],
-    place: &[u64],
-    stops: &[u32],
-) -> io::Result<()> {
-    let mut line = [0u8; 256];
-    let number = replay_lines::put_number(b"slice ", refused as u64, &mut line, 0);
-    let word = replay_lines::put(b" result", &mut line, number);
-    let told = replay_lines::put_numbers(res, &mut line, word);
-    let next = replay_lines::put(b" place", &mut line, told);
-    let reached = replay_lines::put_numbers(place, &mut line, next);
-    let behind = replay_lines::put(b" stops", &mut line, reached);
-    let left = replay_lines::put_stops(stops, &mut line, behind);
-    let end = replay_lines::put(b"\n", &mut line, left);
-    rt.write_all(&line[..end])
+// What a slice told: whether its allowance was spent, and how many candidates it examined and accepted.
+#[derive(Clone, Copy)]
+struct Told {
+    spent: bool,
+    examined: u64,
+    accepted: u64,
 }
 
-// A slice of the text case on a route, from a place on; the first three numbers of its result.
+// A slice of the text case on a route, from a place on.
 fn show_slice(
     rt: &impl Print,
     k: usize,
     allowance: u64,
     route: &mut [u32],
     place: &mut [u64],
-) -> io::Result<[u64; 3]> {
-    let mut result = [9u64; 7];
-    let refused = slice_calls::polish_slice(
+) -> io::Result<Told> {
+    let mut result = [9; 7];
+    let refused = number_of(slice_calls::polish_slice(
         k,
         allowance,
         3,
-        &[0, 5, 1, 1, 0, 5, 5, 1, 0],
-        &[4294967295; 3],
+        &TEXT_CASE_LEGS,
+        &[u32::MAX; 3],
         &[0; 3],
         0,
         0,
@@ -45,17 +36,18 @@ fn show_slice(
         route,
         place,
         &mut result,
-    );
-    show(rt, refused, &result, &place[..], &route[..])?;
-    Ok([result[0], result[1], result[2]])
-}
-
-fn show_sums(rt: &impl Print, examined: u64, accepted: u64) -> io::Result<()> {
-    let mut line = [0u8; 64];
-    let first = replay_lines::put_number(b"sums ", examined, &mut line, 0);
-    let second = replay_lines::put_number(b" ", accepted, &mut line, first);
-    let end = replay_lines::put(b"\n", &mut line, second);
-    rt.write_all(&line[..end])
+    ));
+    println!(rt;
+        "slice {refused} result{} place{} stops{}",
+        Spaced(&result),
+        Spaced(place),
+        Spaced(route)
+    )?;
+    Ok(Told {
+        spent: result[0] == 1,
+        examined: result[1],
+        accepted: result[2],
+    })
 }
 
 // Slices of one size, each begun where the one before was spent, and the sums of what they examined and accepted. None of these takes more than 20.
@@ -68,12 +60,12 @@ fn show_slices(
 ) -> io::Result<()> {
     let mut examined = 0u64;
     let mut accepted = 0u64;
-    for _ in 0..20usize {
+    for _ in 0..20 {
         let told = show_slice(rt, k, allowance, route, place)?;
-        examined = std::num::wrapping_add_u64(examined, told[1]);
-        accepted = std::num::wrapping_add_u64(accepted, told[2]);
-        if told[0] != 1 {
-            return show_sums(rt, examined, accepted);
+        examined = examined.wrapping_add(told.examined);
+        accepted = accepted.wrapping_add(told.accepted);
+        if !told.spent {
+            return println!(rt; "sums {examined} {accepted}");
         }
     }
     Ok(())
@@ -81,21 +73,19 @@ fn show_slices(
 
 // The text case in one call, and in slices of one, two, three and five candidates; a number lent beyond the place is kept.
 fn show_text_case(rt: &impl Print) -> io::Result<()> {
-    show_slices(rt, 3, 100, &mut [1, 2], &mut [0, 1, 2, 0, 9])?;
-    show_slices(rt, 3, 1, &mut [1, 2], &mut [0, 1, 2, 0, 9])?;
-    show_slices(rt, 3, 2, &mut [1, 2], &mut [0, 1, 2, 0, 9])?;
-    show_slices(rt, 3, 3, &mut [1, 2], &mut [0, 1, 2, 0, 9])?;
-    show_slices(rt, 3, 5, &mut [1, 2], &mut [0, 1, 2, 0, 9])
+    for allowance in [100, 1, 2, 3, 5] {
+        show_slices(rt, 3, allowance, &mut [1, 2], &mut [0, 1, 2, 0, 9])?;
+    }
+    Ok(())
 }
 
 // A stop of it twice: slices that end in the middle of a cut set's patterns, and one of no candidate.
 fn show_three_stops(rt: &impl Print) -> io::Result<()> {
-    let mut route = [1u32, 2, 1];
-    let mut place = [0u64, 1, 2, 0];
-    show_slice(rt, 3, 6, &mut route, &mut place)?;
-    show_slice(rt, 3, 12, &mut route, &mut place)?;
-    show_slice(rt, 3, 0, &mut route, &mut place)?;
-    show_slice(rt, 3, 6, &mut route, &mut place)?;
+    let mut route = [1, 2, 1];
+    let mut place = [0, 1, 2, 0];
+    for allowance in [6, 12, 0, 6] {
+        show_slice(rt, 3, allowance, &mut route, &mut place)?;
+    }
     show_slices(rt, 3, 7, &mut [1, 2, 1], &mut [0, 1, 2, 0])?;
     show_slices(rt, 3, 100, &mut [1, 2, 1], &mut [0, 1, 2, 0])
 }

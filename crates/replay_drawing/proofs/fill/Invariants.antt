@@ -1,14 +1,8 @@
--- `replay_drawing::fill` meets its contract. Assumes nothing.
-use mathlib.Core.Path.{◌≡◌}
-use mathlib.Core.List.{◌++◌}
-use Prim.Native.Nat.{◌-◌, ◌≤◌}
-use lib.ListN.{length, take}
-use Rattle.replay_drawing.specs.Draw.{itself, all_drawn}
+-- What is drawn so far and what is still to be drawn are the whole.
+use Rattle.std.proofs.Common.{◌≡◌, ◌++◌, ◌-◌, length, take}
+use Rattle.replay_drawing.specs.Draw.{all_drawn}
 use Rattle.replay_drawing.proofs.fill.Given as goal
 
-abbrev pub invariant-loop-i : goal.invariant-loop-i
-invariant-loop-i l =
-    (l.i ≤ length l.initial.places) × (length l.places ≡ length l.initial.places) × (all_drawn itself l.span l.seed (length l.initial.places) ≡ take l.i l.places ++ all_drawn itself l.span l.state (length l.initial.places - l.i))
-
-abbrev pub decreases-loop-i : goal.decreases-loop-i
-decreases-loop-i l = length l.initial.places - l.i
+abbrev pub invariant-loop-place : goal.invariant-loop-place
+invariant-loop-place g l =
+    all_drawn g.T.Entry.value l.span l.seed (length l.initial.places) ≡ take l.place-index l.places ++ all_drawn g.T.Entry.value l.span l.state (length l.initial.places - l.place-index)
