@@ -32,13 +32,19 @@ const POLISHING: &str = "polishing";
 const PASSED: [(&str, &str); 2] = [
     (
         "let reached = examined + over;",
-        "crate::share::count(hit - cuts[last], hit <= route.len());",
+        "crate::share::count(hit - cuts[last], hit <= round.route.len());",
     ),
     (
         "cuts[last] = stops;",
         "crate::share::count(stops + 1 - cuts[last], false);",
     ),
 ];
+
+/// How the library and Rust begin the printing of a value.
+const FORMATTER: (&str, &str) = (
+    "fn fmt<W: fmt::Write>(&self, f: &mut fmt::Formatter<W>)",
+    "fn fmt(&self, f: &mut fmt::Formatter<'_>)",
+);
 
 fn main() -> ExitCode {
     match prepare() {
@@ -114,17 +120,24 @@ fn write_scan(root: &Path) -> Result<(), String> {
     write_down("scan", &modules)
 }
 
-/// The source without its contracts; what it uses stands beside it.
+/// The source without its contracts and what is for them alone; what it uses stands beside it, but for the standard library.
 fn code_of(source: &str) -> String {
-    let contract = ["ghost use ", "requires ", "ensures ", "#![tactic", "#[tactic"];
+    let contract = [
+        "ghost ",
+        "requires ",
+        "ensures ",
+        "#![tactic",
+        "#[tactic",
+        "#[derive(Drop)]",
+    ];
     let kept = source.lines().filter(|line| {
         !contract
             .iter()
             .any(|start| line.trim_start().starts_with(start))
     });
     kept.map(|line| match line.strip_prefix("use ") {
-        Some(path) => format!("use super::{path}\n"),
-        None => format!("{line}\n"),
+        Some(path) if !path.starts_with("std::") => format!("use super::{path}\n"),
+        _ => format!("{}\n", line.replace(FORMATTER.0, FORMATTER.1)),
     })
     .collect()
 }
