@@ -5,13 +5,14 @@ ghost use Rattle.std.specs.Prelude.{◌≡◌, ◌++◌, reverse, ◌+◌, ◌-�
 ghost use Rattle.theory.specs.Route.{reverses, reverse_if, reconnected};
 ghost use Rattle.reconnection.specs.Segments.{bound, SegmentPuttable, Fits, Reconnectable};
 
-// src into dst from `at` on.
+// src into dst from `at` on. An entry at a time, here and below: copy_from_slice becomes a call of memmove, which a host need not have.
 pub fn copy_in(src: &[u32], dst: &mut [u32], at: usize)
     requires { Fits src.now dst.old at }
     ensures { dst.new ≡ take at dst.old ++ src.now ++ drop (at + length src.now) dst.old }
 {
-    let end = at + src.len();
-    dst[at..end].copy_from_slice(src);
+    for i in 0..src.len() {
+        dst[at + i] = src[i];
+    }
 }
 
 // src from its end to its start into dst from `at` on.
@@ -19,10 +20,10 @@ fn reverse_in(src: &[u32], dst: &mut [u32], at: usize)
     requires { Fits src.now dst.old at }
     ensures { dst.new ≡ take at dst.old ++ reverse src.now ++ drop (at + length src.now) dst.old }
 {
-    let end = at + src.len();
-    let part = &mut dst[at..end];
-    part.copy_from_slice(src);
-    part.reverse();
+    let n = src.len();
+    for i in 0..n {
+        dst[at + i] = src[n - 1 - i];
+    }
 }
 
 // Where segment i begins, and where segment i - 1 ends.

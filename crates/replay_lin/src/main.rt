@@ -3,7 +3,8 @@
 // (beyond). The depot is 0. The route itself is a candidate: cut at 0 to k - 1 and one-stop segments reversed.
 #![tactic(auto)]
 
-use std::alloc::{AllocError, Global};
+ghost use Rattle.std.specs.Prelude.{ℕ, ◌≤◌};
+
 use std::io;
 
 fn has_link(tour: &[u32], a: u32, b: u32) -> bool {
@@ -48,80 +49,106 @@ impl Judged {
     }
 }
 
-fn judge(alloc: Global, k: usize, old: &[u32], new: &[u32]) -> Result<Judged, AllocError> {
-    let mut back = Vec::from_slice(alloc, new)?;
+fn judge<const PLACES: usize>(k: usize, old: &[u32; PLACES], new: &[u32; PLACES]) -> Judged {
+    let mut back = *new;
     back.reverse();
-    Ok(Judged {
+    Judged {
         within: lost(old, new) <= k,
         candidate: is_candidate(k, old, new),
         turned: is_candidate(k, old, &back),
-    })
+    }
 }
 
-// The closed tour of 1, 2, .., n.
-fn first_tour(alloc: Global, n: u32) -> Result<Vec<u32>, AllocError> {
-    let mut tour = vec![in alloc; 0]?;
-    for stop in 1..=n {
-        tour.push(stop)?;
+// How many orders are within, missed and beyond. Each is at most the number of orders.
+#[derive(Clone, Copy)]
+struct Counts {
+    within: u32,
+    missed: u32,
+    beyond: u32,
+}
+
+impl Counts {
+    fn with(self, order: Judged) -> Counts {
+        Counts {
+            within: self.within.saturating_add(u32::from(order.within)),
+            missed: self.missed.saturating_add(u32::from(order.is_missed())),
+            beyond: self.beyond.saturating_add(u32::from(order.is_beyond())),
+        }
     }
-    tour.push(0)?;
-    Ok(tour)
+}
+
+// The closed tour of 1, 2, .., n. An array, as each tour here: a replaying program has no heap that could run out.
+fn first_tour<const PLACES: usize>(n: u32) -> [u32; PLACES] {
+    let mut tour = [0; PLACES];
+    for (stop, place) in (1..=n).zip(tour.iter_mut().skip(1)) {
+        *place = stop;
+    }
+    tour
 }
 
 // The closed tour of a number, whose last n digits say the stops.
-fn tour_of(alloc: Global, n: u32, number: u32) -> Result<Vec<u32>, AllocError> {
-    let mut tour = vec![in alloc; 0]?;
+fn tour_of<const PLACES: usize>(n: u32, number: u32) -> [u32; PLACES] {
+    let mut tour = [0; PLACES];
+    if n == 0 {
+        return tour;
+    }
     let mut rest = number;
-    for _ in 0..n {
-        tour.push(rest % n + 1)?;
+    for (_, place) in (0..n).zip(tour.iter_mut().skip(1)) {
+        *place = rest % n + 1;
         rest /= n;
     }
-    tour.push(0)?;
-    Ok(tour)
+    tour
 }
 
-// Those of the first numbers on which each stop stands.
-fn tours_of(alloc: Global, n: u32, numbers: u32) -> Result<Vec<Vec<u32>>, AllocError> {
-    let mut tours = Vec::new(alloc);
+// Counts those of the first numbers on which each stop stands.
+fn count<const PLACES: usize>(n: u32, k: usize, numbers: u32) -> Counts
+    requires { PLACES ≤ 8 }
+{
+    let old = first_tour::<PLACES>(n);
+    let mut counts = Counts {
+        within: 0,
+        missed: 0,
+        beyond: 0,
+    };
     for number in 0..numbers {
-        let tour = tour_of(alloc, n, number)?;
+        let tour = tour_of::<PLACES>(n, number);
         if (1..=n).all(|stop| tour.contains(&stop)) {
-            tours.push(tour)?;
+            counts = counts.with(judge(k, &old, &tour));
         }
     }
-    Ok(tours)
+    counts
 }
 
-fn show(rt: &impl Print, alloc: Global, n: u32, k: usize, tours: &[Vec<u32>]) -> io::Result<()> {
-    let old = first_tour(alloc, n)?;
-    let mut orders = Vec::new(alloc);
-    for tour in tours {
-        orders.push(judge(alloc, k, &old, tour)?)?;
-    }
-    let within = orders.iter().filter(|order| order.within).count();
-    let missed = orders.iter().filter(|order| order.is_missed()).count();
-    let beyond = orders.iter().filter(|order| order.is_beyond()).count();
+fn show<const PLACES: usize>(rt: &impl Print, n: u32, k: usize, numbers: u32) -> io::Result<()>
+    requires { PLACES ≤ 8 }
+{
+    let Counts {
+        within,
+        missed,
+        beyond,
+    } = count::<PLACES>(n, k, numbers);
     println!(rt; "stops {n} k {k} within {within} missed {missed} beyond {beyond}")
 }
 
-// All orders of n stops: n to the n numbers have n digits.
-fn show_all(rt: &impl Print, alloc: Global, n: u32, numbers: u32, most: usize) -> io::Result<()> {
-    let tours = tours_of(alloc, n, numbers)?;
+// All orders of n stops, whose closed tours have n + 2 places: n to the n numbers have n digits.
+fn show_all<const PLACES: usize>(
+    rt: &impl Print,
+    n: u32,
+    numbers: u32,
+    most: usize,
+) -> io::Result<()>
+    requires { PLACES ≤ 8 }
+{
     for k in 2..=most {
-        show(rt, alloc, n, k, &tours)?;
+        show::<PLACES>(rt, n, k, numbers)?;
     }
     Ok(())
 }
 
 fn main(rt: HostRuntime) -> io::Result<()> {
-    for (n, numbers, most) in [
-        (2, 4, 3),
-        (3, 27, 4),
-        (4, 256, 5),
-        (5, 3125, 5),
-        (6, 46656, 5),
-    ] {
-        show_all(&rt, rt.alloc(), n, numbers, most)?;
-    }
-    Ok(())
+    show_all::<4>(&rt, 2, 4, 3)?;
+    show_all::<5>(&rt, 3, 27, 4)?;
+    show_all::<6>(&rt, 4, 256, 5)?;
+    show_all::<7>(&rt, 5, 3125, 5)?;
+    show_all::<8>(&rt, 6, 46656, 5)
 }

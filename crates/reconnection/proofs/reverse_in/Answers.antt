@@ -1,0 +1,28 @@
+-- `reconnection::reverse_in` meets its contract. The invariant: the reversed part is put up to the present place, and what lies beyond it stands.
+use mathlib.Core.Path.{◌≡◌, refl, ◌∙◌}
+use mathlib.Core.List.{reverse}
+use lib.ListN.{length, length-set, length-reverse}
+use lib.Seq.{paste-suc, paste-zero, take-length}
+use native.Mathlib.Numerals.{add-one}
+use Rattle.reconnection.proofs.Reversal.{get_or_reverse}
+use native.Mathlib.Omega.{arith}
+use Rattle.reconnection.proofs.reverse_in.Goals as goal
+
+pub loop-i-init : goal.loop-i-init
+loop-i-init c =
+    (omega arith, refl, paste-zero c.args.dst.now c.args.at (reverse c.args.src.now))
+
+pub loop-i-preserved : goal.loop-i-preserved
+loop-i-preserved c =
+    let l = c.loop-i in (
+      omega arith,
+      simp length-set l.invariant.1,
+      rw (← get_or_reverse c.args.src.now l.i (omega arith), add-one, l.invariant.2)
+          (paste-suc c.args.dst.now c.args.at (reverse c.args.src.now) l.i 0 (omega arith) (simp length-reverse (omega arith))),
+    )
+
+pub returns : goal.returns
+returns c =
+    let l = c.loop-i in
+    let e : l.i ≡ length (reverse c.args.src.now) = simp length-reverse (omega arith) in
+    l.invariant.2 ∙ rw (e, take-length, length-reverse)
