@@ -1,12 +1,20 @@
 // A reversal of a part of a route, judged: what the pair loop asks of a pair. No entry: crate pair_loop calls it.
 #![tactic(auto)]
 
-ghost use Rattle.std.specs.Prelude.{◌≡◌, [], ◌<◌, length};
+ghost use Rattle.std.specs.Prelude.{◌≡◌, [], reverse, ◌<◌, length};
 ghost use Rattle.theory.specs.Tables.{problem, trip};
 ghost use Rattle.costs.specs.RouteCosts.{leg};
 ghost use Rattle.pair_reversal.specs.Reversal.{stop_after, shortens, KnownLegs, Pair, Tried};
 
 use theory::Deadline;
+
+// In place. Cold: few pairs come to it, and in line it would take the numbers of the loop over the pairs out of the registers.
+#[cold]
+fn reverse(part: &mut [u32])
+    ensures { part.new ≡ reverse part.old }
+{
+    part.reverse();
+}
 
 fn stop_after(depot: u32, route: &[u32], j: usize) -> u32
     requires { j < length route.now }
@@ -53,10 +61,10 @@ pub fn try_pair(
         return false;
     }
     let end = j + 1;
-    route[i..end].reverse();
+    reverse(&mut route[i..end]);
     let answer = deadlines::check_deadlines(locations, legs, latest, service, depot, &route[..]);
     if let Deadline::Late(_) = answer {
-        route[i..end].reverse();
+        reverse(&mut route[i..end]);
         return false;
     }
     true

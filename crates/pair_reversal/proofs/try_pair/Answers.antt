@@ -33,17 +33,17 @@ returns-then-not-is_shorter c =
 pub check_deadlines-answer-requires : goal.check_deadlines-answer-requires
 check_deadlines-answer-requires c =
     let h : c.args.i ≤ c.args.j = omega (arith, c.requires.rising) in
-    clocked (turned_timed c.args.i c.args.j c.args.route.now h (turned_lent c.args.i c.args.j c.args.route.now h c.requires.inside c.reverse.ensures.after) c.requires.timed)
+    clocked (turned_timed c.args.i c.args.j c.args.route.now h (turned_lent c.args.i c.args.j c.args.route.now h c.requires.inside c.reverse.ensures) c.requires.timed)
 
 pub returns-in-Late : goal.returns-in-Late
 returns-in-Late c =
     let h : c.args.i ≤ c.args.j = omega (arith, c.requires.rising) in
-    let turn = turned_lent c.args.i c.args.j c.args.route.now h c.requires.inside c.reverse.ensures.after in
-    let back = turned_again c.args.i c.args.j c.args.route.now h c.requires.inside turn c.reverse-in-Late.ensures.after in
+    let turn = turned_lent c.args.i c.args.j c.args.route.now h c.requires.inside c.reverse.ensures in
+    let back = turned_again c.args.i c.args.j c.args.route.now h c.requires.inside turn c.reverse-in-Late.ensures in
     tried_late (P (goal.at.returns-in-Late c).Start) c.args.a c.args.b c.args.i c.args.j c.args.route.now c.stop_after-e.ensures c.is_shorter.ensures c.if-not-is_shorter.false turn (late_told (timetable_of (P (goal.at.returns-in-Late c).Start)) c.args.depot _ c.in-Late.is c.check_deadlines-answer.ensures) back
 
 pub returns : goal.returns
 returns c =
     let h : c.args.i ≤ c.args.j = omega (arith, c.requires.rising) in
-    let turn = turned_lent c.args.i c.args.j c.args.route.now h c.requires.inside c.reverse.ensures.after in
+    let turn = turned_lent c.args.i c.args.j c.args.route.now h c.requires.inside c.reverse.ensures in
     tried_kept (P (goal.at.returns c).Start) c.args.a c.args.b c.args.i c.args.j c.args.route.now c.stop_after-e.ensures c.is_shorter.ensures c.if-not-is_shorter.false turn (kept_told (timetable_of (P (goal.at.returns c).Start)) c.args.depot _ c.in_default.is c.check_deadlines-answer.ensures)
