@@ -51,7 +51,7 @@ pub trait Program<const SIZE: usize> {
     ghost answer: { List ℕ → List ℕ };
 
     fn run(text: &[u8]) -> Filled<SIZE>
-        ensures { result ≡ answer text.now };
+        ensures { take result.length result.bytes ≡ answer text.now };
 }
 
 // Reads an input's first bytes, as many as there is room for, and writes what the program answers to them. Where it returns an error, what was written is a first part of the answer, maybe

@@ -1,7 +1,7 @@
 // The season report's function from bytes to bytes: each block is polished as the text program does, and the numbers of all are printed.
 #![tactic(auto)]
 
-ghost use Rattle.std.specs.Prelude.{◌≡◌, map};
+ghost use Rattle.std.specs.Prelude.{◌≡◌, map, take};
 ghost use Rattle.theory.specs.Tables.{tables};
 ghost use Rattle.theory.specs.Answers.{counts_of};
 ghost use Rattle.text_problem.specs.Judged.{ProblemPlaces};
@@ -116,7 +116,7 @@ fn report_text(text: &[u8], out: &mut [u8]) -> usize
 
 // The program, from bytes to bytes.
 pub fn report_season(text: &[u8]) -> Filled<256>
-    ensures { result ≡ report text.now }
+    ensures { take result.length result.bytes ≡ report text.now }
 {
     let mut bytes = [0u8; 256];
     let length = report_text(text, &mut bytes);

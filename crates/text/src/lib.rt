@@ -1,7 +1,7 @@
 // The text program's function from bytes to bytes: a question is read, judged and polished in crate text_polishing, and the answer printed.
 #![tactic(auto)]
 
-ghost use Rattle.std.specs.Prelude.{◌≡◌};
+ghost use Rattle.std.specs.Prelude.{◌≡◌, take};
 ghost use Rattle.theory.specs.Tables.{tables};
 ghost use Rattle.text_printing.specs.Answer.{Printed};
 ghost use Rattle.text.specs.Program.{program, counts_text, polished_text, Printable, Work};
@@ -56,7 +56,7 @@ fn answer_text(
 
 // The program, from bytes to bytes.
 pub fn polish_text(text: &[u8]) -> Filled<6500>
-    ensures { result ≡ program text.now }
+    ensures { take result.length result.bytes ≡ program text.now }
 {
     let mut legs = [0u32; 9216];
     let mut latest = [0u32; 96];
